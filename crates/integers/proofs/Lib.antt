@@ -1,0 +1,9 @@
+pub mod Differences
+pub mod Ring
+pub mod Order
+pub mod Rounding
+pub mod Products
+pub mod Lifts
+pub mod Words
+pub mod Held
+pub mod Tested

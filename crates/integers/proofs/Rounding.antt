@@ -1,0 +1,90 @@
+-- Floor division by a natural above zero, and rounding. Above this crate rounding is known by `round-near` and `round-size` alone.
+use mathlib.Core.Path.{_≡_, sym}
+use Prim.Native.Nat.{ℕ, zero, suc, _+_, _*_, _-_, _/_, _%_, _^_, _≤_, _<_}
+use native.Mathlib.Omega.{arith}
+use native.Mathlib.Nat.{div-add-mod, mod-lt, mul-le-mul-left, lt-of-mul-lt-mul-left, pow-suc}
+use lib.Pow.{pow-pos}
+use lib.IntN.{ℤ, pos, negsuc, natAbs, _+ℤ_, _-ℤ_, _*ℤ_}
+use lib.Signed.{_≤ℤ_, _<ℤ_, mag}
+use Rattle.integers.specs.Floor.{above, below, floorDiv, round}
+use Rattle.integers.proofs.Differences.{dif, zs, zb}
+use Rattle.integers.proofs.Order.{≤ℤ-antisym, natAbs-*ℤ, natAbs-near}
+
+-- p · ⌊v / p⌋ ≤ v < p · ⌊v / p⌋ + p
+pub floorDiv-le : (v : ℤ) (p : ℕ) → 0 < p → (pos p *ℤ floorDiv v p) ≤ℤ v
+unfolding floorDiv
+floorDiv-le v zero h = absurd (omega arith)
+floorDiv-le (pos a) (suc p) h = simp zs (omega (arith, div-add-mod a (suc p)))
+floorDiv-le (negsuc a) (suc p) h = simp zs (omega (arith, div-add-mod a (suc p), mod-lt a h))
+
+pub floorDiv-lt : (v : ℤ) (p : ℕ) → 0 < p → v <ℤ (pos p *ℤ floorDiv v p +ℤ pos p)
+unfolding floorDiv
+floorDiv-lt v zero h = absurd (omega arith)
+floorDiv-lt (pos a) (suc p) h = simp zs (omega (arith, div-add-mod a (suc p), mod-lt a h))
+floorDiv-lt (negsuc a) (suc p) h = simp zs (omega (arith, div-add-mod a (suc p)))
+
+-- p · f ≤ v < p · (q + 1) gives f ≤ q
+between : (p : ℕ) (f q v : ℤ) → (pos p *ℤ f) ≤ℤ v → v <ℤ (pos p *ℤ q +ℤ pos p) → f ≤ℤ q
+between p f q v = rw (dif f, dif q, dif v) (simp zs (λ h k.
+    let l : p * (above f + below q) < p * suc (above q + below f) = omega arith in
+    omega (arith, lt-of-mul-lt-mul-left p l)))
+
+pub floorDiv-unique : (v q : ℤ) (p : ℕ) → 0 < p → (pos p *ℤ q) ≤ℤ v → v <ℤ (pos p *ℤ q +ℤ pos p) → floorDiv v p ≡ q
+floorDiv-unique v q p z h k = ≤ℤ-antisym (between p (floorDiv v p) q v (floorDiv-le v p z) k) (between p q (floorDiv v p) v h (floorDiv-lt v p z))
+
+near : (p h : ℕ) (r v : ℤ) → p ≤ h + h → (pos p *ℤ r) ≤ℤ (v +ℤ pos h) → (v +ℤ pos h) <ℤ (pos p *ℤ r +ℤ pos p) → natAbs (pos p *ℤ r -ℤ v) ≤ h
+near p h r v = rw (dif r, dif v) (simp zs (omega arith))
+
+twice : (j : ℕ) → 2 ^ suc j ≡ 2 ^ j + 2 ^ j
+twice j = omega (arith, pow-suc 2 j)
+
+-- law (a): what is rounded is within half a unit
+pub round-near : (k : ℕ) (v : ℤ) → natAbs (pos (2 ^ k) *ℤ round k v -ℤ v) ≤ 2 ^ (k - 1)
+unfolding round
+round-near zero v = rw (dif v) (simp zb (omega arith))
+round-near (suc j) v =
+    let e : suc j - 1 ≡ j = omega arith in
+    let w = v +ℤ pos (2 ^ j) in
+    rw e (near (2 ^ suc j) (2 ^ j) (floorDiv w (2 ^ suc j)) v (omega (arith, twice j)) (floorDiv-le w (2 ^ suc j) (pow-pos (suc j))) (floorDiv-lt w (2 ^ suc j) (pow-pos (suc j))))
+
+-- law (b): its size, for a range
+pub round-size : (k : ℕ) (v : ℤ) → 2 ^ k * natAbs (round k v) ≤ natAbs v + 2 ^ (k - 1)
+round-size k v = omega (arith, natAbs-*ℤ (pos (2 ^ k)) (round k v), natAbs-near (pos (2 ^ k) *ℤ round k v) v, round-near k v)
+
+-- how the code rounds: with f halves of a unit in v, rounded down, f − ⌊f / 2⌋ units
+halved-le : (h : ℕ) (v f g : ℤ) → (pos h *ℤ f) ≤ℤ v → f <ℤ (pos 2 *ℤ g +ℤ pos 2) → (pos (h + h) *ℤ (f -ℤ g)) ≤ℤ (v +ℤ pos h)
+halved-le h v f g = rw (dif v, dif f, dif g) (simp zs (λ a b.
+    let m : h * suc (above f + (below g + below g)) ≤ h * (above g + above g + 2 + below f) = mul-le-mul-left h (omega arith) in
+    omega arith))
+
+halved-lt : (h : ℕ) (v f g : ℤ) → v <ℤ (pos h *ℤ f +ℤ pos h) → (pos 2 *ℤ g) ≤ℤ f → (v +ℤ pos h) <ℤ (pos (h + h) *ℤ (f -ℤ g) +ℤ pos (h + h))
+halved-lt h v f g = rw (dif v, dif f, dif g) (simp zs (λ a b.
+    let m : h * (above g + above g + below f) ≤ h * (above f + (below g + below g)) = mul-le-mul-left h (omega arith) in
+    omega arith))
+
+pub round-halves : (k : ℕ) (v : ℤ) → 0 < k → floorDiv v (2 ^ (k - 1)) -ℤ floorDiv (floorDiv v (2 ^ (k - 1))) 2 ≡ round k v
+unfolding round
+round-halves zero v z = absurd (omega arith)
+round-halves (suc j) v z =
+    let e : suc j - 1 ≡ j = omega arith in
+    let f = floorDiv v (2 ^ j) in
+    let g = floorDiv f 2 in
+    rw (e, twice j)
+    (sym (floorDiv-unique (v +ℤ pos (2 ^ j)) (f -ℤ g) (2 ^ j + 2 ^ j) (omega (arith, pow-pos j))
+    (halved-le (2 ^ j) v f g (floorDiv-le v (2 ^ j) (pow-pos j)) (floorDiv-lt f 2 (omega arith)))
+    (halved-lt (2 ^ j) v f g (floorDiv-lt v (2 ^ j) (pow-pos j)) (floorDiv-le f 2 (omega arith)))))
+
+-- what is too small for half a unit
+small-le : (h : ℕ) (v : ℤ) → mag v < h → (pos (h + h) *ℤ pos 0) ≤ℤ (v +ℤ pos h)
+small-le h v = rw (dif v) (simp zb (omega arith))
+
+small-lt : (h : ℕ) (v : ℤ) → mag v < h → (v +ℤ pos h) <ℤ (pos (h + h) *ℤ pos 0 +ℤ pos (h + h))
+small-lt h v = rw (dif v) (simp zb (omega arith))
+
+pub round-none : (k : ℕ) (v : ℤ) → 0 < k → mag v < 2 ^ (k - 1) → round k v ≡ pos 0
+unfolding round
+round-none zero v z m = absurd (omega arith)
+round-none (suc j) v z m =
+    let e : suc j - 1 ≡ j = omega arith in
+    let l = rw e at m in
+    rw (twice j) (floorDiv-unique (v +ℤ pos (2 ^ j)) (pos 0) (2 ^ j + 2 ^ j) (omega (arith, pow-pos j)) (small-le (2 ^ j) v l) (small-lt (2 ^ j) v l))

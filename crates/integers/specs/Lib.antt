@@ -1,0 +1,3 @@
+pub mod Floor
+pub mod Vectors
+pub mod Tests

@@ -1,0 +1,46 @@
+-- Lists of whole numbers: the inner product, and a matrix as the list of its rows.
+use mathlib.Core.List.{List, [], _∷_, map}
+use mathlib.Core.Path.{_≡_}
+use Prim.Native.Nat.{ℕ, _+_, _≤_}
+use lib.IntN.{ℤ, pos, natAbs, _+ℤ_, _*ℤ_}
+use lib.ListN.{length, replicate}
+
+-- the inner product; the shorter list decides
+abbrev pub dot : List ℤ → List ℤ → ℤ
+dot [] ys = pos 0
+dot (x ∷ xs) [] = pos 0
+dot (x ∷ xs) (y ∷ ys) = x *ℤ y +ℤ dot xs ys
+
+abbrev pub scale : ℤ → List ℤ → List ℤ
+scale c [] = []
+scale c (x ∷ xs) = (c *ℤ x) ∷ scale c xs
+
+abbrev pub plus : List ℤ → List ℤ → List ℤ
+plus [] ys = []
+plus (x ∷ xs) [] = []
+plus (x ∷ xs) (y ∷ ys) = (x +ℤ y) ∷ plus xs ys
+
+-- the sizes' sum
+abbrev pub sumAbs : List ℤ → ℕ
+sumAbs [] = 0
+sumAbs (x ∷ xs) = natAbs x + sumAbs xs
+
+-- A · x
+abbrev pub mulVec : List (List ℤ) → List ℤ → List ℤ
+mulVec A x = map (λ r. dot r x) A
+
+-- g · A, of n entries
+abbrev pub vecMul : ℕ → List ℤ → List (List ℤ) → List ℤ
+vecMul n [] A = replicate n (pos 0)
+vecMul n (g ∷ gs) [] = replicate n (pos 0)
+vecMul n (g ∷ gs) (r ∷ A) = plus (scale g r) (vecMul n gs A)
+
+-- each row has n entries
+abbrev pub Rows : ℕ → List (List ℤ) → Type 0
+Rows n [] = Unit {0}
+Rows n (r ∷ A) = (length r ≡ n) × Rows n A
+
+-- each number is at most B in size
+abbrev pub AllAbs : ℕ → List ℤ → Type 0
+AllAbs B [] = Unit {0}
+AllAbs B (x ∷ xs) = (natAbs x ≤ B) × AllAbs B xs

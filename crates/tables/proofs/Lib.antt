@@ -1,0 +1,4 @@
+pub mod Widths
+pub mod Quadrants
+pub mod Reading
+pub mod Sizes

@@ -1,0 +1,79 @@
+-- The true cosines, boxed between whole numbers at scale 2^60 without any table: document 01, "The true values are boxed".
+use mathlib.Core.Bool.{true, false, cond}
+use Prim.Native.Nat.{ℕ, zero, suc, _+_, _-_, _*_, _/_, _^_, _≤_, _<_}
+use lib.Dec.{eqb, leb}
+use lib.IntN.{ℤ, pos, negℤ, natAbs, _+ℤ_, _-ℤ_, _*ℤ_}
+use lib.Signed.{_≤ℤ_, _<ℤ_}
+use Rattle.integers.specs.Floor.{above}
+
+pub record Box : Type 0 where
+  pub low : ℤ
+  pub high : ℤ
+
+-- both ends the same
+unfoldable pub only : ℕ → Box
+only n = record { low = pos n; high = pos n }
+
+-- "negated and exchanged"
+unfoldable pub negated : Box → Box
+negated b = record { low = negℤ (b .high); high = negℤ (b .low) }
+
+-- the greatest whole number whose square is at most n, for n of 61 digits to the base 4 (proofs/Roots)
+unfoldable pub rootBy : ℕ → ℕ → ℕ
+rootBy zero n = 0
+rootBy (suc digits) n = let r = 2 * rootBy digits (n / 4) in cond (leb ((r + 1) * (r + 1)) n) (r + 1) r
+
+unfoldable pub root : ℕ → ℕ
+unfolding rootBy
+root n = rootBy 61 n
+
+-- the least number from 0 up whose square is at least n
+unfoldable pub rootUp : ℕ → ℕ
+unfolding root
+rootUp n = let r = root n in cond (leb n (r * r)) r (r + 1)
+
+-- 2^59 × (2^60 + that end)
+unfoldable pub under : ℤ → ℕ
+under e = above (pos (2 ^ 59) *ℤ (pos (2 ^ 60) +ℤ e))
+
+-- the ends for an angle from those for its double
+unfoldable pub halved : Box → Box
+unfolding root rootUp under
+halved b = record { low = pos (root (under (b .low))); high = pos (rootUp (under (b .high))) }
+
+-- The ends for the multiple a of π/1024 in the first quadrant, doubling at most so many times: "Angle 0 has both ends 2^60, the right angle has
+-- both ends 0. For another multiple take the ends for 2a; if 2a passes the right angle, take those of π − 2a, negated and exchanged."
+unfoldable pub boxBy : ℕ → ℕ → Box
+unfolding only negated halved
+boxBy zero a = only (2 ^ 60)
+boxBy (suc f) a = elim (eqb a 0) [
+  | true ↦ only (2 ^ 60)
+  | false ↦ elim (eqb a 512) [
+    | true ↦ only 0
+    | false ↦ halved (elim (leb (2 * a) 512) [ true ↦ boxBy f (2 * a) | false ↦ negated (boxBy f (1024 - 2 * a)) ])
+  ]
+]
+
+-- ten doublings are enough: each takes a factor 2 into a, and 512 is 2^9
+unfoldable pub cosineBox : ℕ → Box
+unfolding boxBy
+cosineBox a = boxBy 10 a
+
+-- "A sine is the cosine of the complement."
+unfoldable pub sineBox : ℕ → Box
+unfolding cosineBox
+sineBox a = cosineBox (512 - a)
+
+-- ---- the square property, as the document words it: of the ends `box` over the ends `double` for twice the angle
+pub record Squares (double box : Box) : Type 0 where
+  pub low-square : (box .low *ℤ box .low) ≤ℤ (pos (2 ^ 59) *ℤ (pos (2 ^ 60) +ℤ double .low))
+  pub low-greatest : (x : ℤ) → (x *ℤ x) ≤ℤ (pos (2 ^ 59) *ℤ (pos (2 ^ 60) +ℤ double .low)) → x ≤ℤ box .low
+  pub high-square : (pos (2 ^ 59) *ℤ (pos (2 ^ 60) +ℤ double .high)) ≤ℤ (box .high *ℤ box .high)
+  pub high-least : (x : ℕ) → (pos (2 ^ 59) *ℤ (pos (2 ^ 60) +ℤ double .high)) ≤ℤ (pos x *ℤ pos x) → box .high ≤ℤ pos x
+
+-- ---- t is nearest to 2^28 times a fraction, for all values between the ends of its parts: values over q, for any q
+pub record Nearest (t : ℕ) (numerator denominator : Box) : Type 0 where
+  pub nearest : (q : ℕ) (x y : ℤ) → 0 < q
+      → (pos q *ℤ numerator .low) ≤ℤ x → x ≤ℤ (pos q *ℤ numerator .high)
+      → (pos q *ℤ denominator .low) ≤ℤ y → y ≤ℤ (pos q *ℤ denominator .high)
+      → pos (2 * natAbs (pos (2 ^ 28) *ℤ x -ℤ pos t *ℤ y)) <ℤ y

@@ -1,0 +1,5 @@
+pub mod Widths
+pub mod Angles
+pub mod Numbers
+pub mod Boxes
+pub mod BoxEnds

@@ -1,0 +1,13 @@
+-- The widths of a run: N is 8, 32 or 128, and M is N/2.
+use mathlib.Core.Bool.{cond}
+use Prim.Native.Nat.{ℕ}
+use lib.Dec.{eqb}
+
+-- what belongs to each width, and to any other number
+unfoldable pub byWidth : {A : Type 0} → A → A → A → A → ℕ → A
+byWidth a b c other n = cond (eqb n 8) a (cond (eqb n 32) b (cond (eqb n 128) c other))
+
+-- M, and 0 where there is no such width
+unfoldable pub halfWidth : ℕ → ℕ
+unfolding byWidth
+halfWidth = byWidth 4 16 64 0
