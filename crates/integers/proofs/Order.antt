@@ -51,6 +51,11 @@ natAbs-*ℤ-le a b h k = rw (natAbs-*ℤ a b) (mul-le-mul h k)
 pub natAbs-≤-iff : (a : ℤ) (B : ℕ) → (natAbs a ≤ B) ↔ ((negℤ (pos B) ≤ℤ a) × (a ≤ℤ pos B))
 natAbs-≤-iff a B = rw (dif a) (simp zs (omega arith))
 
+pub above-pos : (a : ℤ) → pos 0 ≤ℤ a → pos (above a) ≡ a
+unfolding above
+above-pos (pos n) h = refl
+above-pos (negsuc n) h = absurd (h .le)
+
 pub natAbs-pos : (a : ℤ) → pos 0 ≤ℤ a → pos (natAbs a) ≡ a
 natAbs-pos a h = pos-natAbs a (yes-nonNeg h)
 

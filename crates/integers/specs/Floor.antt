@@ -19,6 +19,5 @@ floorDiv (negsuc a) (suc p) = negsuc (a / suc p)
 
 -- v / 2^k rounded: the floor of (v + 2^(k−1)) / 2^k, so that halves go up (here k is suc j); v / 1 is whole already
 unfoldable pub round : ℕ → ℤ → ℤ
-unfolding floorDiv
 round zero v = v
 round (suc j) v = floorDiv (v +ℤ pos (2 ^ j)) (2 ^ suc j)

@@ -2,3 +2,6 @@ pub mod Widths
 pub mod Quadrants
 pub mod Reading
 pub mod Sizes
+pub mod Roots
+pub mod BoxTable
+pub mod Nearest

@@ -2,9 +2,11 @@
 use mathlib.Core.Path.{_≡_, refl, sym, ap, _∙_}
 use mathlib.Core.Bool.{Bool, true, false, cond}
 use mathlib.Core.List.{List, [], map}
-use Prim.Native.Nat.{ℕ, _/_, _%_, _<_, _^_}
+use Prim.Native.Nat.{ℕ, _+_, _-_, _*_, _/_, _%_, _≤_, _<_, _^_}
+use native.Mathlib.Nat.{mod-eq-of-lt, le-antisymm}
 use native.Mathlib.Omega.{arith}
-use lib.Dec.{eqb}
+use borrow.Author.Tests.{ltb-true, ltb-false}
+use lib.Dec.{eqb, ltb}
 use lib.IntN.{ℤ, pos, natAbs}
 use lib.ListN.{getD, List·getD-map}
 use lib.Signed.{mag}
@@ -12,9 +14,9 @@ use mir.Syntax.{w64}
 use mir.Val.{toZ, ofZ}
 use Rattle.integers.proofs.Held.{held-ok}
 use Rattle.tables.specs.Widths.{halfWidth}
-use Rattle.tables.specs.Angles.{reflected, minus, signed}
-use Rattle.tables.specs.Numbers.{secants, secants8, secants32, secants128, secantOf, cosineOf}
-use Rattle.tables.proofs.Quadrants.{same-turn}
+use Rattle.tables.specs.Angles.{halfTurn, reflected, minus, signed}
+use Rattle.tables.specs.Numbers.{secants, secants8, secants32, secants128, secantOf, sines, cosineOf, sineOf}
+use Rattle.tables.proofs.Quadrants.{same-turn, half-near, half-past, quadrant-near}
 use Rattle.tables.proofs.Widths.{at-each, at-other}
 
 -- r was read from the numbers xs, which are those of the table
@@ -28,6 +30,25 @@ read-none table i t = ap (λ l. pos (getD l i 0)) (sym t)
 pub cosine-turn : (x y : ℕ) → x % 1024 ≡ y % 1024 → cosineOf x ≡ cosineOf y
 unfolding cosineOf
 cosine-turn x y e = let s = same-turn 256 x y e in rw (s .0, s .1)
+
+-- the first quadrant of sines is the table
+half-of : (j : ℕ) (b : Bool) → ltb j 256 ≡ b → j ≤ 256 → halfTurn 256 (j + 768) ≡ 256 - j
+half-of j true e h =
+    let l = ltb-true j 256 e in
+    let m : (j + 768) % (4 * 256) ≡ j + 768 = mod-eq-of-lt (omega arith) in
+    half-past 256 (j + 768) (omega arith) ∙ omega arith
+half-of j false e h =
+    let l = ltb-false j 256 e in
+    let m : (j + 768) % (4 * 256) ≡ 0 = ap (λ x. (x + 768) % 1024) (le-antisymm h l) in
+    half-near 256 (j + 768) (omega arith) ∙ omega arith
+
+pub sine-quarter : (j : ℕ) → j ≤ 256 → sineOf j ≡ pos (getD sines j 0)
+unfolding sineOf cosineOf signed
+sine-quarter j h =
+    let e = half-of j (ltb j 256) refl h in
+    let q = quadrant-near 256 (j + 768) (omega arith) in
+    let k : 256 - reflected 256 (j + 768) ≡ j = omega (arith, q .0) in
+    rw (q .1, k)
 
 -- ---- secants
 no-secants : (n : ℕ) → halfWidth n ≡ 0 → secants n ≡ []

@@ -11,11 +11,9 @@ halfTurn q x = let p = x % (4 * q) in cond (leb p (2 * q)) p (4 * q - p)
 
 -- past the right angle: half a turn less the angle, and the cosine below zero
 unfoldable pub reflected : ℕ → ℕ → ℕ
-unfolding halfTurn
 reflected q x = let h = halfTurn q x in cond (leb h q) h (2 * q - h)
 
 unfoldable pub minus : ℕ → ℕ → Bool
-unfolding halfTurn
 minus q x = ltb q (halfTurn q x)
 
 unfoldable pub signed : Bool → ℤ → ℤ

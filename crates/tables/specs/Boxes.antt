@@ -24,12 +24,10 @@ rootBy zero n = 0
 rootBy (suc digits) n = let r = 2 * rootBy digits (n / 4) in cond (leb ((r + 1) * (r + 1)) n) (r + 1) r
 
 unfoldable pub root : ℕ → ℕ
-unfolding rootBy
 root n = rootBy 61 n
 
 -- the least number from 0 up whose square is at least n
 unfoldable pub rootUp : ℕ → ℕ
-unfolding root
 rootUp n = let r = root n in cond (leb n (r * r)) r (r + 1)
 
 -- 2^59 × (2^60 + that end)
@@ -38,30 +36,26 @@ under e = above (pos (2 ^ 59) *ℤ (pos (2 ^ 60) +ℤ e))
 
 -- the ends for an angle from those for its double
 unfoldable pub halved : Box → Box
-unfolding root rootUp under
 halved b = record { low = pos (root (under (b .low))); high = pos (rootUp (under (b .high))) }
 
--- The ends for the multiple a of π/1024 in the first quadrant, doubling at most so many times: "Angle 0 has both ends 2^60, the right angle has
--- both ends 0. For another multiple take the ends for 2a; if 2a passes the right angle, take those of π − 2a, negated and exchanged."
+-- "Take the ends for 2a; if 2a passes the right angle, take those of π − 2a, negated and exchanged."
+unfoldable pub atDouble : (ℕ → Box) → ℕ → Box
+atDouble box a = elim (leb (2 * a) 512) [ true ↦ box (2 * a) | false ↦ negated (box (1024 - 2 * a)) ]
+
+-- The ends for the multiple a of π/1024 in the first quadrant, doubled at most f times: "Angle 0 has both ends 2^60, the right angle has both ends 0."
 unfoldable pub boxBy : ℕ → ℕ → Box
-unfolding only negated halved
 boxBy zero a = only (2 ^ 60)
 boxBy (suc f) a = elim (eqb a 0) [
   | true ↦ only (2 ^ 60)
-  | false ↦ elim (eqb a 512) [
-    | true ↦ only 0
-    | false ↦ halved (elim (leb (2 * a) 512) [ true ↦ boxBy f (2 * a) | false ↦ negated (boxBy f (1024 - 2 * a)) ])
-  ]
+  | false ↦ elim (eqb a 512) [ true ↦ only 0 | false ↦ halved (atDouble (boxBy f) a) ]
 ]
 
 -- ten doublings are enough: each takes a factor 2 into a, and 512 is 2^9
 unfoldable pub cosineBox : ℕ → Box
-unfolding boxBy
 cosineBox a = boxBy 10 a
 
 -- "A sine is the cosine of the complement."
 unfoldable pub sineBox : ℕ → Box
-unfolding cosineBox
 sineBox a = cosineBox (512 - a)
 
 -- ---- the square property, as the document words it: of the ends `box` over the ends `double` for twice the angle

@@ -71,11 +71,9 @@ secants128 =
     745871515 ∷ 855757353 ∷ 1006459003 ∷ 1225166301 ∷ 1570147931 ∷ 2192908875 ∷ 3648977753 ∷ 10938142553 ∷ []
 
 unfoldable pub halfTangents : ℕ → List ℕ
-unfolding byWidth
 halfTangents = byWidth halfTangents8 halfTangents32 halfTangents128 []
 
 unfoldable pub secants : ℕ → List ℕ
-unfolding byWidth
 secants = byWidth secants8 secants32 secants128 []
 
 -- the cosine of jπ/512

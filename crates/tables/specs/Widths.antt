@@ -9,5 +9,4 @@ byWidth a b c other n = cond (eqb n 8) a (cond (eqb n 32) b (cond (eqb n 128) c 
 
 -- M, and 0 where there is no such width
 unfoldable pub halfWidth : ℕ → ℕ
-unfolding byWidth
 halfWidth = byWidth 4 16 64 0
