@@ -13,18 +13,25 @@ use lib.Signed.{mag}
 use mir.Syntax.{w64}
 use mir.Val.{toZ, ofZ}
 use Rattle.integers.proofs.Held.{held-ok}
-use Rattle.tables.specs.Widths.{halfWidth}
+use Rattle.tables.specs.Widths.{byWidth, halfWidth}
 use Rattle.tables.specs.Angles.{halfTurn, reflected, minus, signed}
 use Rattle.tables.specs.Numbers.{secants, secants8, secants32, secants128, secantOf, sines, cosineOf, sineOf}
 use Rattle.tables.proofs.Quadrants.{same-turn, half-near, half-past, quadrant-near}
-use Rattle.tables.proofs.Widths.{at-each, at-other}
+use Rattle.tables.proofs.Widths.{at-each, at-8, at-32, at-128, at-other}
 
--- r was read from the numbers xs, which are those of the table
-pub read : (xs table : List ℕ) (i : ℕ) (r : ℤ) → mag r < 2 ^ 63 → r ≡ getD (map pos xs) i (pos 0) → table ≡ xs → toZ w64 (ofZ w64 r) ≡ pos (getD table i 0)
-read xs table i r ok e t = held-ok w64 r ok .is ∙ e ∙ List·getD-map pos xs i 0 ∙ ap (λ l. pos (getD l i 0)) (sym t)
+-- r was read from the numbers xs
+pub read : (xs : List ℕ) (i : ℕ) (r : ℤ) → mag r < 2 ^ 63 → r ≡ getD (map pos xs) i (pos 0) → toZ w64 (ofZ w64 r) ≡ pos (getD xs i 0)
+read xs i r ok e = held-ok w64 r ok .is ∙ e ∙ List·getD-map pos xs i 0
 
-pub read-none : (table : List ℕ) (i : ℕ) → table ≡ [] → pos 0 ≡ pos (getD table i 0)
-read-none table i t = ap (λ l. pos (getD l i 0)) (sym t)
+pub byWidth-map : (a b c : List ℕ) (n : ℕ) → byWidth (map pos a) (map pos b) (map pos c) [] n ≡ map pos (byWidth a b c [] n)
+byWidth-map a b c =
+    at-each (λ n xs. byWidth (map pos a) (map pos b) (map pos c) [] n ≡ map pos xs) a b c []
+    (at-8 (map pos a) (map pos b) (map pos c) [] refl) (at-32 (map pos a) (map pos b) (map pos c) [] refl) (at-128 (map pos a) (map pos b) (map pos c) [] refl)
+    (λ n x y z. at-other (map pos a) (map pos b) (map pos c) [] x y z)
+
+-- the same from the three tables of a width
+pub read-width : (a b c : List ℕ) (n i : ℕ) (r : ℤ) → mag r < 2 ^ 63 → r ≡ getD (byWidth (map pos a) (map pos b) (map pos c) [] n) i (pos 0) → toZ w64 (ofZ w64 r) ≡ pos (getD (byWidth a b c [] n) i 0)
+read-width a b c n i r ok e = read (byWidth a b c [] n) i r ok (e ∙ ap (λ l. getD l i (pos 0)) (byWidth-map a b c n))
 
 -- a cosine counts by what is left of its angle within a turn
 pub cosine-turn : (x y : ℕ) → x % 1024 ≡ y % 1024 → cosineOf x ≡ cosineOf y

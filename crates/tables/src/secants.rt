@@ -56,15 +56,10 @@ const SECANTS_128: [i64; 32] = [
 ];
 
 // An entry of a width's table, and 0 where there is none.
-fn at_width(width: usize, i: usize) -> i64
+fn entry(width: usize, i: usize) -> i64
     ensures { λ x. ⌜ x ≡ pos (getD (secants width) i 0) ⌝ }
 {
-    match width {
-        8 => entries::entry(&SECANTS_8, i),
-        32 => entries::entry(&SECANTS_32, i),
-        128 => entries::entry(&SECANTS_128, i),
-        _ => 0,
-    }
+    entries::at_width(width, &SECANTS_8, &SECANTS_32, &SECANTS_128, i)
 }
 
 // M, and 0 where there is no such width.
@@ -101,5 +96,5 @@ pub fn secant(width: usize, r: i16) -> i64
     if k % 2 == 0 {
         return 0;
     }
-    angles::signed(folded.minus, at_width(width, k / 2))
+    angles::signed(folded.minus, entry(width, k / 2))
 }

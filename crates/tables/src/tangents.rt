@@ -95,10 +95,11 @@ const HALF_TANGENTS_128: [i64; 64] = [
 pub fn half_tangent(width: usize, m: usize) -> i64
     ensures { λ r. ⌜ r ≡ halfTangentOf width m ⌝ }
 {
-    match width {
-        8 => entries::entry(&HALF_TANGENTS_8, m),
-        32 => entries::entry(&HALF_TANGENTS_32, m),
-        128 => entries::entry(&HALF_TANGENTS_128, m),
-        _ => 0,
-    }
+    entries::at_width(
+        width,
+        &HALF_TANGENTS_8,
+        &HALF_TANGENTS_32,
+        &HALF_TANGENTS_128,
+        m,
+    )
 }

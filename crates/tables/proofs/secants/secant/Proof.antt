@@ -47,12 +47,12 @@ returns-2 c =
     let s = c .before .before .before .before .before .before in
     secant-even (s .args .width) (s .args .r) (ap (λ k. k % 2) (sym (angle (c .before .before))) ∙ c .if2 .taken)
 
-at-width-requires : tie.Need-at-width-requires
-at-width-requires c κs = search needs
+entry-requires : tie.Need-entry-requires
+entry-requires c κs = search needs
 
 -- what is read
-number : (c : tie.After-at-width) → toZ w64 (ofZ w64 (c .at-width .result)) ≡ pos (getD (secants (c .before .before .before .before .before .before .before .args .width)) (c .before .before .before .first-quadrant .result .angle / 2) 0)
-number c = held-ok w64 (c .at-width .result) (c .at-width .ok) .is ∙ c .at-width .ensures
+number : (c : tie.After-entry) → toZ w64 (ofZ w64 (c .entry .result)) ≡ pos (getD (secants (c .before .before .before .before .before .before .before .args .width)) (c .before .before .before .first-quadrant .result .angle / 2) 0)
+number c = held-ok w64 (c .entry .result) (c .entry .ok) .is ∙ c .entry .ensures
 
 signed-requires : tie.Need-signed-requires
 signed-requires c κs =
@@ -76,6 +76,6 @@ secant-spec =
     first-quadrant-requires
     cast-k
     returns-2
-    at-width-requires
+    entry-requires
     signed-requires
     returns-3)

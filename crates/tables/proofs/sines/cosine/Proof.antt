@@ -1,6 +1,6 @@
 -- `tables::sines::cosine` meets its contract.
 use borrow.Author.Needs.{needs}
-use mathlib.Core.Path.{_≡_, refl, ap, ap₂, _∙_}
+use mathlib.Core.Path.{_≡_, ap, ap₂, _∙_}
 use Prim.Native.Nat.{_-_}
 use native.Mathlib.Omega.{arith}
 use lib.IntN.{pos}
@@ -34,7 +34,7 @@ entry-requires c κs = search needs
 -- what is read
 number : (c : tie.After-entry) → toZ w64 (ofZ w64 (c .entry .result)) ≡ pos (getD sines (256 - c .before .before .before .first-quadrant .result .angle) 0)
 unfolding sines
-number c = read sines sines (256 - c .before .before .before .first-quadrant .result .angle) (c .entry .result) (c .entry .ok) (c .entry .ensures) refl
+number c = read sines (256 - c .before .before .before .first-quadrant .result .angle) (c .entry .result) (c .entry .ok) (c .entry .ensures)
 
 signed-requires : tie.Need-signed-requires
 signed-requires c κs = rw (number c) (omega (arith, sines-le (256 - c .before .before .before .first-quadrant .result .angle)))

@@ -1,65 +1,34 @@
--- `tables::tangents::half_tangent` meets its contract: each arm reads the table of its width.
+-- `tables::tangents::half_tangent` meets its contract.
 use borrow.Author.Needs.{needs}
-use mathlib.Core.List.{[]}
-use Rattle.tables.specs.Numbers.{halfTangents, halfTangents8, halfTangents32, halfTangents128, halfTangentOf}
-use Rattle.tables.proofs.Widths.{at-8, at-32, at-128, at-other}
-use Rattle.tables.proofs.Reading.{read, read-none}
+use Rattle.tables.specs.Numbers.{halfTangentOf, halfTangents, halfTangents8, halfTangents32, halfTangents128}
+use Rattle.tables.proofs.Reading.{read-width}
 use Rattle.tables.proofs.tangents.half_tangent.Statement.{statement}
 use Rattle.tables.proofs.tangents.half_tangent.Tie as tie
 
-slice-aggregate-entry : tie.Need-slice-aggregate-entry
-slice-aggregate-entry c = search needs
+slice-aggregate-at-width : tie.Need-slice-aggregate-at-width
+slice-aggregate-at-width c = search needs
 
-entry-requires : tie.Need-entry-requires
-entry-requires c κs = search needs
+slice-aggregate-at-width-2 : tie.Need-slice-aggregate-at-width-2
+slice-aggregate-at-width-2 c = search needs
 
-slice-aggregate-entry-2 : tie.Need-slice-aggregate-entry-2
-slice-aggregate-entry-2 c = search needs
+slice-aggregate-at-width-3 : tie.Need-slice-aggregate-at-width-3
+slice-aggregate-at-width-3 c = search needs
 
-entry-requires-2 : tie.Need-entry-requires-2
-entry-requires-2 c κs = search needs
-
-slice-aggregate-entry-3 : tie.Need-slice-aggregate-entry-3
-slice-aggregate-entry-3 c = search needs
-
-entry-requires-3 : tie.Need-entry-requires-3
-entry-requires-3 c κs = search needs
+at-width-requires : tie.Need-at-width-requires
+at-width-requires c κs = search needs
 
 returns : tie.Need-returns
-unfolding halfTangentOf halfTangents halfTangents8
+unfolding halfTangentOf halfTangents halfTangents8 halfTangents32 halfTangents128
 returns c =
-    let s = c .before .before .before in
-    read halfTangents8 (halfTangents (s .args .width)) (s .args .m) (c .entry .result) (c .entry .ok) (c .entry .ensures) (at-8 halfTangents8 halfTangents32 halfTangents128 [] (c .before .before .match .keys1))
-
-returns-2 : tie.Need-returns-2
-unfolding halfTangentOf halfTangents halfTangents32
-returns-2 c =
-    let s = c .before .before .before in
-    read halfTangents32 (halfTangents (s .args .width)) (s .args .m) (c .entry2 .result) (c .entry2 .ok) (c .entry2 .ensures) (at-32 halfTangents8 halfTangents32 halfTangents128 [] (c .before .before .match .keys2))
-
-returns-3 : tie.Need-returns-3
-unfolding halfTangentOf halfTangents halfTangents128
-returns-3 c =
-    let s = c .before .before .before in
-    read halfTangents128 (halfTangents (s .args .width)) (s .args .m) (c .entry3 .result) (c .entry3 .ok) (c .entry3 .ensures) (at-128 halfTangents8 halfTangents32 halfTangents128 [] (c .before .before .match .keys3))
-
-returns-4 : tie.Need-returns-4
-unfolding halfTangentOf halfTangents
-returns-4 c =
-    let r = c .match .rest in
-    read-none (halfTangents (c .before .args .width)) (c .before .args .m) (at-other halfTangents8 halfTangents32 halfTangents128 [] (r .0 .0 .1) (r .0 .1) (r .1))
+    let a = c .before .before .before .before .args in
+    read-width halfTangents8 halfTangents32 halfTangents128 (a .width) (a .m) (c .at-width .result) (c .at-width .ok) (c .at-width .ensures)
 
 pub half-tangent-spec : {M : Type 1} → statement M
 half-tangent-spec =
     tie.close
     (tie.spec
-    slice-aggregate-entry
-    entry-requires
-    slice-aggregate-entry-2
-    entry-requires-2
-    slice-aggregate-entry-3
-    entry-requires-3
-    returns
-    returns-2
-    returns-3
-    returns-4)
+    slice-aggregate-at-width
+    slice-aggregate-at-width-2
+    slice-aggregate-at-width-3
+    at-width-requires
+    returns)
