@@ -1,0 +1,129 @@
+-- The lists that the steps are made of: lengths, and each list turned back.
+use mathlib.Core.Path.{_≡_, refl, sym, _∙_, ap}
+use mathlib.Core.List.{List, [], _∷_, _++_}
+use Prim.Native.Nat.{ℕ, zero, suc, _+_}
+use native.Mathlib.Omega.{arith}
+use native.Mathlib.Nat.{suc-inj}
+use lib.ListN.{length, take, drop, length-drop}
+use lib.Seq.{length-take-le}
+use lib.IntN.{ℤ, negℤ, _+ℤ_, _-ℤ_, negℤ-negℤ, +ℤ-negℤ-cancel, -ℤ-+ℤ-cancel}
+use Rattle.integers.specs.Floor.{round}
+use Rattle.integers.specs.Vectors.{scale, plus, mulVec, Rows}
+use Rattle.integers.proofs.Products.{length-scale, length-plus, length-mulVec}
+use Rattle.integers.proofs.Lifts.{length-lift}
+use Rattle.lifting.specs.Places.{tab}
+use Rattle.lifting.specs.RowForm.{onto, rev, times, less, negative, alt, evens, odds, weave, lift, unlift}
+
+abbrev pub Len : ℕ → List ℤ → Type 0
+Len n xs = length xs ≡ n
+
+pub len-lift : {n : ℕ} (k : ℕ) (y a : List ℤ) → Len n y → Len n a → Len n (lift k y a)
+len-lift k y a h l = length-lift (λ y a. y +ℤ round k a) y a (h ∙ sym l) ∙ h
+
+pub len-unlift : {n : ℕ} (k : ℕ) (y a : List ℤ) → Len n y → Len n a → Len n (unlift k y a)
+len-unlift k y a h l = length-lift (λ y a. y -ℤ round k a) y a (h ∙ sym l) ∙ h
+
+pub len-scale : {n : ℕ} (c : ℤ) (xs : List ℤ) → Len n xs → Len n (scale c xs)
+len-scale c xs h = length-scale c xs ∙ h
+
+pub len-plus : {n : ℕ} (xs ys : List ℤ) → Len n xs → Len n ys → Len n (plus xs ys)
+len-plus xs ys h l = length-plus xs ys (h ∙ sym l) ∙ h
+
+pub len-mul : {n : ℕ} (A : List (List ℤ)) (x : List ℤ) → length A ≡ n → Len n (mulVec A x)
+len-mul A x h = length-mulVec A x ∙ h
+
+-- ---- reversed
+len-onto : (xs acc : List ℤ) → length (onto xs acc) ≡ length xs + length acc
+unfolding onto
+len-onto [] acc = omega arith
+len-onto (x ∷ xs) acc = omega (arith, len-onto xs (x ∷ acc))
+
+pub len-rev : {n : ℕ} (xs : List ℤ) → Len n xs → Len n (rev xs)
+unfolding rev
+len-rev xs h = omega (arith, len-onto xs [])
+
+nil-right : (xs : List ℤ) → xs ++ [] ≡ xs
+nil-right [] = refl
+nil-right (x ∷ xs) = ap (λ l. x ∷ l) (nil-right xs)
+
+onto-onto : (xs acc bs : List ℤ) → onto (onto xs acc) bs ≡ onto acc (xs ++ bs)
+unfolding onto
+onto-onto [] acc bs = refl
+onto-onto (x ∷ xs) acc bs = onto-onto xs (x ∷ acc) bs
+
+pub rev-rev : (xs : List ℤ) → rev (rev xs) ≡ xs
+unfolding rev onto
+rev-rev xs = onto-onto xs [] [] ∙ nil-right xs
+
+-- ---- entry by entry
+pub len-times : {n : ℕ} (xs ys : List ℤ) → Len n xs → Len n ys → Len n (times xs ys)
+unfolding times
+len-times [] ys h l = h
+len-times (x ∷ xs) [] h l = l
+len-times {n = zero} (x ∷ xs) (y ∷ ys) h l = let z : ⊥ = omega arith in absurd z
+len-times {n = suc n} (x ∷ xs) (y ∷ ys) h l = ap suc (len-times xs ys (suc-inj h) (suc-inj l))
+
+-- ---- signs
+same-alt : (xs : List ℤ) → length (alt xs) ≡ length xs
+unfolding alt
+same-alt [] = refl
+same-alt (x ∷ []) = refl
+same-alt (x ∷ y ∷ xs) = ap (λ k. suc (suc k)) (same-alt xs)
+
+pub len-alt : {n : ℕ} (xs : List ℤ) → Len n xs → Len n (alt xs)
+len-alt xs h = same-alt xs ∙ h
+
+-- ---- even and odd places
+pub len-evens : {n : ℕ} (xs : List ℤ) → length xs ≡ n + n → Len n (evens xs)
+unfolding evens
+len-evens {n} [] h = omega arith
+len-evens {n} (x ∷ []) h = omega arith
+len-evens {n = zero} (x ∷ y ∷ xs) h = let z : ⊥ = omega arith in absurd z
+len-evens {n = suc n} (x ∷ y ∷ xs) h = ap suc (len-evens xs (omega arith))
+
+pub len-odds : {n : ℕ} (xs : List ℤ) → length xs ≡ n + n → Len n (odds xs)
+unfolding odds
+len-odds {n} [] h = omega arith
+len-odds {n} (x ∷ []) h = omega arith
+len-odds {n = zero} (x ∷ y ∷ xs) h = let z : ⊥ = omega arith in absurd z
+len-odds {n = suc n} (x ∷ y ∷ xs) h = ap suc (len-odds xs (omega arith))
+
+pub len-weave : {n : ℕ} (xs ys : List ℤ) → Len n xs → Len n ys → length (weave xs ys) ≡ n + n
+unfolding weave
+len-weave [] ys h l = omega arith
+len-weave (x ∷ xs) [] h l = omega arith
+len-weave {n = zero} (x ∷ xs) (y ∷ ys) h l = let z : ⊥ = omega arith in absurd z
+len-weave {n = suc n} (x ∷ xs) (y ∷ ys) h l = omega (arith, len-weave {n = n} xs ys (suc-inj h) (suc-inj l))
+
+-- ---- two halves
+pub len-take : {n : ℕ} (xs : List ℤ) → length xs ≡ n + n → Len n (take n xs)
+len-take {n} xs h = length-take-le n xs (omega arith)
+
+pub len-drop : {n : ℕ} (xs : List ℤ) → length xs ≡ n + n → Len n (drop n xs)
+len-drop {n} xs h = omega (arith, length-drop n xs)
+
+-- ---- a table by index
+pub len-tab {ℓ} : {A : Type ℓ} (f : ℕ → A) (n i : ℕ) → length (tab f n i) ≡ n
+unfolding tab
+len-tab f zero i = refl
+len-tab f (suc n) i = ap suc (len-tab f n (suc i))
+
+pub rows-tab : (f : ℕ → ℕ → ℤ) (n m i : ℕ) → Rows n (tab (λ j. tab (f j) n 0) m i)
+unfolding tab
+rows-tab f n zero i = tt
+rows-tab f n (suc m) i = (len-tab (f i) n 0, rows-tab f n m (suc i))
+
+pub len-less : {n : ℕ} (xs ys : List ℤ) → Len n xs → Len n ys → Len n (less xs ys)
+unfolding less
+len-less [] ys h l = h
+len-less (x ∷ xs) [] h l = l
+len-less {n = zero} (x ∷ xs) (y ∷ ys) h l = let z : ⊥ = omega arith in absurd z
+len-less {n = suc n} (x ∷ xs) (y ∷ ys) h l = ap suc (len-less xs ys (suc-inj h) (suc-inj l))
+
+same-negative : (xs : List ℤ) → length (negative xs) ≡ length xs
+unfolding negative
+same-negative [] = refl
+same-negative (x ∷ xs) = ap suc (same-negative xs)
+
+pub len-negative : {n : ℕ} (xs : List ℤ) → Len n xs → Len n (negative xs)
+len-negative xs h = same-negative xs ∙ h

@@ -1,0 +1,1 @@
+// The lapped transform of one frame, by lifting.
