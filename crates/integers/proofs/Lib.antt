@@ -7,3 +7,6 @@ pub mod Lifts
 pub mod Words
 pub mod Held
 pub mod Tested
+pub mod PlaceLaws
+pub mod Fills
+pub mod Num

@@ -1,5 +1,5 @@
 -- Floor division by a natural above zero, and rounding. Above this crate rounding is known by `round-near` and `round-size` alone.
-use mathlib.Core.Path.{_≡_, sym}
+use mathlib.Core.Path.{_≡_, refl, sym}
 use Prim.Native.Nat.{ℕ, zero, suc, _+_, _*_, _-_, _/_, _%_, _^_, _≤_, _<_}
 use native.Mathlib.Omega.{arith}
 use native.Mathlib.Nat.{div-add-mod, mod-lt, mul-le-mul-left, lt-of-mul-lt-mul-left, pow-suc}
@@ -50,6 +50,21 @@ round-near (suc j) v =
 -- law (b): its size, for a range
 pub round-size : (k : ℕ) (v : ℤ) → 2 ^ k * natAbs (round k v) ≤ natAbs v + 2 ^ (k - 1)
 round-size k v = omega (arith, natAbs-*ℤ (pos (2 ^ k)) (round k v), natAbs-near (pos (2 ^ k) *ℤ round k v) v, round-near k v)
+
+-- what is whole already
+pub round-whole : (v : ℤ) → round 0 v ≡ v
+unfolding round
+round-whole v = refl
+
+-- and a limit: within 2^k · A, the rounded is within A
+pub round-within : (k A : ℕ) (v : ℤ) → natAbs v ≤ 2 ^ k * A → natAbs (round k v) ≤ A
+round-within zero A v h = rw (round-whole v) (omega arith)
+round-within (suc j) A v h =
+    let e : suc j - 1 ≡ j = omega arith in
+    let s = rw e at (round-size (suc j) v) in
+    let l : 2 ^ suc j * natAbs (round (suc j) v) < 2 ^ suc j * suc A = omega (arith, twice j, pow-pos j) in
+    let r = lt-of-mul-lt-mul-left (2 ^ suc j) l in
+    omega arith
 
 -- how the code rounds: with f halves of a unit in v, rounded down, f − ⌊f / 2⌋ units
 halved-le : (h : ℕ) (v f g : ℤ) → (pos h *ℤ f) ≤ℤ v → f <ℤ (pos 2 *ℤ g +ℤ pos 2) → (pos (h + h) *ℤ (f -ℤ g)) ≤ℤ (v +ℤ pos h)

@@ -1,3 +1,4 @@
 pub mod Floor
 pub mod Vectors
 pub mod Tests
+pub mod Places

@@ -1,4 +1,6 @@
 pub mod Places
 pub mod Steps
+pub mod Moves
+pub mod Expanded
 pub mod RowForm
 pub mod Sample

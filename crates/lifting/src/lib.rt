@@ -1,1 +1,2 @@
 // The lapped transform of one frame, by lifting.
+mod vectors;

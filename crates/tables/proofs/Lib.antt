@@ -1,4 +1,4 @@
-pub mod Widths
+pub mod ByWidth
 pub mod Quadrants
 pub mod Reading
 pub mod Sizes

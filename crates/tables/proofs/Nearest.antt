@@ -16,7 +16,7 @@ use Rattle.integers.proofs.Tested.{every-at, and-left, and-right}
 use Rattle.tables.specs.Numbers.{sines, halfTangents, halfTangents8, halfTangents32, halfTangents128, secants, secants8, secants32, secants128}
 use Rattle.tables.specs.Boxes.{Box, only, cosineBox, sineBox, boxBy, Nearest}
 use Rattle.tables.specs.BoxEnds.{lows, highs}
-use Rattle.tables.proofs.Widths.{at-each}
+use Rattle.tables.proofs.ByWidth.{at-each}
 use Rattle.tables.proofs.BoxTable.{boxAt, cosine-box-is}
 
 -- t over the ends of a numerator and of a denominator: 2t − 1 and 2t + 1 lie on both sides of every fraction between, times 2^29

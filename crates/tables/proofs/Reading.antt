@@ -17,7 +17,7 @@ use Rattle.tables.specs.Widths.{byWidth, halfWidth}
 use Rattle.tables.specs.Angles.{halfTurn, reflected, minus, signed}
 use Rattle.tables.specs.Numbers.{secants, secants8, secants32, secants128, secantOf, sines, cosineOf, sineOf}
 use Rattle.tables.proofs.Quadrants.{same-turn, half-near, half-past, quadrant-near}
-use Rattle.tables.proofs.Widths.{at-each, at-8, at-32, at-128, at-other}
+use Rattle.tables.proofs.ByWidth.{at-each, at-8, at-32, at-128, at-other}
 
 -- r was read from the numbers xs
 pub read : (xs : List ℕ) (i : ℕ) (r : ℤ) → mag r < 2 ^ 63 → r ≡ getD (map pos xs) i (pos 0) → toZ w64 (ofZ w64 r) ≡ pos (getD xs i 0)

@@ -6,7 +6,7 @@ use lib.ListN.{getD}
 use Rattle.integers.proofs.Tested.{every-le}
 use Rattle.tables.specs.Angles.{reflected, minus}
 use Rattle.tables.specs.Numbers.{sines, halfTangents, halfTangents8, halfTangents32, halfTangents128, secants, secants8, secants32, secants128, cosineOf, sineOf, halfTangentOf}
-use Rattle.tables.proofs.Widths.{at-each}
+use Rattle.tables.proofs.ByWidth.{at-each}
 use Rattle.tables.proofs.Quadrants.{signed-size}
 
 pub sines-le : (j : ℕ) → getD sines j 0 ≤ 2 ^ 28

@@ -4,3 +4,4 @@ mod entries;
 pub mod secants;
 pub mod sines;
 pub mod tangents;
+pub mod widths;

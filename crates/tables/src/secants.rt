@@ -2,10 +2,10 @@
 ghost use mathlib.Core.Path.{_≡_};
 ghost use lib.IntN.{pos, natAbs};
 ghost use lib.ListN.{getD};
-ghost use Rattle.tables.specs.Widths.{halfWidth};
 ghost use Rattle.tables.specs.Numbers.{secants, secantOf};
 use crate::angles;
 use crate::entries;
+use crate::widths;
 
 const SECANTS_8: [i64; 2] = [290552444, 701455651];
 
@@ -62,18 +62,6 @@ fn entry(width: usize, i: usize) -> i64
     entries::at_width(width, &SECANTS_8, &SECANTS_32, &SECANTS_128, i)
 }
 
-// M, and 0 where there is no such width.
-fn half_width(width: usize) -> u16
-    ensures { λ q. ⌜ q ≡ halfWidth width ⌝ }
-{
-    match width {
-        8 => 4,
-        32 => 16,
-        128 => 64,
-        _ => 0,
-    }
-}
-
 fn size(r: i16) -> u16
     ensures { λ s. ⌜ s ≡ natAbs r ⌝ }
 {
@@ -87,7 +75,7 @@ fn size(r: i16) -> u16
 pub fn secant(width: usize, r: i16) -> i64
     ensures { λ x. ⌜ x ≡ secantOf width r ⌝ }
 {
-    let quarter = half_width(width);
+    let quarter = widths::half_width(width) as u16;
     if quarter == 0 {
         return 0;
     }

@@ -6,7 +6,7 @@ use lib.IntN.{pos}
 use lib.ListN.{getD}
 use mir.Syntax.{w64}
 use Rattle.integers.proofs.Held.{held-ok}
-use Rattle.tables.proofs.Widths.{at-8, at-32, at-128, at-other}
+use Rattle.tables.proofs.ByWidth.{at-8, at-32, at-128, at-other}
 use Rattle.tables.proofs.entries.at_width.Statement.{statement}
 use Rattle.tables.proofs.entries.at_width.Tie as tie
 

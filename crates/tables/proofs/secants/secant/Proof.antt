@@ -11,7 +11,7 @@ use Rattle.integers.proofs.Held.{held, held-ok}
 use Rattle.tables.specs.Widths.{halfWidth}
 use Rattle.tables.specs.Angles.{reflected, minus, signed}
 use Rattle.tables.specs.Numbers.{secants}
-use Rattle.tables.proofs.Widths.{half-width-le}
+use Rattle.tables.proofs.ByWidth.{half-width-le}
 use Rattle.tables.proofs.Reading.{secant-none, secant-even, secant-odd}
 use Rattle.tables.proofs.Sizes.{secants-le}
 use Rattle.tables.proofs.secants.secant.Statement.{statement}
@@ -19,6 +19,9 @@ use Rattle.tables.proofs.secants.secant.Tie as tie
 
 half-width-requires : tie.Need-half-width-requires
 half-width-requires c κs = search needs
+
+cast-quarter : tie.Need-cast-quarter
+cast-quarter c = record { fits = omega (arith, c .half-width .ensures, half-width-le (c .before .args .width)) }
 
 returns : tie.Need-returns
 returns c = secant-none (c .before .before .args .width) (c .before .before .args .r) (sym (c .before .half-width .ensures) ∙ c .if1 .taken)
@@ -71,6 +74,7 @@ secant-spec =
     tie.close
     (tie.spec
     half-width-requires
+    cast-quarter
     returns
     size-requires
     first-quadrant-requires

@@ -1,59 +1,19 @@
--- `tables::sines::cosine` meets its contract.
+-- `tables::sines::cosine` meets its contract: the table of the code is that of `specs/`.
 use borrow.Author.Needs.{needs}
-use mathlib.Core.Path.{_≡_, ap, ap₂, _∙_}
-use Prim.Native.Nat.{_-_}
-use native.Mathlib.Omega.{arith}
-use lib.IntN.{pos}
-use lib.ListN.{getD}
-use mir.Syntax.{w64}
-use mir.Val.{toZ, ofZ}
-use Rattle.integers.proofs.Held.{held-ok}
-use Rattle.tables.specs.Angles.{signed}
-use Rattle.tables.specs.Numbers.{sines, cosineOf}
-use Rattle.tables.proofs.Quadrants.{reflected-le}
-use Rattle.tables.proofs.Reading.{read}
-use Rattle.tables.proofs.Sizes.{sines-le}
+use mathlib.Core.Path.{refl}
+use Rattle.tables.specs.Numbers.{sines}
 use Rattle.tables.proofs.sines.cosine.Statement.{statement}
 use Rattle.tables.proofs.sines.cosine.Tie as tie
 
-first-quadrant-requires : tie.Need-first-quadrant-requires
-first-quadrant-requires c κs = search needs
+slice-aggregate-cosine-from : tie.Need-slice-aggregate-cosine-from
+slice-aggregate-cosine-from c = search needs
 
-cast-at : tie.Need-cast-at
-cast-at c = search needs
-
-sub-at : tie.Need-sub-at
-sub-at c = omega (arith, c .before .first-quadrant .ensures .0, reflected-le 256 (c .before .before .args .j) (omega arith))
-
-slice-aggregate-entry : tie.Need-slice-aggregate-entry
-slice-aggregate-entry c = search needs
-
-entry-requires : tie.Need-entry-requires
-entry-requires c κs = search needs
-
--- what is read
-number : (c : tie.After-entry) → toZ w64 (ofZ w64 (c .entry .result)) ≡ pos (getD sines (256 - c .before .before .before .first-quadrant .result .angle) 0)
+cosine-from-requires : tie.Need-cosine-from-requires
 unfolding sines
-number c = read sines (256 - c .before .before .before .first-quadrant .result .angle) (c .entry .result) (c .entry .ok) (c .entry .ensures)
-
-signed-requires : tie.Need-signed-requires
-signed-requires c κs = rw (number c) (omega (arith, sines-le (256 - c .before .before .before .first-quadrant .result .angle)))
+cosine-from-requires c κs = refl
 
 returns : tie.Need-returns
-unfolding cosineOf
-returns c =
-    let folded = c .before .before .before .before .first-quadrant .ensures in
-    held-ok w64 (c .signed .result) (c .signed .ok) .is ∙ c .signed .ensures
-    ∙ ap₂ signed (folded .1) (number (c .before) ∙ ap (λ k. pos (getD sines (256 - k) 0)) (folded .0))
+returns c = search needs
 
 pub cosine-spec : {M : Type 1} → statement M
-cosine-spec =
-    tie.close
-    (tie.spec
-    first-quadrant-requires
-    cast-at
-    sub-at
-    slice-aggregate-entry
-    entry-requires
-    signed-requires
-    returns)
+cosine-spec = tie.close (tie.spec slice-aggregate-cosine-from cosine-from-requires returns)

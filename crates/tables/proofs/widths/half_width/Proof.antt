@@ -1,9 +1,9 @@
--- `tables::secants::half_width` meets its contract.
+-- `tables::widths::half_width` meets its contract.
 use mathlib.Core.Path.{sym}
 use Rattle.tables.specs.Widths.{halfWidth}
-use Rattle.tables.proofs.Widths.{at-8, at-32, at-128, at-other}
-use Rattle.tables.proofs.secants.half_width.Statement.{statement}
-use Rattle.tables.proofs.secants.half_width.Tie as tie
+use Rattle.tables.proofs.ByWidth.{at-8, at-32, at-128, at-other}
+use Rattle.tables.proofs.widths.half_width.Statement.{statement}
+use Rattle.tables.proofs.widths.half_width.Tie as tie
 
 returns : tie.Need-returns
 unfolding halfWidth

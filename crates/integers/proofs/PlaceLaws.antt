@@ -1,0 +1,118 @@
+-- Laws of lists by their places, of sums over places, and of limits on every number.
+use mathlib.Core.Path.{_≡_, refl, sym, ap, ap₂, _∙_}
+use mathlib.Core.List.{List, [], _∷_}
+use Prim.Native.Nat.{ℕ, zero, suc, _+_, _*_, _≤_, _<_}
+use native.Mathlib.Nat.{mul-le-mul-left, suc-mul}
+use native.Mathlib.Numerals.{add-one}
+use native.Mathlib.Omega.{arith}
+use borrow.Author.Tests.{ltb-true, ltb-false}
+use mathlib.Core.Bool.{Bool, true, false}
+use lib.Dec.{ltb}
+use lib.IntN.{ℤ, pos, natAbs, _+ℤ_, _*ℤ_}
+use lib.ListN.{length, getD, take, List·getD-eq-default}
+use lib.Seq.{ext-getD, take-all}
+use Rattle.integers.specs.Places.{tab, places, at, sum, Within, sumProducts}
+use Rattle.integers.specs.Vectors.{dot, sumAbs, AllAbs}
+use Rattle.integers.proofs.Order.{natAbs-+ℤ, natAbs-*ℤ}
+use Rattle.integers.proofs.Products.{dot-take-suc-l, getD-all}
+
+length-tab : (f : ℕ → ℤ) (n i : ℕ) → length (tab f n i) ≡ n
+unfolding tab
+length-tab f zero i = refl
+length-tab f (suc n) i = ap suc (length-tab f n (suc i))
+
+pub length-places : (n : ℕ) (f : ℕ → ℤ) → length (places n f) ≡ n
+length-places n f = length-tab f n 0
+
+at-tab : (f : ℕ → ℤ) (n i j : ℕ) → j < n → at (tab f n i) j ≡ f (i + j)
+unfolding tab
+at-tab f zero i j h = absurd (omega arith)
+at-tab f (suc n) i zero h = ap f (omega arith)
+at-tab f (suc n) i (suc j) h = at-tab f n (suc i) j (omega arith) ∙ ap f (omega arith)
+
+pub at-places : (n : ℕ) (f : ℕ → ℤ) (i : ℕ) → i < n → at (places n f) i ≡ f i
+at-places n f i h = at-tab f n 0 i h ∙ ap f (omega arith)
+
+-- a list is what stands at its places
+pub by-places : (n : ℕ) (xs : List ℤ) (f : ℕ → ℤ) → length xs ≡ n → ((i : ℕ) → i < n → at xs i ≡ f i) → xs ≡ places n f
+by-places n xs f l h = ext-getD (pos 0) xs (places n f) (l ∙ sym (length-places n f)) (λ i k. h i (omega arith) ∙ sym (at-places n f i (omega arith)))
+
+pub places-ext : (n : ℕ) (f g : ℕ → ℤ) → ((i : ℕ) → i < n → f i ≡ g i) → places n f ≡ places n g
+places-ext n f g h = by-places n (places n f) g (length-places n f) (λ i l. at-places n f i l ∙ h i l)
+
+pub places-at : (n : ℕ) (xs : List ℤ) → length xs ≡ n → places n (at xs) ≡ xs
+places-at n xs l = sym (by-places n xs (at xs) l (λ i h. refl))
+
+-- ---- sums
+pub sum-ext : (n : ℕ) (f g : ℕ → ℤ) → ((i : ℕ) → i < n → f i ≡ g i) → sum n f ≡ sum n g
+unfolding sum
+sum-ext zero f g h = refl
+sum-ext (suc n) f g h = ap₂ _+ℤ_ (sum-ext n f g (λ i l. h i (omega arith))) (h n (omega arith))
+
+sum-take : (n : ℕ) (xs ys : List ℤ) → dot (take n xs) ys ≡ sum n (λ k. at xs k *ℤ at ys k)
+unfolding sum
+sum-take zero xs ys = refl
+sum-take (suc n) xs ys = dot-take-suc-l n xs ys ∙ ap (λ t. t +ℤ at xs n *ℤ at ys n) (sum-take n xs ys)
+
+pub dot-sum : (n : ℕ) (xs ys : List ℤ) → length xs ≡ n → dot xs ys ≡ sum n (λ k. at xs k *ℤ at ys k)
+dot-sum n xs ys e = ap (λ l. dot l ys) (sym (take-all n xs (omega arith))) ∙ sum-take n xs ys
+
+-- one more term, for a loop
+pub dot-next : (n : ℕ) (xs ys : List ℤ) → dot (take n xs) ys +ℤ at xs n *ℤ at ys n ≡ dot (take (n + 1) xs) ys
+dot-next n xs ys = rw add-one (sym (dot-take-suc-l n xs ys))
+
+pub next-multiple : (f e s : ℕ) → f + e * s + s ≡ f + (e + 1) * s
+next-multiple f e s = let d : (e + 1) * s ≡ e * s + s = rw add-one (suc-mul e s) in omega arith
+
+-- ---- sizes
+pub dot-size : (xs ys : List ℤ) → natAbs (dot xs ys) ≤ sumProducts xs ys
+unfolding sumProducts
+dot-size [] ys = omega arith
+dot-size (x ∷ xs) [] = omega arith
+dot-size (x ∷ xs) (y ∷ ys) = omega (arith, natAbs-+ℤ (x *ℤ y) (dot xs ys), natAbs-*ℤ x y, dot-size xs ys)
+
+pub products-take : (n : ℕ) (xs ys : List ℤ) → sumProducts (take n xs) ys ≤ sumProducts xs ys
+unfolding sumProducts
+products-take zero xs ys = omega arith
+products-take (suc n) [] ys = omega arith
+products-take (suc n) (x ∷ xs) [] = omega arith
+products-take (suc n) (x ∷ xs) (y ∷ ys) = omega (arith, products-take n xs ys)
+
+pub products-at : (n : ℕ) (xs ys : List ℤ) → natAbs (at xs n) * natAbs (at ys n) ≤ sumProducts xs ys
+unfolding sumProducts
+products-at n [] ys = omega arith
+products-at n (x ∷ xs) [] = omega arith
+products-at zero (x ∷ xs) (y ∷ ys) = omega arith
+products-at (suc n) (x ∷ xs) (y ∷ ys) = omega (arith, products-at n xs ys)
+
+-- a row's sizes times a limit on the numbers
+pub products-le : (xs ys : List ℤ) (B : ℕ) → Within B ys → sumProducts xs ys ≤ sumAbs xs * B
+unfolding sumProducts
+products-le [] ys B h = omega arith
+products-le (x ∷ xs) [] B h = omega arith
+products-le (x ∷ xs) (y ∷ ys) B h = omega (arith, mul-le-mul-left (natAbs x) (h .size 0), products-le xs ys B (record { size = λ i. h .size (suc i) }))
+
+sumAbs-tab : (f : ℕ → ℤ) (n i B : ℕ) → ((j : ℕ) → j < n → natAbs (f (i + j)) ≤ B) → sumAbs (tab f n i) ≤ n * B
+unfolding tab
+sumAbs-tab f zero i B h = omega arith
+sumAbs-tab f (suc n) i B h =
+    let e : i + 0 ≡ i = omega arith in
+    let z = rw e at (h 0 (omega arith)) in
+    omega (arith, sumAbs-tab f n (suc i) B (λ j l. let e : suc i + j ≡ i + suc j = omega arith in rw e (h (suc j) (omega arith))))
+
+pub sumAbs-le : (n B : ℕ) (f : ℕ → ℤ) → ((i : ℕ) → i < n → natAbs (f i) ≤ B) → sumAbs (places n f) ≤ n * B
+sumAbs-le n B f h = sumAbs-tab f n 0 B (λ j l. let e : 0 + j ≡ j = omega arith in rw e (h j l))
+
+-- ---- limits
+pub within-places : (n B : ℕ) (f : ℕ → ℤ) → ((i : ℕ) → i < n → natAbs (f i) ≤ B) → Within B (places n f)
+within-places n B f h = record { size = λ i. by i (ltb i n) refl }
+  where
+    by : (i : ℕ) (t : Bool) → ltb i n ≡ t → natAbs (at (places n f) i) ≤ B
+    by i true e = let l = ltb-true i n e in rw (at-places n f i l) (h i l)
+    by i false e = rw (List·getD-eq-default (places n f) (pos 0) {n = i} (omega (arith, ltb-false i n e, length-places n f))) (omega arith)
+
+pub within-up : {m n : ℕ} {xs : List ℤ} → Within m xs → m ≤ n → Within n xs
+within-up h l = record { size = λ i. omega (arith, h .size i) }
+
+pub within-all : (B : ℕ) (xs : List ℤ) → AllAbs B xs → Within B xs
+within-all B xs h = record { size = getD-all B xs h }
