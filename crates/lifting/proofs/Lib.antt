@@ -1,3 +1,5 @@
 pub mod Lists
 pub mod Places
 pub mod Undo
+pub mod Rotation
+pub mod SecantRows

@@ -1,13 +1,17 @@
 -- Laws of a list given by its places.
 use mathlib.Core.Path.{_≡_, refl, sym, _∙_, ap}
-use mathlib.Core.List.{List, [], _∷_}
+use mathlib.Core.Bool.{Bool, true, false, _&&_}
+use mathlib.Core.List.{List}
 use Prim.Native.Nat.{ℕ, zero, suc, _+_, _≤_, _<_}
 use native.Mathlib.Omega.{arith}
+use borrow.Author.Tests.{eqb-true, eqb-false}
+use lib.Dec.{T, eqb}
 use lib.IntN.{ℤ, pos, natAbs}
 use lib.ListN.{length}
 use lib.Seq.{ext-getD}
 use Rattle.integers.specs.Vectors.{AllAbs}
 use Rattle.integers.proofs.Products.{all-getD}
+use Rattle.integers.proofs.Tested.{and-left, and-right}
 use Rattle.lifting.specs.Places.{tab, places, at}
 use Rattle.lifting.proofs.Lists.{len-tab}
 
@@ -40,3 +44,16 @@ all-places B n f h = all-getD B (places n f) (λ i k. let j : i < n = omega (ari
 pub undone : (n : ℕ) (step back : ℕ → ℤ → ℤ) → ((i : ℕ) (z : ℤ) → back i (step i z) ≡ z)
     → (xs : List ℤ) → length xs ≡ n → places n (λ i. back i (at (places n (λ j. step j (at xs j))) i)) ≡ xs
 undone n step back u xs l = places-is n _ xs l (λ i h. ap (back i) (at-places n (λ j. step j (at xs j)) i h) ∙ u i (at xs i))
+
+-- a test of every place below n, computed at once, holds at each
+abbrev pub below : ℕ → (ℕ → Bool) → Bool
+below zero f = true
+below (suc n) f = f n && below n f
+
+pub below-at : (n : ℕ) (f : ℕ → Bool) → T (below n f) → (i : ℕ) → i < n → T (f i)
+below-at zero f t i h = absurd (omega arith)
+below-at (suc n) f t i h = by (below-at n f (and-right (f n) (below n f) t) i) (eqb i n) refl
+  where
+    by : (i < n → T (f i)) → (b : Bool) → eqb i n ≡ b → T (f i)
+    by before true e = rw (eqb-true i n e) (and-left (f n) (below n f) t)
+    by before false e = before (omega (arith, eqb-false i n e))
