@@ -14,7 +14,7 @@ use lib.Seq.{ext-getD, take-all}
 use Rattle.integers.specs.Places.{tab, places, at, sum, Within, sumProducts}
 use Rattle.integers.specs.Vectors.{dot, sumAbs, AllAbs}
 use Rattle.integers.proofs.Order.{natAbs-+ℤ, natAbs-*ℤ}
-use Rattle.integers.proofs.Products.{dot-take-suc-l, getD-all}
+use Rattle.integers.proofs.Products.{dot-take-suc-l, all-getD, getD-all}
 
 length-tab : (f : ℕ → ℤ) (n i : ℕ) → length (tab f n i) ≡ n
 unfolding tab
@@ -42,6 +42,18 @@ places-ext n f g h = by-places n (places n f) g (length-places n f) (λ i l. at-
 
 pub places-at : (n : ℕ) (xs : List ℤ) → length xs ≡ n → places n (at xs) ≡ xs
 places-at n xs l = sym (by-places n xs (at xs) l (λ i h. refl))
+
+-- a list is what is at its places
+pub places-is : (n : ℕ) (f : ℕ → ℤ) (xs : List ℤ) → length xs ≡ n → ((i : ℕ) → i < n → f i ≡ at xs i) → places n f ≡ xs
+places-is n f xs l h = ext-getD (pos 0) (places n f) xs (length-places n f ∙ sym l) (λ i k. let j : i < n = omega (arith, length-places n f) in at-places n f i j ∙ h i j)
+
+pub all-places : (B n : ℕ) (f : ℕ → ℤ) → ((i : ℕ) → i < n → natAbs (f i) ≤ B) → AllAbs B (places n f)
+all-places B n f h = all-getD B (places n f) (λ i k. let j : i < n = omega (arith, length-places n f) in rw (at-places n f i j) (h i j))
+
+-- a step that changes each place by what does not depend on the changed list is undone by its inverse at each place
+pub undone : (n : ℕ) (step back : ℕ → ℤ → ℤ) → ((i : ℕ) (z : ℤ) → back i (step i z) ≡ z)
+    → (xs : List ℤ) → length xs ≡ n → places n (λ i. back i (at (places n (λ j. step j (at xs j))) i)) ≡ xs
+undone n step back u xs l = places-is n _ xs l (λ i h. ap (back i) (at-places n (λ j. step j (at xs j)) i h) ∙ u i (at xs i))
 
 -- ---- sums
 pub sum-ext : (n : ℕ) (f g : ℕ → ℤ) → ((i : ℕ) → i < n → f i ≡ g i) → sum n f ≡ sum n g

@@ -1,2 +1,5 @@
 pub mod Lists
 pub mod MoveLaws
+pub mod Undo
+pub mod Rotation
+pub mod SecantRows
