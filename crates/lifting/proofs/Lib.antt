@@ -3,3 +3,4 @@ pub mod MoveLaws
 pub mod Undo
 pub mod Rotation
 pub mod SecantRows
+pub mod SumLaws

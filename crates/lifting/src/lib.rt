@@ -1,2 +1,4 @@
 // The lapped transform of one frame, by lifting.
+mod expand;
+mod sums;
 mod vectors;
