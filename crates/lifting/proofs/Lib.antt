@@ -4,3 +4,5 @@ pub mod Undo
 pub mod Rotation
 pub mod SecantRows
 pub mod SumLaws
+pub mod StageLaws
+pub mod StageSizes

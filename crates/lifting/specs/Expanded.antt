@@ -3,6 +3,7 @@ use mathlib.Core.Path.{_≡_}
 use mathlib.Core.List.{List}
 use Prim.Native.Nat.{ℕ, _+_, _-_, _*_, _/_, _^_}
 use lib.IntN.{ℤ, pos, negℤ, _+ℤ_, _-ℤ_, _*ℤ_}
+use lib.ListN.{length}
 use Rattle.integers.specs.Places.{places, at, sum}
 use Rattle.tables.specs.Widths.{halfWidth}
 use Rattle.tables.specs.Numbers.{cosineOf, secantOf}
@@ -28,3 +29,12 @@ pub record Tangents (N : ℕ) (xs : List ℤ) : Type 0 where
 
 pub record Sines (N : ℕ) (xs : List ℤ) : Type 0 where
   pub is : xs ≡ places (halfWidth N) (sine N)
+
+-- the halves of a frame
+pub record Halves (N : ℕ) (top bottom : List ℤ) : Type 0 where
+  pub top-long : length top ≡ halfWidth N
+  pub bottom-long : length bottom ≡ halfWidth N
+
+-- what stage 3 adds at a place, from the secant sum, the cosine sum and −t·top; M is 2^(2l)
+unfoldable pub third : ℕ → ℤ → ℤ → ℤ → ℤ
+third l secants cosines tangent = negℤ secants -ℤ pos (2 ^ (l + 1)) *ℤ cosines +ℤ pos (2 ^ (2 * l)) *ℤ tangent
