@@ -6,3 +6,4 @@ pub mod SecantRows
 pub mod SumLaws
 pub mod StageLaws
 pub mod StageSizes
+pub mod TableSizes

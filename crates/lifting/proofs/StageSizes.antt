@@ -5,22 +5,24 @@ use mathlib.Core.List.{List}
 use Prim.Native.Nat.{ℕ, _+_, _-_, _*_, _^_, _≤_, _<_}
 use native.Mathlib.Nat.{mul-le-mul, mul-le-mul-left, le-refl}
 use native.Mathlib.Omega.{arith}
-use lib.Dec.{lit≤}
+use borrow.Author.Tests.{ltb-true, ltb-false}
+use lib.Dec.{lit≤, ltb}
 use lib.IntN.{ℤ, pos, negℤ, natAbs, _+ℤ_, _-ℤ_, _*ℤ_}
-use lib.ListN.{length}
+use lib.ListN.{length, List·getD-eq-default}
 use lib.Pow.{pow-mono}
 use Rattle.integers.specs.Floor.{round}
 use Rattle.integers.specs.Places.{places, at, sum, Within}
 use Rattle.integers.proofs.Order.{natAbs-+ℤ, natAbs--ℤ, natAbs-negℤ, natAbs-*ℤ, natAbs-*ℤ-le}
 use Rattle.integers.proofs.Rounding.{round-whole, round-within}
-use Rattle.integers.proofs.PlaceLaws.{length-places, at-places, within-places, sum-ext, dot-size, products-le, sumAbs-le}
+use Rattle.integers.proofs.PlaceLaws.{length-places, at-places, within-places, within-up, sum-ext, dot-size, products-le, sumAbs-le}
 use Rattle.tables.specs.Widths.{byWidth, halfWidth}
-use Rattle.tables.proofs.ByWidth.{at-each}
+use Rattle.tables.proofs.ByWidth.{at-each, half-width-le}
 use Rattle.tables.proofs.Quadrants.{signed-size}
 use Rattle.lifting.specs.Steps.{rootLog, cosine, secant, alternate, amount1, amount2, amount3, sineAmount, tangentAmount, sine, tangent, stage1, stage2, stage3, stage4, stage5, unstage1, unstage2, unstage3, unstage4, unstage5}
 use Rattle.lifting.specs.Moves.{moved, flipped, Moves}
-use Rattle.lifting.specs.Expanded.{cosineSums, secantSums}
+use Rattle.lifting.specs.Expanded.{cosineSums, secantSums, Tangents}
 use Rattle.lifting.proofs.SumLaws.{row-sum}
+use Rattle.lifting.proofs.StageLaws.{lifted, altered, amounts3, amounts3-at}
 use Rattle.lifting.proofs.SecantRows.{cosine-entry-size, secant-row, tangent-size, sine-size}
 
 -- ---- what the work on vectors keeps
@@ -44,6 +46,16 @@ moves-wide k xs l h = record { small = λ i. round-within k (2 ^ 61) (at xs i) (
 
 pub moves-whole : (xs : List ℤ) → Within (2 ^ 61) xs → Moves 0 xs
 moves-whole xs h = record { small = λ i. rw (round-whole (at xs i)) (h .size i) }
+
+pub altered-within : (even : Bool) (B : ℕ) (y : List ℤ) → Within B y → Within B (altered even y)
+altered-within even B y h = within-places (length y) B _ (λ i l. rw (flipped-size even i (at y i)) (h .size i))
+
+pub lifted-wide : (undo : Bool) (k : ℕ) (a y : List ℤ) → 3 ≤ k → Within (2 ^ 63) a → Within (2 ^ 60) y → Within (2 ^ 61) (lifted undo k a y)
+lifted-wide undo k a y l h w =
+    within-places (length y) (2 ^ 61) _ (λ i j. moved-size undo (at y i) (round k (at a i)) (w .size i) (round-within k (2 ^ 60) (at a i) (omega (arith, h .size i, mul-le-mul (pow-mono {i = 3} {j = k} l) (le-refl (2 ^ 60))))))
+
+pub lifted-whole : (undo : Bool) (a y : List ℤ) → Within (2 ^ 60) a → Within (2 ^ 60) y → Within (2 ^ 61) (lifted undo 0 a y)
+lifted-whole undo a y h w = within-places (length y) (2 ^ 61) _ (λ i j. let r : natAbs (round 0 (at a i)) ≤ 2 ^ 60 = rw (round-whole (at a i)) (h .size i) in moved-size undo (at y i) (round 0 (at a i)) (w .size i) r)
 
 -- ---- sums
 module _ (N B : ℕ) (x : List ℤ) (h : Within B x) where
@@ -151,3 +163,21 @@ module _ (N B C : ℕ) (top bottom : List ℤ) where
   unfolding stage5 unstage5
   size5 true h k = within-places (halfWidth N) _ _ (λ i l. let m = halfWidth N - 1 - i in omega (arith, natAbs--ℤ (at bottom i) (tangentAmount N m (at top m)), tangentAmount-size N B m (at top m) (h .size m), k .size i))
   size5 false h k = within-places (halfWidth N) _ _ (λ i l. let m = halfWidth N - 1 - i in omega (arith, natAbs-+ℤ (at bottom i) (tangentAmount N m (at top m)), tangentAmount-size N B m (at top m) (h .size m), k .size i))
+
+-- ---- the row sums, for 64 bits
+pub cosine-sums-wide : (N : ℕ) (x : List ℤ) → Within 500000000 x → Within (2 ^ 63) (cosineSums N x)
+cosine-sums-wide N x h = within-up (cosine-sums-size N 500000000 x h) (omega (arith, half-width-le N))
+
+-- what stage 3 adds
+pub amounts3-move : (N : ℕ) (tangents top bottom : List ℤ) → length top ≡ halfWidth N → length bottom ≡ halfWidth N → Tangents N tangents → Within 7500000 top
+    → Moves (28 + 2 * rootLog N) (amounts3 N tangents top)
+unfolding secantSums
+amounts3-move N tangents top bottom ht hb t h = record { small = λ i. by i (ltb i (halfWidth N)) refl }
+  where
+    long : length (amounts3 N tangents top) ≡ halfWidth N
+    long = length-places _ _ ∙ length-places _ _
+
+    by : (i : ℕ) (b : Bool) → ltb i (halfWidth N) ≡ b → natAbs (round (28 + 2 * rootLog N) (at (amounts3 N tangents top) i)) ≤ 2 ^ 61
+    by i true e = let l = ltb-true i (halfWidth N) e in rw (amounts3-at N top bottom ht hb tangents t i l) (omega (arith, amount3-size N 7500000 i top l h))
+    by i false e =
+        rw (List·getD-eq-default (amounts3 N tangents top) (pos 0) {n = i} (omega (arith, long, ltb-false i (halfWidth N) e))) (round-within (28 + 2 * rootLog N) (2 ^ 61) (pos 0) (omega arith))

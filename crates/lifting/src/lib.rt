@@ -1,4 +1,5 @@
 // The lapped transform of one frame, by lifting.
 mod expand;
+mod stages;
 mod sums;
 mod vectors;

@@ -1,7 +1,8 @@
 -- What belongs to a width.
 use mathlib.Core.Path.{_≡_, refl, sym, subst₂}
 use mathlib.Core.Bool.{Bool, true, false}
-use Prim.Native.Nat.{ℕ, _≤_, zero-le}
+use Prim.Native.Nat.{ℕ, _≤_, _<_, zero-le}
+use native.Mathlib.Omega.{arith}
 use borrow.Author.Tests.{ne-eqb, eqb-true, eqb-false}
 use lib.Dec.{eqb, lit≤}
 use Rattle.tables.specs.Widths.{byWidth, halfWidth}
@@ -44,3 +45,7 @@ module _ {A : Type 0} (P : ℕ → A → Type 0) (a b c other : A) where
 pub half-width-le : (n : ℕ) → halfWidth n ≤ 64
 unfolding halfWidth
 half-width-le = at-each (λ n m. m ≤ 64) 4 16 64 0 (lit≤ tt) (lit≤ tt) (lit≤ tt) (λ n x y z. zero-le)
+
+pub half-width-ge : (n : ℕ) → 0 < halfWidth n → 4 ≤ halfWidth n
+unfolding halfWidth
+half-width-ge = at-each (λ n m. 0 < m → 4 ≤ m) 4 16 64 0 (λ z. lit≤ tt) (λ z. lit≤ tt) (λ z. lit≤ tt) (λ n x y w z. absurd (omega arith))
