@@ -7,3 +7,4 @@ pub mod SumLaws
 pub mod StageLaws
 pub mod StageSizes
 pub mod TableSizes
+pub mod FrameSizes

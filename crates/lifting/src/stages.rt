@@ -7,7 +7,7 @@ ghost use lib.ListN.{length};
 ghost use Rattle.integers.specs.Places.{places, at, Within};
 ghost use Rattle.tables.specs.Widths.{halfWidth};
 ghost use Rattle.lifting.specs.Steps.{rootLog, stage1, stage2, stage3, stage4, stage5, unstage1, unstage2, unstage3, unstage4, unstage5};
-ghost use Rattle.lifting.specs.Expanded.{third, Turn, Secants, Tangents, Sines, Halves};
+ghost use Rattle.lifting.specs.Expanded.{third, Turn, Secants, Tangents, Sines, Halves, Tables, Room, top4, bottom5, untop2, unbottom1};
 use crate::sums;
 use crate::vectors;
 
@@ -172,4 +172,135 @@ fn fifth(
     vectors::products(tangents, top, a);
     vectors::strided(a, last, last, b);
     vectors::lift(undo, 28, b, bottom);
+}
+
+fn forward(
+    width: usize,
+    root: u32,
+    turn: &[i64],
+    secants: &[i64],
+    tangents: &[i64],
+    sines: &[i64],
+    top: &mut [i64],
+    bottom: &mut [i64],
+    a: &mut [i64],
+    b: &mut [i64],
+    row: &mut [i64],
+)
+    requires { ⌜ Tables width root (now turn) (now secants) (now tangents) (now sines) ⌝ }
+    requires { ⌜ Halves width (now top) (now bottom) ⌝ }
+    requires { ⌜ Room width (now a) (now b) (now row) ⌝ }
+    requires { ⌜ Within 50000 (now top) ⌝ }
+    requires { ⌜ Within 50000 (now bottom) ⌝ }
+    ensures { λ _. ⌜ (now (top .exit) ≡ top4 width (now (top .entry)) (now (bottom .entry))) × (now (bottom .exit) ≡ bottom5 width (now (top .entry)) (now (bottom .entry))) ⌝ }
+{
+    first(false, width, root, turn, top, bottom, a, b, row);
+    second(false, width, root, turn, top, bottom, a, row);
+    third(
+        false,
+        width,
+        root,
+        turn,
+        secants,
+        tangents,
+        top,
+        bottom,
+        a,
+        b,
+        row,
+    );
+    fourth(false, width, sines, top, bottom, a, b);
+    fifth(false, width, tangents, top, bottom, a, b);
+}
+
+fn backward(
+    width: usize,
+    root: u32,
+    turn: &[i64],
+    secants: &[i64],
+    tangents: &[i64],
+    sines: &[i64],
+    top: &mut [i64],
+    bottom: &mut [i64],
+    a: &mut [i64],
+    b: &mut [i64],
+    row: &mut [i64],
+)
+    requires { ⌜ Tables width root (now turn) (now secants) (now tangents) (now sines) ⌝ }
+    requires { ⌜ Halves width (now top) (now bottom) ⌝ }
+    requires { ⌜ Room width (now a) (now b) (now row) ⌝ }
+    requires { ⌜ Within 1048576 (now top) ⌝ }
+    requires { ⌜ Within 1048576 (now bottom) ⌝ }
+    ensures { λ _. ⌜ (now (top .exit) ≡ untop2 width (now (top .entry)) (now (bottom .entry))) × (now (bottom .exit) ≡ unbottom1 width (now (top .entry)) (now (bottom .entry))) ⌝ }
+{
+    fifth(true, width, tangents, top, bottom, a, b);
+    fourth(true, width, sines, top, bottom, a, b);
+    third(
+        true,
+        width,
+        root,
+        turn,
+        secants,
+        tangents,
+        top,
+        bottom,
+        a,
+        b,
+        row,
+    );
+    second(true, width, root, turn, top, bottom, a, row);
+    first(true, width, root, turn, top, bottom, a, b, row);
+}
+
+// All five stages on the halves of a frame, or all undone.
+pub fn all(
+    undo: bool,
+    width: usize,
+    root: u32,
+    turn: &[i64],
+    secants: &[i64],
+    tangents: &[i64],
+    sines: &[i64],
+    top: &mut [i64],
+    bottom: &mut [i64],
+    a: &mut [i64],
+    b: &mut [i64],
+    row: &mut [i64],
+)
+    requires { ⌜ Tables width root (now turn) (now secants) (now tangents) (now sines) ⌝ }
+    requires { ⌜ Halves width (now top) (now bottom) ⌝ }
+    requires { ⌜ Room width (now a) (now b) (now row) ⌝ }
+    requires { ⌜ Within (cond undo 1048576 50000) (now top) ⌝ }
+    requires { ⌜ Within (cond undo 1048576 50000) (now bottom) ⌝ }
+    ensures { λ _. ⌜ (now (top .exit) ≡ cond undo (untop2 width (now (top .entry)) (now (bottom .entry))) (top4 width (now (top .entry)) (now (bottom .entry)))) × (now (bottom .exit) ≡ cond undo (unbottom1 width (now (top .entry)) (now (bottom .entry))) (bottom5 width (now (top .entry)) (now (bottom .entry)))) ⌝ }
+{
+    if undo {
+        backward(
+            width,
+            root,
+            turn,
+            secants,
+            tangents,
+            sines,
+            top,
+            bottom,
+            a,
+            b,
+            row,
+        );
+        return;
+    }
+    forward(
+        width,
+        root,
+        turn,
+        secants,
+        tangents,
+        sines,
+        top,
+        bottom,
+        a,
+        b,
+        row,
+    );
 }
