@@ -8,3 +8,4 @@ pub mod StageLaws
 pub mod StageSizes
 pub mod TableSizes
 pub mod FrameSizes
+pub mod Parts

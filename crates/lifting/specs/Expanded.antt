@@ -85,3 +85,8 @@ untop2 N top bottom = unstage2 N (untop4 N top bottom) (unbottom3 N top bottom)
 
 unfoldable pub unbottom1 : ℕ → List ℤ → List ℤ → List ℤ
 unbottom1 N top bottom = unstage1 N (untop2 N top bottom) (unbottom3 N top bottom)
+
+-- a good width and its half
+pub record Width (N half : ℕ) : Type 0 where
+  pub half-is : half ≡ halfWidth N
+  pub wide : 0 < halfWidth N

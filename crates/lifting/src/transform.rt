@@ -1,0 +1,49 @@
+// A frame from its folded values, and the fold of a block; each with its way back. The tables are expanded for each call.
+ghost use mathlib.Core.Bool.{cond};
+ghost use mathlib.Core.Path.{_≡_};
+ghost use Prim.Native.Nat.{_+_, _<_};
+ghost use lib.ListN.{length};
+ghost use Rattle.integers.specs.Places.{Within};
+ghost use Rattle.tables.specs.Widths.{halfWidth};
+ghost use Rattle.lifting.specs.Steps.{lower, held, unfolded};
+ghost use Rattle.lifting.specs.Expanded.{Halves, top4, bottom5, untop2, unbottom1, Width};
+use crate::expand;
+use crate::room;
+use crate::stages;
+use crate::vectors;
+
+fn staged(undo: bool, width: usize, half: usize, top: &mut [i64], bottom: &mut [i64])
+    requires { ⌜ Width width half ⌝ }
+    requires { ⌜ Halves width (now top) (now bottom) ⌝ }
+    requires { ⌜ Within (cond undo 1048576 50000) (now top) ⌝ }
+    requires { ⌜ Within (cond undo 1048576 50000) (now bottom) ⌝ }
+    ensures { λ _. ⌜ (now (top .exit) ≡ cond undo (untop2 width (now (top .entry)) (now (bottom .entry))) (top4 width (now (top .entry)) (now (bottom .entry)))) × (now (bottom .exit) ≡ cond undo (unbottom1 width (now (top .entry)) (now (bottom .entry))) (bottom5 width (now (top .entry)) (now (bottom .entry)))) ⌝ }
+{
+    let mut turn = room::of_512();
+    let mut secants = room::of_128();
+    let mut tangents = room::of_64();
+    let mut sines = room::of_64();
+    let mut a = room::of_64();
+    let mut b = room::of_64();
+    let mut row = room::of_64();
+    let whole = 8 * half;
+    expand::turn(half, &mut turn[..whole]);
+    expand::secants(width, &mut secants[..width]);
+    expand::tangents(width, &mut tangents[..half]);
+    expand::sines(width, &mut sines[..half]);
+    let root = expand::root_log(width);
+    stages::all(
+        undo,
+        width,
+        root,
+        &turn[..whole],
+        &secants[..width],
+        &tangents[..half],
+        &sines[..half],
+        top,
+        bottom,
+        &mut a[..half],
+        &mut b[..half],
+        &mut row[..half],
+    );
+}
