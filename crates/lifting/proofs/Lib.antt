@@ -1,1 +1,5 @@
 pub mod Lists
+pub mod PlaceLaws
+pub mod StepLengths
+pub mod ThirdStage
+pub mod RowForms
