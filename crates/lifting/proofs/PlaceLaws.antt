@@ -9,7 +9,7 @@ use borrow.Author.Tests.{ltb-true, ltb-false, eqb-true, eqb-false}
 use lib.Dec.{eqb, ltb}
 use lib.ListN.{length, take, getD, List·getD-append}
 use lib.Seq.{ext-getD, take-all, getD-append-add}
-use lib.IntN.{ℤ, pos, negℤ, _+ℤ_, _-ℤ_, _*ℤ_, +ℤ-idl, +ℤ-idr, zero-*ℤ, *ℤ-zero}
+use lib.IntN.{ℤ, pos, negℤ, _+ℤ_, _-ℤ_, _*ℤ_, +ℤ-assoc, +ℤ-idl, +ℤ-idr, zero-*ℤ, *ℤ-zero}
 use Rattle.integers.specs.Floor.{round}
 use Rattle.integers.specs.Vectors.{dot, plus, mulVec}
 use Rattle.integers.proofs.Products.{dot-take-suc-l, getD-mulVec, getD-plus}
@@ -174,6 +174,12 @@ pub sum-ext : (n : ℕ) (f g : ℕ → ℤ) → ((i : ℕ) → i < n → f i ≡
 unfolding sum
 sum-ext zero f g e = refl
 sum-ext (suc n) f g e = ap₂ _+ℤ_ (sum-ext n f g (λ i h. e i (omega arith))) (e n (omega arith))
+
+-- the first term apart
+pub sum-front : (n : ℕ) (f : ℕ → ℤ) → sum (suc n) f ≡ f 0 +ℤ sum n (λ i. f (suc i))
+unfolding sum
+sum-front zero f = +ℤ-idl (f 0) ∙ sym (+ℤ-idr (f 0))
+sum-front (suc n) f = ap (λ z. z +ℤ f (suc n)) (sum-front n f) ∙ +ℤ-assoc (f 0) (sum n (λ i. f (suc i))) (f (suc n))
 
 -- all terms but one are 0
 pub sum-none : (n : ℕ) (f : ℕ → ℤ) → ((i : ℕ) → i < n → f i ≡ pos 0) → sum n f ≡ pos 0
