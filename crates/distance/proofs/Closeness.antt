@@ -1,5 +1,5 @@
 -- A row that is close to a number on a state, and what a lift makes of it: the law of rounding is used here and nowhere above.
-use mathlib.Core.Path.{_≡_, refl, sym, _∙_, ap}
+use mathlib.Core.Path.{_≡_, _∙_}
 use mathlib.Core.List.{List}
 use Prim.Native.Nat.{ℕ, _-_, _*_, _^_, _≤_, _<_}
 use native.Mathlib.Nat.{le-refl, mul-pos}

@@ -1,13 +1,13 @@
 -- From the tests to the statements, over the width as a letter.
-use mathlib.Core.Path.{_≡_, refl, sym, _∙_, ap, ap₂, subst}
+use mathlib.Core.Path.{_≡_, refl, sym, _∙_, ap}
 use mathlib.Core.Bool.{Bool, true, false}
 use mathlib.Core.List.{List, _++_}
-use Prim.Native.Nat.{ℕ, _+_, _*_, _≤_, _<_}
+use Prim.Native.Nat.{ℕ, _+_, _*_, _≤_}
 use native.Mathlib.Omega.{arith}
 use native.Mathlib.Nat.{mul-le-mul-right}
 use lib.Dec.{T, lit≤}
 use lib.ListN.{length, length-append}
-use lib.IntN.{ℤ, pos, negℤ, natAbs, _-ℤ_, _*ℤ_}
+use lib.IntN.{ℤ, natAbs}
 use Rattle.integers.specs.Vectors.{AllAbs}
 use Rattle.integers.proofs.Products.{all-getD, all-mono}
 use Rattle.integers.proofs.Tested.{and-left, and-right}
@@ -15,14 +15,14 @@ use Rattle.tables.specs.Widths.{byWidth, halfWidth}
 use Rattle.tables.proofs.Widths.{at-each}
 use Rattle.lifting.specs.Places.{at}
 use Rattle.lifting.specs.Steps.{lower, held, stages, frame}
-use Rattle.lifting.specs.RowForm.{weave, widthOf, low, high, rowStages, rowFrame}
+use Rattle.lifting.specs.RowForm.{weave, widthOf, high, rowFrame}
 use Rattle.lifting.proofs.StepLengths.{len-lower, len-held}
 use Rattle.lifting.proofs.RowForms.{good, M-of, lower-rows, held-rows, stages-rows, frame-rows}
-use Rattle.distance.specs.Exact.{anySine, anyCosine, cosineAngle, sineAngle, lesser, greater, term, total, least, greatest, rootM, denominator}
-use Rattle.distance.specs.Statement.{IsWidth, Block, coefficient, Near, DistanceAt, Distance, promised, Promised, shown, Shown, requested, Requested, gain, rounding, SizesAt, Sizes, FoldedAt, Folded, FrameSizes}
-use Rattle.distance.proofs.Carried.{Row, Limits, rowOf, columns, currentRow, previousRow, nearBy, sizedBy, sineBoxes, cosineBoxes, passes, foldedBy, foldedTested}
+use Rattle.distance.specs.Exact.{anySine, anyCosine, lesser, greater, total, least, greatest, rootM, denominator}
+use Rattle.distance.specs.Statement.{IsWidth, Block, coefficient, Near, DistanceAt, promised, Promised, shown, Shown, requested, Requested, gain, rounding, SizesAt, Sizes, FoldedAt, Folded, FrameSizes}
+use Rattle.distance.proofs.Carried.{Row, rowOf, columns, currentRow, previousRow, nearBy, sizedBy, sineBoxes, cosineBoxes, passes, foldedBy, foldedTested}
 use Rattle.distance.proofs.FoldRows.{foldedRows, len-folded}
-use Rattle.distance.proofs.Ends.{Picks, picks-greater, picks-lesser}
+use Rattle.distance.proofs.Ends.{picks-greater, picks-lesser}
 use Rattle.distance.proofs.Sound.{all-from, size-sound, end-sound, fold-sound}
 use Rattle.distance.proofs.Runs.{limits, passesAt, Passes, foldTested}
 

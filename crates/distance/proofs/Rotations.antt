@@ -1,7 +1,6 @@
 -- The row of a coefficient before the two lifts of all pairs, and before their rotation.
-use mathlib.Core.Path.{_≡_, sym, _∙_}
+use mathlib.Core.Path.{sym, _∙_}
 use mathlib.Core.List.{List}
-use lib.ListN.{length}
 use lib.IntN.{ℤ}
 use Rattle.lifting.specs.RowForm.{times, lift, Width, tanAmounts, sinAmounts, rotA, rotB}
 use Rattle.lifting.proofs.Lists.{Len, len-lift, len-times}

@@ -1,5 +1,5 @@
 -- The tests as the checker runs them, on the boxes as numbers, and what each says at its coefficients.
-use mathlib.Core.Path.{_≡_, refl, sym, _∙_, ap, subst, fun-ext}
+use mathlib.Core.Path.{_≡_, sym, ap, subst, fun-ext}
 use mathlib.Core.Bool.{Bool, true, false, not}
 use Prim.Native.Nat.{ℕ, _+_, _≤_, _<_}
 use lib.Dec.{T, ltb, ltb→lt, nltb→le, lit<}

@@ -1,6 +1,6 @@
 -- The tests are sound, at every width: what passes at k holds of coefficient k for all readings.
-use mathlib.Core.Path.{_≡_, refl, sym, _∙_, ap, subst}
-use mathlib.Core.Bool.{Bool, true, false, _&&_}
+use mathlib.Core.Path.{_≡_, sym, ap, subst}
+use mathlib.Core.Bool.{Bool}
 use mathlib.Core.List.{List, [], _∷_, _++_}
 use Prim.Native.Nat.{ℕ, zero, suc, _+_, _-_, _*_, _≤_, _<_}
 use native.Mathlib.Omega.{arith}
@@ -20,8 +20,8 @@ use Rattle.lifting.proofs.PlaceLaws.{sum-ext}
 use Rattle.lifting.proofs.RowForms.{Good}
 use Rattle.distance.specs.Exact.{sineAngle, cosineAngle, denominator, term}
 use Rattle.distance.proofs.Transposed.{unit, len-unit, dot-unit, dot-weave}
-use Rattle.distance.proofs.Carried.{Row, Limits, rowOf, columns, currentRow, previousRow, flat, fars, nearBy, sizedBy, sineBoxes, cosineBoxes, passes, foldedBy, allFrom}
-use Rattle.distance.proofs.Closeness.{Close, Fit, re-read}
+use Rattle.distance.proofs.Carried.{Row, Limits, rowOf, columns, currentRow, previousRow, flat, fars, nearBy, sizedBy, sineBoxes, cosineBoxes, foldedBy, allFrom}
+use Rattle.distance.proofs.Closeness.{re-read}
 use Rattle.distance.proofs.StageRows.{fit-row, close-stages}
 use Rattle.distance.proofs.FoldRows.{foldedRows, fit-current, fit-previous, len-flat, len-folded, near-folded}
 use Rattle.distance.proofs.Ends.{Picks, total-near, off-scale}

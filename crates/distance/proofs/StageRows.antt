@@ -9,7 +9,7 @@ use Rattle.integers.specs.Vectors.{dot, plus, mulVec}
 use Rattle.integers.proofs.Ring.{ring}
 use Rattle.integers.proofs.Products.{dot-plus, dot-plus-r}
 use Rattle.lifting.specs.Places.{at}
-use Rattle.lifting.specs.RowForm.{rev, negative, alt, evens, odds, Width, tanAmounts, sinAmounts, one, two, three, four, five, rowStages}
+use Rattle.lifting.specs.RowForm.{rev, negative, alt, evens, odds, Width, one, two, three, four, five, rowStages}
 use Rattle.lifting.proofs.Lists.{Len, len-lift, len-plus, len-mul, len-rev, len-alt, len-negative, len-evens, len-odds, len-take, len-drop}
 use Rattle.lifting.proofs.RowForms.{Good}
 use Rattle.distance.proofs.Transposed.{unit, len-unit, dot-unit, dot-rev, dot-alt, dot-signs, dot-halves}
