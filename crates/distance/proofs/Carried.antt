@@ -79,14 +79,21 @@ unfoldable pub columns : Width → List (List ℤ)
 unfolding cols
 columns w = cols (w .M) (w .cs)
 
--- ---- before the fold: this block's a, and the b of the block before
+-- ---- before the fold: a row f on the folded places is one on this block's a and one on the b of the block before
+unfoldable pub lowRow : Width → List ℤ → Row
+unfolding rev onto
+lowRow w f = record { a = rev (take (w .M) f); b = zeros (w .M); p = 1; e = 0 }
+
+unfoldable pub highRow : Width → List ℤ → Row
+highRow w f = record { a = zeros (w .M); b = drop (w .M) f; p = 1; e = 0 }
+
 unfoldable pub currentRow : Width → List ℤ → Row
-unfolding rowRot rev onto
-currentRow w f = rowRot w (record { a = rev (take (w .M) f); b = zeros (w .M); p = 1; e = 0 })
+unfolding rowRot lowRow
+currentRow w f = rowRot w (lowRow w f)
 
 unfoldable pub previousRow : Width → List ℤ → Row
-unfolding rowRot
-previousRow w f = rowRot w (record { a = zeros (w .M); b = drop (w .M) f; p = 1; e = 0 })
+unfolding rowRot highRow
+previousRow w f = rowRot w (highRow w f)
 
 unfoldable pub flat : Row → List ℤ
 unfolding rev onto

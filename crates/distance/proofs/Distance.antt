@@ -19,12 +19,12 @@ use Rattle.lifting.specs.RowForm.{weave, widthOf, high, rowFrame}
 use Rattle.lifting.proofs.StepLengths.{len-lower, len-held}
 use Rattle.lifting.proofs.RowForms.{good, M-of, lower-rows, held-rows, stages-rows, frame-rows}
 use Rattle.distance.specs.Exact.{anySine, anyCosine, lesser, greater, total, least, greatest, rootM, denominator}
-use Rattle.distance.specs.Statement.{IsWidth, Block, coefficient, Near, DistanceAt, promised, Promised, shown, Shown, requested, Requested, gain, rounding, SizesAt, Sizes, FoldedAt, Folded, FrameSizes}
+use Rattle.distance.specs.Statement.{IsWidth, readingLimit, foldedLimit, coefficientLimit, Block, coefficient, Near, DistanceAt, promised, Promised, shown, Shown, requested, Requested, gain, rounding, SizesAt, Sizes, FoldedAt, Folded, FrameSizes}
 use Rattle.distance.proofs.Carried.{Row, rowOf, columns, currentRow, previousRow, nearBy, sizedBy, sineBoxes, cosineBoxes, passes, foldedBy, foldedTested}
 use Rattle.distance.proofs.FoldRows.{foldedRows, len-folded}
 use Rattle.distance.proofs.Ends.{picks-greater, picks-lesser}
 use Rattle.distance.proofs.Sound.{all-from, size-sound, end-sound, fold-sound}
-use Rattle.distance.proofs.Runs.{limits, passesAt, Passes, foldTested}
+use Rattle.distance.proofs.Runs.{openRows, limits, passesAt, Passes, foldTested}
 
 -- ---- at one width
 module _ (N : ℕ) (twice : halfWidth N + halfWidth N ≡ N) where
@@ -53,12 +53,13 @@ module _ (N : ℕ) (twice : halfWidth N + halfWidth N ≡ N) where
     unfolding passes
     size-part t = and-right nearTest sizeTest t
 
-    near-at : T (passesAt N k) → (previous current : List ℤ) → Block N 32767 previous → Block N 32767 current → Near (shown N) N previous current k
+    near-at : T (passesAt N k) → (previous current : List ℤ) → Block N readingLimit previous → Block N readingLimit current → Near (shown N) N previous current k
     unfolding least greatest total anySine coefficient limits
     near-at t previous current p c =
         let w = widthOf N in
         let ends = end-sound w (good N) k previous current (p .long ∙ sym twice-rows) (c .long ∙ sym twice-rows) N twice-rows anyCosine (limits N) (p .within) (c .within) in
-        let same : at (rowFrame w (high w previous) current) k ≡ at (frame N (held N previous) current) k = ap (λ f. at f k) (sym (frame-rows N twice (held N previous) current (len-held N previous) (c .long) ∙ ap (λ h. rowFrame w h current) (held-rows N twice previous (p .long)))) in
+        let rows = frame-rows N twice (held N previous) current (len-held N previous) (c .long) ∙ ap (λ h. rowFrame w h current) (held-rows N twice previous (p .long)) in
+        let same : at (rowFrame w (high w previous) current) k ≡ at (frame N (held N previous) current) k = ap (λ f. at f k) (sym rows) in
         record {
           least-near = rw same at (ends greater picks-greater (near-part t));
           greatest-near = rw same at (ends lesser picks-lesser (near-part t));
@@ -69,37 +70,42 @@ module _ (N : ℕ) (twice : halfWidth N + halfWidth N ≡ N) where
     size-at t B f l b = rw (stages-rows N twice f l) (size-sound (widthOf N) (good N) k (limits N) (size-part t) B f (l ∙ sym twice-rows) b)
 
   pub folded-at : T (foldTested N) → FoldedAt N
-  unfolding foldTested foldedTested
+  unfolding foldTested foldedTested openRows
   folded-at t previous current p c =
       let w = widthOf N in
       let F = foldedRows w previous current in
       let lp = p .long ∙ sym twice-rows in
       let lc = c .long ∙ sym twice-rows in
       rw (lower-rows N twice current (c .long), held-rows N twice previous (p .long))
-      (all-getD 46342 F (λ i h. fold-sound w (good N) 32767 46342 i (all-from (foldedBy w 32767 46342) (w .M + w .M) 0 i t (omega arith) (omega (arith, len-folded w (good N) previous current lp lc))) previous current lp lc (p .within) (c .within)))
+      (all-getD foldedLimit F (λ i h.
+      let passed = all-from (foldedBy w readingLimit foldedLimit) (w .M + w .M) 0 i t (omega arith) (omega (arith, len-folded w (good N) previous current lp lc)) in
+      fold-sound w (good N) readingLimit foldedLimit i passed previous current lp lc (p .within) (c .within)))
 
-  pub distance-at : Passes N 0 N → DistanceAt N 32767 (shown N)
+  pub distance-at : Passes N 0 N → DistanceAt N readingLimit (shown N)
   distance-at t previous current p c k h = near-at k (t k (omega arith) h) previous current p c
 
   pub sizes-at : Passes N 0 N → SizesAt N (gain N) (rounding N)
   sizes-at t B f l b k h = size-at k (t k (omega arith) h) B f l b
 
 -- ---- at every width
+pub every-width : (P : ℕ → Type 0) → P 8 → P 32 → P 128 → (N : ℕ) → IsWidth N → P N
+every-width P a b c = at-each (λ n t. T t → P n) true true true false (λ t. a) (λ t. b) (λ t. c) (λ n x y z t. absurd t)
+
 width-twice : (N : ℕ) → IsWidth N → halfWidth N + halfWidth N ≡ N
 unfolding halfWidth byWidth
-width-twice = at-each (λ n b. T b → halfWidth n + halfWidth n ≡ n) true true true false (λ t. refl) (λ t. refl) (λ t. refl) (λ n x y z t. absurd t)
+width-twice = every-width (λ n. halfWidth n + halfWidth n ≡ n) refl refl refl
 
 shown-promised : (N : ℕ) → IsWidth N → shown N ≤ promised N
 unfolding shown promised rootM byWidth
-shown-promised = at-each (λ n b. T b → shown n ≤ promised n) true true true false (λ t. lit≤ tt) (λ t. lit≤ tt) (λ t. lit≤ tt) (λ n x y z t. absurd t)
+shown-promised = every-width (λ n. shown n ≤ promised n) (lit≤ tt) (lit≤ tt) (lit≤ tt)
 
 shown-requested : (N : ℕ) → IsWidth N → shown N ≤ requested N
 unfolding shown requested byWidth
-shown-requested = at-each (λ n b. T b → shown n ≤ requested n) true true true false (λ t. lit≤ tt) (λ t. lit≤ tt) (λ t. lit≤ tt) (λ n x y z t. absurd t)
+shown-requested = every-width (λ n. shown n ≤ requested n) (lit≤ tt) (lit≤ tt) (lit≤ tt)
 
-frame-fits : (N : ℕ) → IsWidth N → gain N * 46342 + 100 * rounding N ≤ 100 * 1048576
+frame-fits : (N : ℕ) → IsWidth N → gain N * foldedLimit + 100 * rounding N ≤ 100 * coefficientLimit
 unfolding gain rounding byWidth
-frame-fits = at-each (λ n b. T b → gain n * 46342 + 100 * rounding n ≤ 100 * 1048576) true true true false (λ t. lit≤ tt) (λ t. lit≤ tt) (λ t. lit≤ tt) (λ n x y z t. absurd t)
+frame-fits = every-width (λ n. gain n * foldedLimit + 100 * rounding n ≤ 100 * coefficientLimit) (lit≤ tt) (lit≤ tt) (lit≤ tt)
 
 -- a longer distance, and readings in a narrower range
 weaker : {d e N k : ℕ} {previous current : List ℤ} → d ≤ e → Near d N previous current k → Near e N previous current k
@@ -131,4 +137,4 @@ module _ (passes-all : (N : ℕ) → IsWidth N → Passes N 0 N) (folds-all : (N
   frame-sizes-of N i previous current p c k h =
       let F = lower N current ++ held N previous in
       let l : length F ≡ N = omega (arith, length-append (lower N current) (held N previous), len-lower N current, len-held N previous, width-twice N i) in
-      omega (arith, sizes-of N i 46342 F l (folded-of N i previous current p c) k h, frame-fits N i)
+      omega (arith, sizes-of N i foldedLimit F l (folded-of N i previous current p c) k h, frame-fits N i)

@@ -12,15 +12,15 @@ use Rattle.tables.proofs.BoxTable.{boxAt, cosine-box-is}
 use Rattle.tables.proofs.Quadrants.{reflected-le}
 use Rattle.lifting.specs.Places.{tab}
 use Rattle.lifting.specs.Steps.{rootLog, tangent, sine, cosine, oddOf, secant}
-use Rattle.lifting.specs.RowForm.{third, widthOf}
+use Rattle.lifting.specs.RowForm.{Width, third, widthOf}
 use Rattle.distance.specs.Exact.{signedBox, anyCosine}
-use Rattle.distance.specs.Statement.{shown, gain, rounding}
+use Rattle.distance.specs.Statement.{readingLimit, foldedLimit, shown, gain, rounding}
 use Rattle.distance.proofs.Carried.{Limits, columns, sineBoxes, passes, tested, foldedTested}
 use Rattle.distance.proofs.Sound.{all-from}
 
 unfoldable pub limits : ℕ → Limits
 unfolding shown gain rounding
-limits N = record { reading = 32767; distance = shown N; gain = gain N; rounding = rounding N }
+limits N = record { reading = readingLimit; distance = shown N; gain = gain N; rounding = rounding N }
 
 -- the box of a cosine from the ends as numbers
 unfoldable pub readCosine : ℕ → Box
@@ -31,14 +31,20 @@ read-cosine : (x : ℕ) → readCosine x ≡ anyCosine x
 unfolding readCosine anyCosine
 read-cosine x = ap (signedBox (minus 512 x)) (sym (cosine-box-is (reflected 512 x) (reflected-le 512 x (lit< tt))))
 
--- n coefficients from k on at width N
-unfoldable pub testedAt : ℕ → ℕ → ℕ → Bool
-unfolding tested readCosine limits widthOf halfWidth byWidth rootLog tab tangent sine cosine oddOf secant third sines halfTangents halfTangents8 halfTangents32 halfTangents128 secants secants8 secants32 secants128 cosineOf sineOf halfTangentOf secantOf signed
-testedAt N n k = tested N (widthOf N) readCosine (limits N) n k
+-- the rows of a width, with every table open
+unfoldable pub openRows : ℕ → Width
+unfolding widthOf halfWidth byWidth rootLog tab tangent sine cosine oddOf secant third sines halfTangents halfTangents8 halfTangents32 halfTangents128 secants secants8 secants32 secants128 cosineOf sineOf halfTangentOf secantOf signed minus reflected halfTurn
+openRows N = widthOf N
 
+-- n coefficients from k on
+unfoldable pub testedAt : ℕ → ℕ → ℕ → Bool
+unfolding tested readCosine limits openRows
+testedAt N n k = tested N (openRows N) readCosine (limits N) n k
+
+-- all folded places
 unfoldable pub foldTested : ℕ → Bool
-unfolding foldedTested widthOf halfWidth byWidth rootLog tab tangent sine cosine oddOf secant third sines halfTangents halfTangents8 halfTangents32 halfTangents128 secants secants8 secants32 secants128 cosineOf sineOf halfTangentOf secantOf signed minus reflected halfTurn
-foldTested N = foldedTested (widthOf N) 32767 46342
+unfolding foldedTested openRows
+foldTested N = foldedTested (openRows N) readingLimit foldedLimit
 
 -- coefficient k passes, and every coefficient from `from` below `to`
 abbrev pub passesAt : ℕ → ℕ → Bool
@@ -48,7 +54,7 @@ abbrev pub Passes : ℕ → ℕ → ℕ → Type 0
 Passes N from to = (k : ℕ) → from ≤ k → k < to → T (passesAt N k)
 
 pub passed : (N n k : ℕ) → T (testedAt N n k) → Passes N k (k + n)
-unfolding testedAt tested
+unfolding testedAt tested openRows
 passed N n k t i a b =
     all-from (passesAt N) n k i (subst (λ box. T (tested N (widthOf N) box (limits N) n k)) (fun-ext read-cosine) t) a b
 

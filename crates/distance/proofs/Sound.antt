@@ -86,7 +86,7 @@ module _ (w : Width) (ok : Good w) (k : ℕ) where
     near-frame =
         let F = foldedRows w previous current in
         near-chain (row .p) (now .p) (at (rowStages w F) k) (dot onFolded F) (dot (flat before ++ flat now) (previous ++ current))
-        (near-stages F (len-folded w ok previous current lp lc)) (near-folded w ok onFolded previous current len-onFolded lp lc)
+        (near-stages F (len-folded w ok previous current lp lc)) (near-folded w ok previous current lp lc onFolded len-onFolded)
 
     module _ (N : ℕ) (twice : w .M + w .M ≡ N) (box : ℕ → Box) (lim : Limits) (bp : AllAbs (lim .reading) previous) (bc : AllAbs (lim .reading) current) where
       -- either end, by the way it is picked
@@ -128,5 +128,5 @@ fold-sound w ok R B i t previous current lp lc bp bc =
     let L = flat v ++ flat c in
     let F = foldedRows w previous current in
     rw (← dot-unit (w .M + w .M) i F (len-folded w ok previous current lp lc))
-    (small (c .p) R B (c .e + v .e) (sumAbs L) (dot f F) (dot L (previous ++ current)) (fit-current w ok f lf .pp) (near-folded w ok f previous current lf lp lc)
+    (small (c .p) R B (c .e + v .e) (sumAbs L) (dot f F) (dot L (previous ++ current)) (fit-current w ok f lf .pp) (near-folded w ok previous current lp lc f lf)
     (natAbs-dot L (previous ++ current) R (all-append R previous current bp bc)) (leb→le _ _ t))

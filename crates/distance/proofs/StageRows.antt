@@ -33,7 +33,10 @@ module _ (w : Width) (ok : Good w) where
 
   fitAt : (k : ℕ) → Fit (w .M) (rowAt w k)
   unfolding rowAt
-  fitAt k = record { fa = len-take (unit (w .M + w .M) k) (len-unit (w .M + w .M) k); fb = len-rev (drop (w .M) (unit (w .M + w .M) k)) (len-drop (unit (w .M + w .M) k) (len-unit (w .M + w .M) k)); pp = omega arith }
+  fitAt k =
+      let u = unit (w .M + w .M) k in
+      let lu = len-unit (w .M + w .M) k in
+      record { fa = len-take u lu; fb = len-rev (drop (w .M) u) (len-drop u lu); pp = omega arith }
 
   close-turned : (r : Row) (c : ℤ) (t b : List ℤ) → Fit (w .M) r → Len (w .M) b → Close r c t (rev b) → Close (turned r) c t b
   unfolding turned

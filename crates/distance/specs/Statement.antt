@@ -16,6 +16,10 @@ use Rattle.distance.specs.Exact.{least, greatest, rootM, denominator}
 abbrev pub IsWidth : ℕ → Type 0
 IsWidth N = T (byWidth true true true false N)
 
+-- "each from −32,767 to 32,767"
+abbrev pub readingLimit : ℕ
+readingLimit = 32767
+
 -- N readings, each within R
 pub record Block (N R : ℕ) (x : List ℤ) : Type 0 where
   pub long : length x ≡ N
@@ -42,14 +46,14 @@ unfoldable pub promised : ℕ → ℕ
 promised N = 5 * rootM N + 2
 
 abbrev pub Promised : Type 0
-Promised = Distance 32767 promised
+Promised = Distance readingLimit promised
 
 -- ---- 2. The least whole numbers for which the same test passes; and what change request 14 asks.
 unfoldable pub shown : ℕ → ℕ
 shown = byWidth 7 11 20 0
 
 abbrev pub Shown : Type 0
-Shown = Distance 32767 shown
+Shown = Distance readingLimit shown
 
 unfoldable pub requested : ℕ → ℕ
 requested = byWidth 10 18 34 0
@@ -70,13 +74,21 @@ SizesAt N G E = (B : ℕ) (f : List ℤ) → length f ≡ N → AllAbs B f → (
 abbrev pub Sizes : Type 0
 Sizes = (N : ℕ) → IsWidth N → SizesAt N (gain N) (rounding N)
 
--- readings in range fold to values within 46,342 (the gate asks for 50,000)
+-- readings in range fold to values within this (the gate asks for 50,000)
+abbrev pub foldedLimit : ℕ
+foldedLimit = 46342
+
 abbrev pub FoldedAt : ℕ → Type 0
-FoldedAt N = (previous current : List ℤ) → Block N 32767 previous → Block N 32767 current → AllAbs 46342 (lower N current ++ held N previous)
+FoldedAt N = (previous current : List ℤ) → Block N readingLimit previous → Block N readingLimit current → AllAbs foldedLimit (lower N current ++ held N previous)
 
 abbrev pub Folded : Type 0
 Folded = (N : ℕ) → IsWidth N → FoldedAt N
 
--- and their frame is one that the gate lets pass on the way back
+-- and their frame is one that the gate lets pass on the way back: "every coefficient within ±1,048,576"
+abbrev pub coefficientLimit : ℕ
+coefficientLimit = 1048576
+
 abbrev pub FrameSizes : Type 0
-FrameSizes = (N : ℕ) → IsWidth N → (previous current : List ℤ) → Block N 32767 previous → Block N 32767 current → (k : ℕ) → k < N → natAbs (coefficient N previous current k) ≤ 1048576
+FrameSizes =
+    (N : ℕ) → IsWidth N → (previous current : List ℤ) → Block N readingLimit previous → Block N readingLimit current
+    → (k : ℕ) → k < N → natAbs (coefficient N previous current k) ≤ coefficientLimit

@@ -1,12 +1,10 @@
 -- The theorems on the distance, proved: specs/Statement of the crate distance says what each is.
-use mathlib.Core.Bool.{true, false}
 use Prim.Native.Nat.{ℕ}
 use lib.Dec.{T}
-use Rattle.tables.proofs.Widths.{at-each}
 use Rattle.distance.specs.Statement.{IsWidth, Shown, Promised, Requested, Sizes, Folded, FrameSizes}
 use Rattle.distance.proofs.Runs.{Passes, foldTested, passed, both}
 use Rattle.distance.proofs.Width8.{near-8, fold-8}
-use Rattle.distance.proofs.Distance.{shown-of, promised-of, requested-of, sizes-of, folded-of, frame-sizes-of}
+use Rattle.distance.proofs.Distance.{every-width, shown-of, promised-of, requested-of, sizes-of, folded-of, frame-sizes-of}
 use Rattle.distance_runs.proofs.Near32.{near-32}
 use Rattle.distance_runs.proofs.Near128from0.{near-128-from-0}
 use Rattle.distance_runs.proofs.Near128from32.{near-128-from-32}
@@ -22,10 +20,10 @@ passes-128 =
     (both 128 64 96 128 (passed 128 32 64 near-128-from-64) (passed 128 32 96 near-128-from-96))
 
 passes-all : (N : ℕ) → IsWidth N → Passes N 0 N
-passes-all = at-each (λ n b. T b → Passes n 0 n) true true true false (λ t. passed 8 8 0 near-8) (λ t. passed 32 32 0 near-32) (λ t. passes-128) (λ n x y z t. absurd t)
+passes-all = every-width (λ n. Passes n 0 n) (passed 8 8 0 near-8) (passed 32 32 0 near-32) passes-128
 
 folds-all : (N : ℕ) → IsWidth N → T (foldTested N)
-folds-all = at-each (λ n b. T b → T (foldTested n)) true true true false (λ t. fold-8) (λ t. fold-32) (λ t. fold-128) (λ n x y z t. absurd t)
+folds-all = every-width (λ n. T (foldTested n)) fold-8 fold-32 fold-128
 
 -- 1
 pub promised-distance : Promised
