@@ -10,3 +10,4 @@ pub mod Sound
 pub mod Runs
 pub mod Width8
 pub mod Distance
+pub mod ZeroBlock

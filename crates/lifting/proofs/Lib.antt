@@ -3,3 +3,4 @@ pub mod PlaceLaws
 pub mod StepLengths
 pub mod ThirdStage
 pub mod RowForms
+pub mod ZeroBlock
