@@ -9,3 +9,8 @@ pub mod StageSizes
 pub mod TableSizes
 pub mod FrameSizes
 pub mod Parts
+pub mod PlaceLaws
+pub mod StepLengths
+pub mod ThirdStage
+pub mod RowForms
+pub mod ZeroBlock

@@ -1,0 +1,13 @@
+pub mod Transposed
+pub mod Columns
+pub mod Carried
+pub mod Closeness
+pub mod Rotations
+pub mod StageRows
+pub mod FoldRows
+pub mod Ends
+pub mod Sound
+pub mod Runs
+pub mod Width8
+pub mod Distance
+pub mod ZeroBlock

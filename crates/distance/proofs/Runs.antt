@@ -1,0 +1,66 @@
+-- The tests as the checker runs them, on the boxes as numbers, and what each says at its coefficients.
+use mathlib.Core.Path.{_≡_, sym, ap, subst, fun-ext}
+use mathlib.Core.Bool.{Bool, true, false, not}
+use Prim.Native.Nat.{ℕ, _+_, _≤_, _<_}
+use lib.Dec.{T, ltb, ltb→lt, nltb→le, lit<}
+use Rattle.tables.specs.Widths.{byWidth, halfWidth}
+use Rattle.tables.specs.Angles.{halfTurn, reflected, minus, signed}
+use Rattle.tables.specs.Boxes.{Box, negated}
+use Rattle.tables.specs.BoxEnds.{lows, highs}
+use Rattle.tables.specs.Numbers.{sines, halfTangents, halfTangents8, halfTangents32, halfTangents128, secants, secants8, secants32, secants128, cosineOf, sineOf, halfTangentOf, secantOf}
+use Rattle.tables.proofs.BoxTable.{boxAt, cosine-box-is}
+use Rattle.tables.proofs.Quadrants.{reflected-le}
+use Rattle.lifting.specs.Places.{tab}
+use Rattle.lifting.specs.Steps.{rootLog, tangent, sine, cosine, oddOf, secant}
+use Rattle.lifting.specs.RowForm.{Width, third, widthOf}
+use Rattle.distance.specs.Exact.{signedBox, anyCosine}
+use Rattle.distance.specs.Statement.{readingLimit, foldedLimit, shown, gain, rounding}
+use Rattle.distance.proofs.Carried.{Limits, columns, sineBoxes, passes, tested, foldedTested}
+use Rattle.distance.proofs.Sound.{all-from}
+
+unfoldable pub limits : ℕ → Limits
+unfolding shown gain rounding
+limits N = record { reading = readingLimit; distance = shown N; gain = gain N; rounding = rounding N }
+
+-- the box of a cosine from the ends as numbers
+unfoldable pub readCosine : ℕ → Box
+unfolding signedBox negated minus reflected halfTurn boxAt lows highs
+readCosine x = signedBox (minus 512 x) (boxAt (reflected 512 x))
+
+read-cosine : (x : ℕ) → readCosine x ≡ anyCosine x
+unfolding readCosine anyCosine
+read-cosine x = ap (signedBox (minus 512 x)) (sym (cosine-box-is (reflected 512 x) (reflected-le 512 x (lit< tt))))
+
+-- the rows of a width, with every table open
+unfoldable pub openRows : ℕ → Width
+unfolding widthOf halfWidth byWidth rootLog tab tangent sine cosine oddOf secant third sines halfTangents halfTangents8 halfTangents32 halfTangents128 secants secants8 secants32 secants128 cosineOf sineOf halfTangentOf secantOf signed minus reflected halfTurn
+openRows N = widthOf N
+
+-- n coefficients from k on
+unfoldable pub testedAt : ℕ → ℕ → ℕ → Bool
+unfolding tested readCosine limits openRows
+testedAt N n k = tested N (openRows N) readCosine (limits N) n k
+
+-- all folded places
+unfoldable pub foldTested : ℕ → Bool
+unfolding foldedTested openRows
+foldTested N = foldedTested (openRows N) readingLimit foldedLimit
+
+-- coefficient k passes, and every coefficient from `from` below `to`
+abbrev pub passesAt : ℕ → ℕ → Bool
+passesAt N k = passes N (widthOf N) anyCosine (columns (widthOf N)) (sineBoxes N anyCosine) (limits N) k
+
+abbrev pub Passes : ℕ → ℕ → ℕ → Type 0
+Passes N from to = (k : ℕ) → from ≤ k → k < to → T (passesAt N k)
+
+pub passed : (N n k : ℕ) → T (testedAt N n k) → Passes N k (k + n)
+unfolding testedAt tested openRows
+passed N n k t i a b =
+    all-from (passesAt N) n k i (subst (λ box. T (tested N (widthOf N) box (limits N) n k)) (fun-ext read-cosine) t) a b
+
+by-test : (Z : Type 0) (c : Bool) → (T c → Z) → (T (not c) → Z) → Z
+by-test Z true f g = f tt
+by-test Z false f g = g tt
+
+pub both : (N from middle to : ℕ) → Passes N from middle → Passes N middle to → Passes N from to
+both N from middle to f g k a b = by-test (T (passesAt N k)) (ltb k middle) (λ h. f k a (ltb→lt k middle h)) (λ h. g k (nltb→le k middle h) b)

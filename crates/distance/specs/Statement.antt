@@ -1,0 +1,94 @@
+-- What is shown of one frame, over the width N as a letter. The crate distance_runs proves it (proofs/Theorems).
+use mathlib.Core.Path.{_≡_}
+use mathlib.Core.Bool.{true, false}
+use mathlib.Core.List.{List, _++_}
+use Prim.Native.Nat.{ℕ, _+_, _*_, _≤_, _<_}
+use lib.Dec.{T}
+use lib.IntN.{ℤ, pos, natAbs, _-ℤ_, _*ℤ_}
+use lib.ListN.{length}
+use Rattle.integers.specs.Vectors.{AllAbs}
+use Rattle.tables.specs.Widths.{byWidth}
+use Rattle.lifting.specs.Places.{at}
+use Rattle.lifting.specs.Steps.{lower, held, stages, frame}
+use Rattle.distance.specs.Exact.{least, greatest, rootM, denominator}
+
+-- N is 8, 32 or 128
+abbrev pub IsWidth : ℕ → Type 0
+IsWidth N = T (byWidth true true true false N)
+
+-- "each from −32,767 to 32,767"
+abbrev pub readingLimit : ℕ
+readingLimit = 32767
+
+-- N readings, each within R
+pub record Block (N R : ℕ) (x : List ℤ) : Type 0 where
+  pub long : length x ≡ N
+  pub within : AllAbs R x
+
+-- coefficient k of the frame that the steps make of the block before and this one
+unfoldable pub coefficient : ℕ → List ℤ → List ℤ → ℕ → ℤ
+coefficient N previous current k = at (frame N (held N previous) current) k
+
+-- both ends of the exact coefficient k lie within d of coefficient k
+pub record Near (d N : ℕ) (previous current : List ℤ) (k : ℕ) : Type 0 where
+  pub least-near : natAbs (pos (denominator N) *ℤ coefficient N previous current k -ℤ least N k previous current) ≤ d * denominator N
+  pub greatest-near : natAbs (pos (denominator N) *ℤ coefficient N previous current k -ℤ greatest N k previous current) ≤ d * denominator N
+
+-- for every two blocks of readings within R
+abbrev pub DistanceAt : ℕ → ℕ → ℕ → Type 0
+DistanceAt N R d = (previous current : List ℤ) → Block N R previous → Block N R current → (k : ℕ) → k < N → Near d N previous current k
+
+abbrev pub Distance : ℕ → (ℕ → ℕ) → Type 0
+Distance R d = (N : ℕ) → IsWidth N → DistanceAt N R (d N)
+
+-- ---- 1. "both lie within 5√M + 2 of coefficient k of the frame"
+unfoldable pub promised : ℕ → ℕ
+promised N = 5 * rootM N + 2
+
+abbrev pub Promised : Type 0
+Promised = Distance readingLimit promised
+
+-- ---- 2. The least whole numbers for which the same test passes; and what change request 14 asks.
+unfoldable pub shown : ℕ → ℕ
+shown = byWidth 7 11 20 0
+
+abbrev pub Shown : Type 0
+Shown = Distance readingLimit shown
+
+unfoldable pub requested : ℕ → ℕ
+requested = byWidth 10 18 34 0
+
+abbrev pub Requested : Type 0
+Requested = Distance 32766 requested
+
+-- ---- 3. The size of a frame: folded values within B give coefficients within G·B + E, with G in hundredths.
+unfoldable pub gain : ℕ → ℕ
+gain = byWidth 256 510 1019 0
+
+unfoldable pub rounding : ℕ → ℕ
+rounding = byWidth 4 7 11 0
+
+abbrev pub SizesAt : ℕ → ℕ → ℕ → Type 0
+SizesAt N G E = (B : ℕ) (f : List ℤ) → length f ≡ N → AllAbs B f → (k : ℕ) → k < N → 100 * natAbs (at (stages N f) k) ≤ G * B + 100 * E
+
+abbrev pub Sizes : Type 0
+Sizes = (N : ℕ) → IsWidth N → SizesAt N (gain N) (rounding N)
+
+-- readings in range fold to values within this (the gate asks for 50,000)
+abbrev pub foldedLimit : ℕ
+foldedLimit = 46342
+
+abbrev pub FoldedAt : ℕ → Type 0
+FoldedAt N = (previous current : List ℤ) → Block N readingLimit previous → Block N readingLimit current → AllAbs foldedLimit (lower N current ++ held N previous)
+
+abbrev pub Folded : Type 0
+Folded = (N : ℕ) → IsWidth N → FoldedAt N
+
+-- and their frame is one that the gate lets pass on the way back: "every coefficient within ±1,048,576"
+abbrev pub coefficientLimit : ℕ
+coefficientLimit = 1048576
+
+abbrev pub FrameSizes : Type 0
+FrameSizes =
+    (N : ℕ) → IsWidth N → (previous current : List ℤ) → Block N readingLimit previous → Block N readingLimit current
+    → (k : ℕ) → k < N → natAbs (coefficient N previous current k) ≤ coefficientLimit

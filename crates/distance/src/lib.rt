@@ -1,0 +1,1 @@
+// How far a coefficient can be from the exact transform: definitions and proofs, and no code.
