@@ -14,3 +14,4 @@ pub mod StepLengths
 pub mod ThirdStage
 pub mod RowForms
 pub mod ZeroBlock
+pub mod FrameLaws

@@ -5,7 +5,7 @@ ghost use Prim.Native.Nat.{_+_, _<_};
 ghost use lib.ListN.{length};
 ghost use Rattle.integers.specs.Places.{Within};
 ghost use Rattle.tables.specs.Widths.{halfWidth};
-ghost use Rattle.lifting.specs.Steps.{lower, held, unfolded};
+ghost use Rattle.lifting.specs.Steps.{stages, unstages};
 ghost use Rattle.lifting.specs.Expanded.{Halves, top4, bottom5, untop2, unbottom1, Width};
 use crate::expand;
 use crate::room;
@@ -46,4 +46,56 @@ fn staged(undo: bool, width: usize, half: usize, top: &mut [i64], bottom: &mut [
         &mut b[..half],
         &mut row[..half],
     );
+}
+
+// Folded values to the frame, in place; top and bottom are room for the halves.
+fn framed(width: usize, half: usize, work: &mut [i64], top: &mut [i64], bottom: &mut [i64])
+    requires { ⌜ Width width half ⌝ }
+    requires { ⌜ Halves width (now top) (now bottom) ⌝ }
+    requires { ⌜ length (now work) ≡ width ⌝ }
+    requires { ⌜ Within 50000 (now work) ⌝ }
+    ensures { λ _. ⌜ now (work .exit) ≡ Rattle.lifting.specs.Steps.stages width (now (work .entry)) ⌝ }
+{
+    vectors::strided(work, 0, 2, top);
+    vectors::strided(work, 1, 2, bottom);
+    staged(false, width, half, top, bottom);
+    vectors::join(top, bottom, work);
+}
+
+// A frame to its folded values, in place.
+fn unframed(width: usize, half: usize, work: &mut [i64], top: &mut [i64], bottom: &mut [i64])
+    requires { ⌜ Width width half ⌝ }
+    requires { ⌜ Halves width (now top) (now bottom) ⌝ }
+    requires { ⌜ length (now work) ≡ width ⌝ }
+    requires { ⌜ Within 1048576 (now work) ⌝ }
+    ensures { λ _. ⌜ now (work .exit) ≡ Rattle.lifting.specs.Steps.unstages width (now (work .entry)) ⌝ }
+{
+    vectors::strided(work, 0, 1, top);
+    vectors::strided(work, half, 1, bottom);
+    staged(true, width, half, top, bottom);
+    vectors::interleave(top, bottom, work);
+}
+
+// The five stages.
+pub fn stages(width: usize, half: usize, work: &mut [i64])
+    requires { ⌜ Width width half ⌝ }
+    requires { ⌜ length (now work) ≡ width ⌝ }
+    requires { ⌜ Within 50000 (now work) ⌝ }
+    ensures { λ _. ⌜ now (work .exit) ≡ Rattle.lifting.specs.Steps.stages width (now (work .entry)) ⌝ }
+{
+    let mut top = room::of_64();
+    let mut bottom = room::of_64();
+    framed(width, half, work, &mut top[..half], &mut bottom[..half]);
+}
+
+// The five stages undone.
+pub fn unstages(width: usize, half: usize, work: &mut [i64])
+    requires { ⌜ Width width half ⌝ }
+    requires { ⌜ length (now work) ≡ width ⌝ }
+    requires { ⌜ Within 1048576 (now work) ⌝ }
+    ensures { λ _. ⌜ now (work .exit) ≡ Rattle.lifting.specs.Steps.unstages width (now (work .entry)) ⌝ }
+{
+    let mut top = room::of_64();
+    let mut bottom = room::of_64();
+    unframed(width, half, work, &mut top[..half], &mut bottom[..half]);
 }

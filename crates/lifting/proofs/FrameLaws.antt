@@ -1,0 +1,63 @@
+-- What is read from and written to a frame's list: its halves, and the stages over both.
+use mathlib.Core.Path.{_≡_, refl, sym, ap, ap₂, _∙_}
+use mathlib.Core.List.{List, [], _∷_, _++_}
+use Prim.Native.Nat.{ℕ, zero, suc, _+_, _*_, _%_, _≤_, _<_}
+use native.Mathlib.Nat.{mod-eq-of-lt}
+use native.Mathlib.Omega.{arith}
+use lib.IntN.{ℤ, pos, natAbs}
+use lib.ListN.{length, take, drop, length-drop}
+use lib.Seq.{length-take-le, getD-take, getD-drop}
+use Rattle.integers.specs.Places.{places, at, Within}
+use Rattle.integers.proofs.PlaceLaws.{by-places, places-ext, within-places}
+use Rattle.tables.specs.Widths.{halfWidth}
+use Rattle.lifting.specs.Steps.{topOf, bottomOf, stages, unstages, interleaved}
+use Rattle.lifting.specs.Moves.{wovenAt}
+use Rattle.lifting.specs.Expanded.{bottom1, top2, bottom3, top4, bottom5, unbottom5, untop4, unbottom3, untop2, unbottom1}
+
+module _ (N : ℕ) (f : List ℤ) (long : length f ≡ N) (half : halfWidth N + halfWidth N ≡ N) where
+  abbrev M : ℕ
+  M = halfWidth N
+
+  pub read-evens : places M (λ i. at f ((0 + i * 2) % length f)) ≡ topOf N f
+  unfolding topOf
+  read-evens = places-ext M _ _ (λ i l. ap (at f) (mod-eq-of-lt (omega arith) ∙ omega arith))
+
+  pub read-odds : places M (λ i. at f ((1 + i * 2) % length f)) ≡ bottomOf N f
+  unfolding bottomOf
+  read-odds = places-ext M _ _ (λ i l. ap (at f) (mod-eq-of-lt (omega arith) ∙ omega arith))
+
+  pub read-front : places M (λ i. at f ((0 + i * 1) % length f)) ≡ take M f
+  read-front = sym (by-places M (take M f) _ (length-take-le M f (omega arith)) (λ i l. getD-take M f i (pos 0) l ∙ ap (at f) (sym (mod-eq-of-lt (omega arith) ∙ omega arith))))
+
+  pub read-back : places M (λ i. at f ((M + i * 1) % length f)) ≡ drop M f
+  read-back = sym (by-places M (drop M f) _ (length-drop M f ∙ omega arith) (λ i l. getD-drop M f i (pos 0) ∙ ap (at f) (sym (mod-eq-of-lt (omega arith) ∙ omega arith))))
+
+  pub stages-halves : top4 N (topOf N f) (bottomOf N f) ++ bottom5 N (topOf N f) (bottomOf N f) ≡ stages N f
+  unfolding stages top4 bottom5 bottom3 top2 bottom1
+  stages-halves = refl
+
+  pub unstages-halves : places (length f) (wovenAt (untop2 N (take M f) (drop M f)) (unbottom1 N (take M f) (drop M f))) ≡ unstages N f
+  unfolding unstages interleaved wovenAt untop2 unbottom1 unbottom3 untop4 unbottom5
+  unstages-halves = ap (λ n. places n (wovenAt (untop2 N (take M f) (drop M f)) (unbottom1 N (take M f) (drop M f)))) long
+
+-- limits on the parts of a list
+taken : (B n : ℕ) (f : List ℤ) (i : ℕ) → Within B f → natAbs (at (take n f) i) ≤ B
+taken B zero f i h = omega arith
+taken B (suc n) [] i h = omega arith
+taken B (suc n) (x ∷ f) zero h = h .size 0
+taken B (suc n) (x ∷ f) (suc i) h = taken B n f i (record { size = λ j. h .size (suc j) })
+
+module _ (N B : ℕ) (f : List ℤ) (h : Within B f) where
+  pub top-within : Within B (topOf N f)
+  unfolding topOf
+  top-within = within-places (halfWidth N) B _ (λ m l. h .size (2 * m))
+
+  pub bottom-within : Within B (bottomOf N f)
+  unfolding bottomOf
+  bottom-within = within-places (halfWidth N) B _ (λ m l. h .size (2 * m + 1))
+
+  pub take-within : (n : ℕ) → Within B (take n f)
+  take-within n = record { size = λ i. taken B n f i h }
+
+  pub drop-within : (n : ℕ) → Within B (drop n f)
+  drop-within n = record { size = λ i. rw (getD-drop n f i (pos 0)) (h .size (n + i)) }
