@@ -55,15 +55,19 @@ strided-requires-2 : tie.Need-strided-requires-2
 strided-requires-2 c κs = let s = c .before .before .before .before .before .before in (omega (arith, wide s, twice s, long s), omega (arith, wide s, twice s, long s), omega (arith, wide s, twice s, long s))
 
 staged-requires : tie.Need-staged-requires
-staged-requires c κs = 
+staged-requires c κs =
     let q = c .before .before .before in
     let p = q .before .before .before .before in
-    let s = p .before .before .before in
-    (s .pre .0, (record { top-long = ap length (top1 p) ∙ length-top (N s) (work s); bottom-long = ap length (bottom1 q) ∙ length-bottom (N s) (work s) },
-    (subst (Within 50000) (sym (top1 p)) (top-within (N s) 50000 (work s) (s .pre .1 .1 .1)), subst (Within 50000) (sym (bottom1 q)) (bottom-within (N s) 50000 (work s) (s .pre .1 .1 .1)))))
+    let s = p .before .before .before in (
+      s .pre .0,
+      (
+        record { top-long = ap length (top1 p) ∙ length-top (N s) (work s); bottom-long = ap length (bottom1 q) ∙ length-bottom (N s) (work s) },
+        (subst (Within 50000) (sym (top1 p)) (top-within (N s) 50000 (work s) (s .pre .1 .1 .1)), subst (Within 50000) (sym (bottom1 q)) (bottom-within (N s) 50000 (work s) (s .pre .1 .1 .1))),
+      ),
+    )
 
 join-requires : tie.Need-join-requires
-join-requires c κs = 
+join-requires c κs =
     let g = c .before .before .before .before .before in
     let s = g .before .before .before .before .before .before .before .before .before .before .before in
     let x = ap length (g .staged .ensures .0) ∙ long4 (N s) _ _ in
@@ -80,7 +84,7 @@ same-length-3 : tie.Need-same-length-3
 same-length-3 c = search needs
 
 returns : tie.Need-returns
-returns c = 
+returns c =
     let j = c .before in
     let g = j .before .before .before .before .before .before in
     let q = g .before .before .before .before in

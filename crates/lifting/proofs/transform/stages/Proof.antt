@@ -31,11 +31,16 @@ slice-aggregate-framed-2 c = part-long _ (c .before .before .before .of-642 .res
 
 framed-requires : tie.Need-framed-requires
 framed-requires c κs =
-    let s = c .before .before .before .before .before in
-    (s .pre .0, (record {
-      top-long = sym (part-long _ (c .before .before .before .before .of-64 .result) (omega (arith, c .before .before .before .before .of-64 .ensures, half-le s))) ∙ s .pre .0 .half-is;
-      bottom-long = sym (part-long _ (c .before .before .before .of-642 .result) (omega (arith, c .before .before .before .of-642 .ensures, half-le s))) ∙ s .pre .0 .half-is
-    }, s .pre .1))
+    let s = c .before .before .before .before .before in (
+      s .pre .0,
+      (
+        record {
+          top-long = sym (part-long _ (c .before .before .before .before .of-64 .result) (omega (arith, c .before .before .before .before .of-64 .ensures, half-le s))) ∙ s .pre .0 .half-is;
+          bottom-long = sym (part-long _ (c .before .before .before .of-642 .result) (omega (arith, c .before .before .before .of-642 .ensures, half-le s))) ∙ s .pre .0 .half-is;
+        },
+        s .pre .1,
+      ),
+    )
 
 same-length : tie.Need-same-length
 same-length c = search needs

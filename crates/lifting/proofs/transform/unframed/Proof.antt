@@ -55,15 +55,19 @@ strided-requires-2 : tie.Need-strided-requires-2
 strided-requires-2 c κs = let s = c .before .before .before .before .before .before in (omega (arith, wide s, twice s, long s, s .pre .0 .half-is), omega (arith, wide s, twice s, long s), omega (arith, wide s, twice s, long s))
 
 staged-requires : tie.Need-staged-requires
-staged-requires c κs = 
+staged-requires c κs =
     let q = c .before .before .before in
     let p = q .before .before .before .before in
-    let s = p .before .before .before in
-    (s .pre .0, (record { top-long = q .before .before .before .top .given ∙ s .pre .1 .0 .top-long; bottom-long = c .before .before .bottom .given ∙ s .pre .1 .0 .bottom-long },
-    (subst (Within 1048576) (sym (top1 p)) (take-within (N s) 1048576 (work s) (s .pre .1 .1 .1) (M s)), subst (Within 1048576) (sym (bottom1 q)) (drop-within (N s) 1048576 (work s) (s .pre .1 .1 .1) (M s)))))
+    let s = p .before .before .before in (
+      s .pre .0,
+      (
+        record { top-long = q .before .before .before .top .given ∙ s .pre .1 .0 .top-long; bottom-long = c .before .before .bottom .given ∙ s .pre .1 .0 .bottom-long },
+        (subst (Within 1048576) (sym (top1 p)) (take-within (N s) 1048576 (work s) (s .pre .1 .1 .1) (M s)), subst (Within 1048576) (sym (bottom1 q)) (drop-within (N s) 1048576 (work s) (s .pre .1 .1 .1) (M s))),
+      ),
+    )
 
 interleave-requires : tie.Need-interleave-requires
-interleave-requires c κs = 
+interleave-requires c κs =
     let g = c .before .before .before .before .before in
     let s = g .before .before .before .before .before .before .before .before .before .before .before in
     let x = ap length (g .staged .ensures .0) ∙ unlong2 (N s) _ _ in
@@ -80,7 +84,7 @@ same-length-3 : tie.Need-same-length-3
 same-length-3 c = search needs
 
 returns : tie.Need-returns
-returns c = 
+returns c =
     let j = c .before in
     let g = j .before .before .before .before .before .before in
     let q = g .before .before .before .before in

@@ -44,7 +44,7 @@ same-length : tie.Need-same-length Inv-loop μ-loop
 same-length c = omega arith
 
 returns : tie.Need-returns Inv-loop μ-loop
-returns c = 
+returns c =
     let s = c .before .before in
     let xs = s .args .front .now ++ s .args .rest .now in
     filling-all (c .before .loop .inv .1) (omega arith) ∙ ap (λ n. places n (at xs)) (s .pre) ∙ places-at _ xs (length-append (s .args .front .now) (s .args .rest .now))

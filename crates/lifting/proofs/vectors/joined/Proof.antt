@@ -32,7 +32,7 @@ shared-slice-copy-out-result-2 : tie.Need-shared-slice-copy-out-result-2
 shared-slice-copy-out-result-2 c = search needs
 
 returns-2 : tie.Need-returns-2
-returns-2 c = 
+returns-2 c =
     let a = c .before .before .args in
     held-ok w64 _ (c .result2 .given) .is ∙ sym (getD-append-add (a .front .now) (a .rest .now) (a .i - length (a .front .now)) (pos 0)) ∙ ap (at (a .front .now ++ a .rest .now)) (omega (arith, c .before .if1 .left))
 
