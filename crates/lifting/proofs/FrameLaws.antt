@@ -1,17 +1,18 @@
 -- What is read from and written to a frame's list: its halves, and the stages over both.
-use mathlib.Core.Path.{_≡_, refl, sym, ap, ap₂, _∙_}
+use mathlib.Core.Path.{_≡_, refl, sym, ap, subst, _∙_}
 use mathlib.Core.List.{List, [], _∷_, _++_}
-use Prim.Native.Nat.{ℕ, zero, suc, _+_, _*_, _%_, _≤_, _<_}
+use Prim.Native.Nat.{ℕ, zero, suc, _+_, _*_, _%_, _^_, _≤_, _<_}
 use native.Mathlib.Nat.{mod-eq-of-lt}
 use native.Mathlib.Omega.{arith}
 use lib.IntN.{ℤ, pos, natAbs}
 use lib.ListN.{length, take, drop, length-drop}
 use lib.Seq.{length-take-le, getD-take, getD-drop}
 use Rattle.integers.specs.Places.{places, at, Within}
-use Rattle.integers.proofs.PlaceLaws.{by-places, places-ext, within-places}
+use Rattle.integers.proofs.PlaceLaws.{by-places, places-ext, within-places, within-up}
 use Rattle.tables.specs.Widths.{halfWidth}
 use Rattle.lifting.specs.Steps.{topOf, bottomOf, stages, unstages, interleaved}
 use Rattle.lifting.specs.Moves.{wovenAt}
+use Rattle.lifting.proofs.FrameSizes.{within4, within5}
 use Rattle.lifting.specs.Expanded.{bottom1, top2, bottom3, top4, bottom5, unbottom5, untop4, unbottom3, untop2, unbottom1}
 
 module _ (N : ℕ) (f : List ℤ) (long : length f ≡ N) (half : halfWidth N + halfWidth N ≡ N) where
@@ -61,3 +62,16 @@ module _ (N B : ℕ) (f : List ℤ) (h : Within B f) where
 
   pub drop-within : (n : ℕ) → Within B (drop n f)
   drop-within n = record { size = λ i. rw (getD-drop n f i (pos 0)) (h .size (n + i)) }
+
+appended : (B : ℕ) (xs ys : List ℤ) → Within B xs → Within B ys → (i : ℕ) → natAbs (at (xs ++ ys) i) ≤ B
+appended B [] ys h k i = k .size i
+appended B (x ∷ xs) ys h k zero = h .size 0
+appended B (x ∷ xs) ys h k (suc i) = appended B xs ys (record { size = λ j. h .size (suc j) }) k i
+
+-- a coefficient of folded values in range fits 32 bits
+pub stages-within : (N : ℕ) (f : List ℤ) → length f ≡ N → halfWidth N + halfWidth N ≡ N → Within 50000 f → Within (2 ^ 30) (stages N f)
+stages-within N f l e h =
+    let t = top-within N 50000 f h in
+    let b = bottom-within N 50000 f h in
+    subst (Within (2 ^ 30)) (stages-halves N f l e)
+    (record { size = appended (2 ^ 30) _ _ (within-up (within4 N _ _ t b) (omega arith)) (within-up (within5 N _ _ t b) (omega arith)) })

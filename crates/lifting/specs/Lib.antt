@@ -4,3 +4,4 @@ pub mod Moves
 pub mod Expanded
 pub mod RowForm
 pub mod Sample
+pub mod Gate

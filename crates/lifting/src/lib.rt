@@ -1,5 +1,7 @@
 // The lapped transform of one frame, by lifting.
 mod expand;
+pub mod frame;
+pub mod gate;
 mod room;
 mod stages;
 mod sums;

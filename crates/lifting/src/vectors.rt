@@ -157,3 +157,28 @@ pub fn join(front: &[i64], rest: &[i64], out: &mut [i64])
         i += 1;
     }
 }
+
+// The numbers, each as an i64.
+pub fn widen(x: &[i32], out: &mut [i64])
+    requires { ⌜ length (now x) ≡ length (now out) ⌝ }
+    ensures { λ _. ⌜ now (out .exit) ≡ now (x .entry) ⌝ }
+{
+    let mut i = 0;
+    while i < x.len() {
+        out[i] = x[i] as i64;
+        i += 1;
+    }
+}
+
+// The numbers, each as an i32.
+pub fn narrow(x: &[i64], out: &mut [i32])
+    requires { ⌜ length (now x) ≡ length (now out) ⌝ }
+    requires { ⌜ Within (2 ^ 30) (now x) ⌝ }
+    ensures { λ _. ⌜ now (out .exit) ≡ now (x .entry) ⌝ }
+{
+    let mut i = 0;
+    while i < out.len() {
+        out[i] = x[i] as i32;
+        i += 1;
+    }
+}

@@ -1,0 +1,109 @@
+-- `lifting::frame::staged` meets its contract.
+use borrow.Author.Needs.{needs}
+use native.Mathlib.Omega.{arith}
+use mathlib.Core.Path.{_≡_, sym, ap, subst, _∙_}
+use mathlib.Core.List.{List}
+use Prim.Native.Nat.{ℕ, _+_, _^_}
+use lib.IntN.{ℤ, pos}
+use lib.ListN.{length}
+use Rattle.integers.specs.Places.{Within}
+use Rattle.integers.proofs.PlaceLaws.{within-up}
+use Rattle.tables.specs.Widths.{halfWidth}
+use Rattle.lifting.specs.Steps.{stages, unstages}
+use Rattle.lifting.specs.Gate.{told, firstBeyond}
+use Rattle.lifting.specs.declared.gate.Answer.the-variants.{Done}
+use Rattle.lifting.specs.declared.gate.Found.the-variants.{Nothing}
+use Rattle.lifting.proofs.Undo.{width-half, length-stages, length-unstages}
+use Rattle.lifting.proofs.FrameLaws.{stages-within}
+use Rattle.lifting.proofs.GateLaws.{none-within, stages-refused, stages-done, unstages-refused, unstaged-refused, unstages-done}
+use Rattle.lifting.proofs.frame.staged.Statement.{statement}
+use Rattle.lifting.proofs.frame.staged.Tie as tie
+
+module _ (s : tie.Start) where
+  abbrev N : ℕ
+  N = s .args .width
+
+  abbrev values : List ℤ
+  values = s .args .folded .now
+
+-- the values widened, and the question's finding about them
+module _ (f : tie.After-first-beyond) where
+  abbrev from : tie.Start
+  from = f .before .before .before .before .before
+
+  wide : f .before .before .before .widen .last .1 .0 ≡ values from
+  wide = f .before .before .before .widen .ensures
+
+  seen : firstBeyond (pos 50000) (values from) 0 ≡ f .first-beyond .result
+  seen = sym (f .first-beyond .ensures ∙ ap (λ l. firstBeyond (pos 50000) l 0) wide)
+
+module _ (c : tie.After-enum-told) where
+  none : firstBeyond (pos 50000) (values (from (c .before .before))) 0 ≡ Nothing
+  none = seen (c .before .before) ∙ c .enum-told .given .1
+
+  inside : Within 50000 (values (from (c .before .before)))
+  inside = none-within 50000 _ none
+
+made : (c : tie.After-stages) → c .stages .last .1 .1 .0 ≡ stages (N (from (c .before .before .before .before))) (values (from (c .before .before .before .before)))
+made c = c .stages .ensures ∙ ap (stages (N (from (c .before .before .before .before)))) (wide (c .before .before .before .before))
+
+widen-requires : tie.Need-widen-requires
+widen-requires c κs = search needs
+
+first-beyond-requires : tie.Need-first-beyond-requires
+first-beyond-requires c κs = search needs
+
+enum-known-beyond : tie.Need-enum-known-beyond
+enum-known-beyond c = search needs
+
+same-length : tie.Need-same-length
+same-length c = search needs
+
+returns : tie.Need-returns
+returns c = let f = c .before .before .before in stages-refused (N (from f)) (values (from f)) (from f .args .frame .now) _ (seen f ∙ c .before .beyond .given .1)
+
+enum-told : tie.Need-enum-told
+enum-told c = search needs
+
+stages-requires : tie.Need-stages-requires
+stages-requires c κs =
+    let f = c .before .before .before in
+    let s = from f in
+    (s .pre .0, (ap length (wide f) ∙ s .pre .1 .0, subst (Within 50000) (sym (wide f)) (inside (c .before))))
+
+narrow-requires : tie.Need-narrow-requires
+narrow-requires c κs =
+    let g = c .before .before .before in
+    let s = from (g .before .before .before .before) in
+    let half = width-half (N s) (s .pre .0 .wide) in (
+      ap length (made g) ∙ length-stages (N s) (values s) ∙ half ∙ sym (s .pre .1 .2),
+      subst (Within (2 ^ 30)) (sym (made g)) (stages-within (N s) (values s) (s .pre .1 .0) half (inside (g .before .before))),
+    )
+
+same-length-2 : tie.Need-same-length-2
+same-length-2 c = search needs
+
+same-length-3 : tie.Need-same-length-3
+same-length-3 c = search needs
+
+returns-2 : tie.Need-returns-2
+returns-2 c =
+    let g = c .before .before .before .before .before in
+    let s = from (g .before .before .before .before) in
+    ap (λ (l : List ℤ). (told Done, l)) (c .before .narrow .ensures ∙ made g) ∙ stages-done (N s) (values s) (s .args .frame .now) (none (g .before .before))
+
+pub staged-spec : {M : Type 1} → statement M
+staged-spec =
+    tie.close
+    (tie.spec
+    widen-requires
+    first-beyond-requires
+    enum-known-beyond
+    same-length
+    returns
+    enum-told
+    stages-requires
+    narrow-requires
+    same-length-2
+    same-length-3
+    returns-2)

@@ -1,0 +1,53 @@
+use borrow.Author.Needs.{needs}
+use Rattle.lifting.proofs.frame.stages.Statement.{statement}
+use Rattle.lifting.proofs.frame.stages.Tie as tie
+use Rattle.lifting.proofs.frame.stages.Reads as reads
+use Rattle.lifting.proofs.frame.stages.Lts as lts
+use Rattle.lifting.proofs.frame.staged.Reads as staged-reads
+use Rattle.lifting.proofs.room.of_128.Reads as of-128-reads
+use Rattle.tables.proofs.widths.half_width.Reads as half-width-reads
+
+half-width-requires : tie.Need-half-width-requires
+half-width-requires c κs = search needs
+
+returns : tie.Need-returns
+returns c = ?
+
+returns-2 : tie.Need-returns-2
+returns-2 c = ?
+
+returns-3 : tie.Need-returns-3
+returns-3 c = ?
+
+of-128-requires : tie.Need-of-128-requires
+of-128-requires c κs = search needs
+
+array-borrow-prefix-work : tie.Need-array-borrow-prefix-work
+array-borrow-prefix-work c = ?
+
+slice-aggregate-staged : tie.Need-slice-aggregate-staged
+slice-aggregate-staged c = ?
+
+staged-requires : tie.Need-staged-requires
+staged-requires c κs = ?
+
+same-length : tie.Need-same-length
+same-length c = search needs
+
+returns-4 : tie.Need-returns-4
+returns-4 c = ?
+
+pub stages-spec : {M : Type 1} → statement M
+stages-spec =
+    tie.close
+    (tie.spec
+    half-width-requires
+    returns
+    returns-2
+    returns-3
+    of-128-requires
+    array-borrow-prefix-work
+    slice-aggregate-staged
+    staged-requires
+    same-length
+    returns-4)

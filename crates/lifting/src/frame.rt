@@ -1,0 +1,82 @@
+// The five stages alone, both ways, for any caller.
+ghost use mathlib.Core.Path.{_≡_};
+ghost use lib.ListN.{length};
+ghost use Rattle.lifting.specs.Expanded.{Width};
+ghost use Rattle.lifting.specs.Gate.{told, stagesAsked, unstagesAsked, stagesAlone, unstagesAlone};
+use crate::gate;
+use crate::gate::Answer;
+use crate::gate::Found;
+use crate::room;
+use crate::transform;
+use crate::vectors;
+use tables::widths;
+
+fn staged(width: usize, half: usize, folded: &[i32], work: &mut [i64], frame: &mut [i32]) -> Answer
+    requires { ⌜ Width width half ⌝ }
+    requires { ⌜ (length (now folded) ≡ width) × (length (now work) ≡ width) × (length (now frame) ≡ width) ⌝ }
+    ensures { λ r. ⌜ (told r, now (frame .exit)) ≡ stagesAsked width (now (folded .entry)) (now (frame .entry)) ⌝ }
+{
+    vectors::widen(folded, work);
+    let beyond = gate::first_beyond(work, 50000);
+    if let Found::At(place) = beyond {
+        return Answer::Folded(place);
+    }
+    transform::stages(width, half, work);
+    vectors::narrow(work, frame);
+    Answer::Done
+}
+
+fn unstaged(width: usize, half: usize, frame: &[i32], work: &mut [i64], folded: &mut [i32]) -> Answer
+    requires { ⌜ Width width half ⌝ }
+    requires { ⌜ (length (now frame) ≡ width) × (length (now work) ≡ width) × (length (now folded) ≡ width) ⌝ }
+    ensures { λ r. ⌜ (told r, now (folded .exit)) ≡ unstagesAsked width (now (frame .entry)) (now (folded .entry)) ⌝ }
+{
+    vectors::widen(frame, work);
+    let coefficient = gate::first_beyond(work, 1048576);
+    if let Found::At(place) = coefficient {
+        return Answer::Range(place);
+    }
+    transform::unstages(width, half, work);
+    let value = gate::first_beyond(work, 50000);
+    if let Found::At(place) = value {
+        return Answer::Folded(place);
+    }
+    vectors::narrow(work, folded);
+    Answer::Done
+}
+
+// Folded values to the coefficients of their frame.
+pub fn stages(width: usize, folded: &[i32], frame: &mut [i32]) -> Answer
+    ensures { λ r. ⌜ (told r, now (frame .exit)) ≡ stagesAlone width (now (folded .entry)) (now (frame .entry)) ⌝ }
+{
+    let half = widths::half_width(width);
+    if half == 0 {
+        return Answer::Width;
+    }
+    if folded.len() != width {
+        return Answer::InputLength;
+    }
+    if frame.len() != width {
+        return Answer::OutputLength;
+    }
+    let mut work = room::of_128();
+    staged(width, half, folded, &mut work[..width], frame)
+}
+
+// The coefficients of a frame to its folded values.
+pub fn unstages(width: usize, frame: &[i32], folded: &mut [i32]) -> Answer
+    ensures { λ r. ⌜ (told r, now (folded .exit)) ≡ unstagesAlone width (now (frame .entry)) (now (folded .entry)) ⌝ }
+{
+    let half = widths::half_width(width);
+    if half == 0 {
+        return Answer::Width;
+    }
+    if frame.len() != width {
+        return Answer::InputLength;
+    }
+    if folded.len() != width {
+        return Answer::OutputLength;
+    }
+    let mut work = room::of_128();
+    unstaged(width, half, frame, &mut work[..width], folded)
+}
