@@ -5,7 +5,7 @@ use mathlib.Core.List.{List, [], _∷_}
 use Prim.Native.Nat.{ℕ, zero, suc, _+_, _≤_, _<_}
 use native.Mathlib.Numerals.{add-one}
 use native.Mathlib.Omega.{arith}
-use borrow.Author.Tests.{lt-ltb, le-ltb, ltb-true, ltb-false}
+use borrow.Author.Tests.{lt-ltb, le-ltb, ltb-true, ltb-false, eq-eqb, ne-eqb}
 use lib.Dec.{T, eqb}
 use lib.IntN.{ℤ, pos, negsuc, negℤ, natAbs}
 use lib.ListN.{length, getD, drop}
@@ -105,20 +105,20 @@ module _ (N : ℕ) (values out : List ℤ) where
 
 -- ---- questions 1, 6 and 7
 module _ (N : ℕ) (given out : List ℤ) (next : Given) where
-  pub width-refused : eqb (halfWidth N) 0 ≡ true → (told Width, out) ≡ shaped N given out next
+  pub width-refused : halfWidth N ≡ 0 → (told Width, out) ≡ shaped N given out next
   unfolding told shaped
-  width-refused e = rw e refl
+  width-refused e = rw (eq-eqb _ _ e)
 
-  module _ (w : eqb (halfWidth N) 0 ≡ false) where
-    pub input-refused : eqb (length given) N ≡ false → (told InputLength, out) ≡ shaped N given out next
+  module _ (w : halfWidth N ≡ 0 → ⊥) where
+    pub input-refused : (length given ≡ N → ⊥) → (told InputLength, out) ≡ shaped N given out next
     unfolding told shaped
-    input-refused e = rw (w, e) refl
+    input-refused e = rw (ne-eqb _ _ w, ne-eqb _ _ e)
 
-    module _ (g : eqb (length given) N ≡ true) where
-      pub output-refused : eqb (length out) N ≡ false → (told OutputLength, out) ≡ shaped N given out next
+    module _ (g : length given ≡ N) where
+      pub output-refused : (length out ≡ N → ⊥) → (told OutputLength, out) ≡ shaped N given out next
       unfolding told shaped
-      output-refused e = rw (w, g, e) refl
+      output-refused e = rw (ne-eqb _ _ w, eq-eqb _ _ g, ne-eqb _ _ e)
 
-      pub shape-passed : eqb (length out) N ≡ true → next ≡ shaped N given out next
+      pub shape-passed : length out ≡ N → next ≡ shaped N given out next
       unfolding shaped
-      shape-passed e = rw (w, g, e) refl
+      shape-passed e = rw (ne-eqb _ _ w, eq-eqb _ _ g, eq-eqb _ _ e)

@@ -26,7 +26,13 @@ fn staged(width: usize, half: usize, folded: &[i32], work: &mut [i64], frame: &m
     Answer::Done
 }
 
-fn unstaged(width: usize, half: usize, frame: &[i32], work: &mut [i64], folded: &mut [i32]) -> Answer
+fn unstaged(
+    width: usize,
+    half: usize,
+    frame: &[i32],
+    work: &mut [i64],
+    folded: &mut [i32],
+) -> Answer
     requires { ⌜ Width width half ⌝ }
     requires { ⌜ (length (now frame) ≡ width) × (length (now work) ≡ width) × (length (now folded) ≡ width) ⌝ }
     ensures { λ r. ⌜ (told r, now (folded .exit)) ≡ unstagesAsked width (now (frame .entry)) (now (folded .entry)) ⌝ }

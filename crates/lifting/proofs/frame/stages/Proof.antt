@@ -1,41 +1,87 @@
+-- `lifting::frame::stages` meets its contract.
 use borrow.Author.Needs.{needs}
+use native.Mathlib.Omega.{arith}
+use mathlib.Core.Path.{_≡_, refl, sym, ap, _∙_}
+use mathlib.Core.List.{List}
+use Prim.Native.Nat.{ℕ, _≤_, _<_}
+use lib.IntN.{ℤ}
+use lib.ListN.{length, take}
+use Rattle.tables.specs.Widths.{halfWidth}
+use Rattle.tables.proofs.ByWidth.{half-width-le}
+use Rattle.lifting.specs.Expanded.{Width}
+use Rattle.lifting.specs.Gate.{Given, stagesAsked, stagesAlone}
+use Rattle.lifting.proofs.Undo.{width-half}
+use Rattle.lifting.proofs.Parts.{part-long}
+use Rattle.lifting.proofs.GateLaws.{width-refused, input-refused, output-refused, shape-passed}
 use Rattle.lifting.proofs.frame.stages.Statement.{statement}
 use Rattle.lifting.proofs.frame.stages.Tie as tie
-use Rattle.lifting.proofs.frame.stages.Reads as reads
-use Rattle.lifting.proofs.frame.stages.Lts as lts
-use Rattle.lifting.proofs.frame.staged.Reads as staged-reads
-use Rattle.lifting.proofs.room.of_128.Reads as of-128-reads
-use Rattle.tables.proofs.widths.half_width.Reads as half-width-reads
+
+module _ (s : tie.Start) where
+  abbrev N : ℕ
+  N = s .args .width
+
+  abbrev given : List ℤ
+  given = s .args .folded .now
+
+  abbrev out : List ℤ
+  out = s .args .frame .now
+
+  abbrev next : Given
+  next = stagesAsked N given out
+
+-- the width and the lengths are right
+module _ (e : tie.Else3) where
+  abbrev from : tie.Start
+  from = e .before .before .before .before
+
+  has-width : halfWidth (N from) ≡ 0 → ⊥
+  has-width h = e .before .before .if1 .left (e .before .before .before .half-width .ensures ∙ h)
+
+  width : Width (N from) (e .before .before .before .half-width .result)
+  width = record { half-is = e .before .before .before .half-width .ensures; wide = omega (arith, has-width) }
+
+  width-le : N from ≤ 128
+  width-le = omega (arith, width-half (N from) (width .wide), half-width-le (N from))
+
+part : (c : tie.After-of-128) → N (from (c .before)) ≡ length (take (N (from (c .before))) (c .of-128 .result))
+part c = part-long _ (c .of-128 .result) (omega (arith, c .of-128 .ensures, width-le (c .before)))
 
 half-width-requires : tie.Need-half-width-requires
 half-width-requires c κs = search needs
 
 returns : tie.Need-returns
-returns c = ?
+unfolding stagesAlone
+returns c = let s = c .before .before in width-refused (N s) (given s) (out s) (next s) (sym (c .before .half-width .ensures) ∙ c .if1 .taken)
 
 returns-2 : tie.Need-returns-2
-returns-2 c = ?
+unfolding stagesAlone
+returns-2 c = let s = c .before .before .before in input-refused (N s) (given s) (out s) (next s) (λ h. c .before .if1 .left (c .before .before .half-width .ensures ∙ h)) (c .if2 .taken)
 
 returns-3 : tie.Need-returns-3
-returns-3 c = ?
+unfolding stagesAlone
+returns-3 c = let s = c .before .before .before .before in output-refused (N s) (given s) (out s) (next s) (λ h. c .before .before .if1 .left (c .before .before .before .half-width .ensures ∙ h)) (c .before .if2 .left) (c .if3 .taken)
 
 of-128-requires : tie.Need-of-128-requires
 of-128-requires c κs = search needs
 
 array-borrow-prefix-work : tie.Need-array-borrow-prefix-work
-array-borrow-prefix-work c = ?
+array-borrow-prefix-work c = omega (arith, c .of-128 .ensures, width-le (c .before))
 
 slice-aggregate-staged : tie.Need-slice-aggregate-staged
-slice-aggregate-staged c = ?
+slice-aggregate-staged c = part (c .before)
 
 staged-requires : tie.Need-staged-requires
-staged-requires c κs = ?
+staged-requires c κs = let e = c .before .before .before in (width e, (e .before .if2 .left, sym (part (c .before .before)), e .if3 .left))
 
 same-length : tie.Need-same-length
 same-length c = search needs
 
 returns-4 : tie.Need-returns-4
-returns-4 c = ?
+unfolding stagesAlone
+returns-4 c =
+    let e = c .before .before .before .before .before .before in
+    let s = from e in
+    c .before .before .staged .ensures ∙ shape-passed (N s) (given s) (out s) (next s) (has-width e) (e .before .if2 .left) (e .if3 .left)
 
 pub stages-spec : {M : Type 1} → statement M
 stages-spec =
