@@ -15,3 +15,4 @@ pub mod ThirdStage
 pub mod RowForms
 pub mod ZeroBlock
 pub mod FrameLaws
+pub mod FoldLaws

@@ -1,5 +1,6 @@
 // The lapped transform of one frame, by lifting.
 mod expand;
+pub mod folding;
 mod room;
 mod stages;
 mod sums;
