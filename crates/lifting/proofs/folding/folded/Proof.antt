@@ -87,9 +87,13 @@ rotated-requires : tie.Need-rotated-requires
 rotated-requires c κs =
     let q = c .before .before .before in
     let p = q .before .before .before in
-    let s = start q in
-    (s .pre .0, (record { top-long = ap length (firsts p) ∙ length-places _ _; bottom-long = ap length (lasts q) ∙ length-places _ _ },
-    (subst (Within 50000) (sym (firsts p)) (starts-within s), subst (Within 50000) (sym (lasts q)) (ends-within s))))
+    let s = start q in (
+      s .pre .0,
+      (
+        record { top-long = ap length (firsts p) ∙ length-places _ _; bottom-long = ap length (lasts q) ∙ length-places _ _ },
+        (subst (Within 50000) (sym (firsts p)) (starts-within s), subst (Within 50000) (sym (lasts q)) (ends-within s)),
+      ),
+    )
 
 sub-strided-3 : tie.Need-sub-strided-3
 sub-strided-3 c = let s = start (second (c .before .before .before)) in omega (arith, wide s, s .pre .0 .half-is)
@@ -119,13 +123,14 @@ returns c =
     let g = e .before .before .before .before .before in
     let s = start (second g) in
     let x = foldedA (N s) (block s) in
-    let n = length-places (M s) (λ n. rotatedA (N s) n (at (starts (N s) (block s)) n) (at (ends (N s) (block s)) n)) in
-    (e .strided3 .ensures
-    ∙ ap₂ (λ k h. places k (λ i. at (g .rotated .last .1 .1 .1 .0) ((h - 1 + i * (h - 1)) % length (g .rotated .last .1 .1 .1 .0)))) (s .pre .1 .1 .0 .1) (s .pre .0 .half-is)
-    ∙ ap (λ y. places (M s) (λ i. at y ((M s - 1 + i * (M s - 1)) % length y))) (a-is g)
-    ∙ stride-reverse x (M s) n
-    ∙ lower-is (N s) (block s),
-    b-is g ∙ held-is (N s) (block s))
+    let n = length-places (M s) (λ n. rotatedA (N s) n (at (starts (N s) (block s)) n) (at (ends (N s) (block s)) n)) in (
+      e .strided3 .ensures
+          ∙ ap₂ (λ k h. places k (λ i. at (g .rotated .last .1 .1 .1 .0) ((h - 1 + i * (h - 1)) % length (g .rotated .last .1 .1 .1 .0)))) (s .pre .1 .1 .0 .1) (s .pre .0 .half-is)
+          ∙ ap (λ y. places (M s) (λ i. at y ((M s - 1 + i * (M s - 1)) % length y))) (a-is g)
+          ∙ stride-reverse x (M s) n
+          ∙ lower-is (N s) (block s),
+      b-is g ∙ held-is (N s) (block s),
+    )
 
 pub folded-spec : {M : Type 1} → statement M
 folded-spec =

@@ -161,9 +161,10 @@ lift-requires-3 : tie.Need-lift-requires-3
 lift-requires-3 c κs =
     let p = c .before .before .before in
     let l = lift1 (products2 (lift2 p)) in
-    let s = start1 l in
-    (ap length (spare3 p) ∙ length-places _ _ ∙ sym (ap length (first l) ∙ length-places _ _),
-    (subst (Moves 28) (sym (spare3 p)) (amounts-move (M s) 150000 0 (tangents s) (a₂ s) (b₁ s) (tw s) (a₂w s) (omega arith)), subst (Within (2 ^ 61)) (sym (first l)) (within-up (b₁w s) (omega arith))))
+    let s = start1 l in (
+      ap length (spare3 p) ∙ length-places _ _ ∙ sym (ap length (first l) ∙ length-places _ _),
+      (subst (Moves 28) (sym (spare3 p)) (amounts-move (M s) 150000 0 (tangents s) (a₂ s) (b₁ s) (tw s) (a₂w s) (omega arith)), subst (Within (2 ^ 61)) (sym (first l)) (within-up (b₁w s) (omega arith))),
+    )
 
 same-length : tie.Need-same-length
 same-length c = search needs
@@ -178,9 +179,10 @@ returns : tie.Need-returns
 returns c =
     let e = c .before in
     let l = lift2 (products3 e) in
-    let s = start1 (lift1 (products2 l)) in
-    (second l ∙ a-rotated (N s) (tangents s) (sines s) (a s) (b s) (s .pre .0) (s .pre .1 .0) (undo s),
-    third e ∙ b-rotated (N s) (tangents s) (sines s) (a s) (b s) (s .pre .0) (s .pre .1 .0) (undo s))
+    let s = start1 (lift1 (products2 l)) in (
+      second l ∙ a-rotated (N s) (tangents s) (sines s) (a s) (b s) (s .pre .0) (s .pre .1 .0) (undo s),
+      third e ∙ b-rotated (N s) (tangents s) (sines s) (a s) (b s) (s .pre .0) (s .pre .1 .0) (undo s),
+    )
 
 pub rotate-spec : {M : Type 1} → statement M
 rotate-spec =

@@ -114,9 +114,13 @@ rotated-requires : tie.Need-rotated-requires
 rotated-requires c κs =
     let q = c .before .before .before in
     let p = q .before .before .before in
-    let s = start q in
-    (s .pre .0, (record { top-long = ap length (firsts p) ∙ length-places _ _; bottom-long = ap length (seconds q) ∙ high-long s },
-    (subst (Within 50000) (sym (firsts p)) (reversed-within s), subst (Within 50000) (sym (seconds q)) (s .pre .1 .1 .1 .1 .1))))
+    let s = start q in (
+      s .pre .0,
+      (
+        record { top-long = ap length (firsts p) ∙ length-places _ _; bottom-long = ap length (seconds q) ∙ high-long s },
+        (subst (Within 50000) (sym (firsts p)) (reversed-within s), subst (Within 50000) (sym (seconds q)) (s .pre .1 .1 .1 .1 .1)),
+      ),
+    )
 
 sub-strided-3 : tie.Need-sub-strided-3
 sub-strided-3 c = let s = start (second (c .before .before .before)) in omega (arith, wide s, half-is s)
