@@ -16,3 +16,4 @@ pub mod RowForms
 pub mod ZeroBlock
 pub mod FrameLaws
 pub mod GateLaws
+pub mod FoldLaws

@@ -1,9 +1,10 @@
-// The lapped transform of one frame, by lifting.
+// The lapped transform of one frame, by lifting. `frame` is for any caller; the other modules require what they say.
 mod expand;
+pub mod folding;
 pub mod frame;
 pub mod gate;
-mod room;
+pub mod room;
 mod stages;
 mod sums;
 pub mod transform;
-mod vectors;
+pub mod vectors;
