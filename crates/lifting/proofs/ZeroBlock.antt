@@ -4,10 +4,10 @@ use Prim.Native.Nat.{ℕ, zero, suc, _-_}
 use lib.IntN.{pos, negℤ, *ℤ-zero}
 use lib.ListN.{replicate, length-replicate}
 use Rattle.integers.specs.Floor.{round, floorDiv}
+use Rattle.integers.proofs.PlaceLaws.{places-is}
 use Rattle.tables.specs.Widths.{halfWidth}
 use Rattle.lifting.specs.Places.{at}
 use Rattle.lifting.specs.Steps.{tangent, sine, tangentAmount, sineAmount, rotatedA, rotatedB, lower, held}
-use Rattle.lifting.proofs.PlaceLaws.{places-are}
 
 at-zeros : (n i : ℕ) → at (replicate n (pos 0)) i ≡ pos 0
 at-zeros zero i = refl
@@ -38,11 +38,11 @@ module _ (N : ℕ) where
   pub lower-zeros : (n : ℕ) → lower N (replicate n (pos 0)) ≡ replicate (halfWidth N) (pos 0)
   unfolding lower
   lower-zeros n =
-      places-are (halfWidth N) _ (replicate (halfWidth N) (pos 0)) (length-replicate (halfWidth N) (pos 0))
+      places-is (halfWidth N) _ (replicate (halfWidth N) (pos 0)) (length-replicate (halfWidth N) (pos 0))
       (λ i h. ap₂ (rotatedA N (halfWidth N - 1 - i)) (at-zeros n _) (at-zeros n _) ∙ rotated-a-zero _ ∙ sym (at-zeros (halfWidth N) i))
 
   pub held-zeros : (n : ℕ) → held N (replicate n (pos 0)) ≡ replicate (halfWidth N) (pos 0)
   unfolding held
   held-zeros n =
-      places-are (halfWidth N) _ (replicate (halfWidth N) (pos 0)) (length-replicate (halfWidth N) (pos 0))
+      places-is (halfWidth N) _ (replicate (halfWidth N) (pos 0)) (length-replicate (halfWidth N) (pos 0))
       (λ i h. ap₂ (rotatedB N i) (at-zeros n _) (at-zeros n _) ∙ rotated-b-zero i ∙ sym (at-zeros (halfWidth N) i))
