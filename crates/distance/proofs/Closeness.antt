@@ -1,7 +1,7 @@
 -- A row that is close to a number on a state, and what a lift makes of it: the lift step is used here and nowhere above.
 use mathlib.Core.Path.{_≡_}
 use mathlib.Core.List.{List}
-use Prim.Native.Nat.{ℕ, _*_, _^_, _≤_, _<_}
+use Prim.Native.Nat.{ℕ, _^_, _≤_, _<_}
 use native.Mathlib.Nat.{le-refl, mul-pos}
 use lib.Pow.{pow-pos}
 use lib.ListN.{length}

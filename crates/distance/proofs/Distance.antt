@@ -19,7 +19,7 @@ use Rattle.lifting.specs.Steps.{lower, held, stages, frame}
 use Rattle.lifting.specs.RowForm.{weave, widthOf, high, rowFrame}
 use Rattle.lifting.proofs.Rotation.{lower-size, held-size}
 use Rattle.lifting.proofs.Undo.{length-lower, length-held, width-half}
-use Rattle.lifting.proofs.RowForms.{good, M-of, lower-rows, held-rows, stages-rows, frame-rows}
+use Rattle.lifting.proofs.RowForms.{good, M-of, held-rows, stages-rows, frame-rows}
 use Rattle.distance.specs.Exact.{anySine, anyCosine, lesser, greater, total, least, greatest, rootM, denominator}
 use Rattle.distance.specs.Statement.{IsWidth, Block, coefficient, Near, DistanceAt, promised, Promised, shown, Shown, requested, Requested, gain, rounding, SizesAt, Sizes, Folded, FrameSizes}
 use Rattle.distance.proofs.Carried.{Row, rowOf, columns, currentRow, previousRow, nearBy, sizedBy, sineBoxes, cosineBoxes, passes}

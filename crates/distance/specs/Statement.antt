@@ -29,7 +29,7 @@ pub record Near (d N : ℕ) (previous current : List ℤ) (k : ℕ) : Type 0 whe
   pub least-near : natAbs (pos (denominator N) *ℤ coefficient N previous current k -ℤ least N k previous current) ≤ d * denominator N
   pub greatest-near : natAbs (pos (denominator N) *ℤ coefficient N previous current k -ℤ greatest N k previous current) ≤ d * denominator N
 
--- for every two blocks of readings within R
+-- for every two blocks of readings within R: a block of zeros is one, before the first and after the last (proofs/ZeroBlock)
 abbrev pub DistanceAt : ℕ → ℕ → ℕ → Type 0
 DistanceAt N R d = (previous current : List ℤ) → Block N R previous → Block N R current → (k : ℕ) → k < N → Near d N previous current k
 
@@ -43,7 +43,7 @@ promised N = 5 * rootM N + 2
 abbrev pub Promised : Type 0
 Promised = Distance readingLimit promised
 
--- ---- 2. The least whole numbers for which the same test passes; and what change request 14 asks.
+-- ---- 2. The least whole numbers for which the same test passes; and what change request 14 asks of readings within ±32,766.
 unfoldable pub shown : ℕ → ℕ
 shown = byWidth 7 11 20 0
 

@@ -80,19 +80,18 @@ pub len-negative : {n : ℕ} (xs : List ℤ) → Len n xs → Len n (negative xs
 len-negative xs h = same-negative xs ∙ h
 
 -- ---- even and odd places
+parted : {n : ℕ} (xs : List ℤ) → length xs ≡ n + n → Len n (evens xs) × Len n (odds xs)
+unfolding evens odds
+parted {n} [] h = (omega arith, omega arith)
+parted {n} (x ∷ []) h = let z : ⊥ = omega arith in absurd z
+parted {n = zero} (x ∷ y ∷ xs) h = let z : ⊥ = omega arith in absurd z
+parted {n = suc n} (x ∷ y ∷ xs) h = let p = parted {n = n} xs (omega arith) in (ap suc (p .0), ap suc (p .1))
+
 pub len-evens : {n : ℕ} (xs : List ℤ) → length xs ≡ n + n → Len n (evens xs)
-unfolding evens
-len-evens {n} [] h = omega arith
-len-evens {n} (x ∷ []) h = omega arith
-len-evens {n = zero} (x ∷ y ∷ xs) h = let z : ⊥ = omega arith in absurd z
-len-evens {n = suc n} (x ∷ y ∷ xs) h = ap suc (len-evens xs (omega arith))
+len-evens xs h = parted xs h .0
 
 pub len-odds : {n : ℕ} (xs : List ℤ) → length xs ≡ n + n → Len n (odds xs)
-unfolding odds
-len-odds {n} [] h = omega arith
-len-odds {n} (x ∷ []) h = omega arith
-len-odds {n = zero} (x ∷ y ∷ xs) h = let z : ⊥ = omega arith in absurd z
-len-odds {n = suc n} (x ∷ y ∷ xs) h = ap suc (len-odds xs (omega arith))
+len-odds xs h = parted xs h .1
 
 pub len-weave : {n : ℕ} (xs ys : List ℤ) → Len n xs → Len n ys → length (weave xs ys) ≡ n + n
 unfolding weave

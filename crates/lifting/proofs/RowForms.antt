@@ -83,12 +83,12 @@ lift-are k n f y a h l e = places-is n f (lift k y a) (len-lift k y a h l) (λ m
 rev-are : (n : ℕ) (f : ℕ → ℤ) (xs : List ℤ) → Len n xs → ((m : ℕ) → m < n → f m ≡ at xs m) → places n (λ i. f (n - 1 - i)) ≡ rev xs
 rev-are n f xs l e = places-is n (λ i. f (n - 1 - i)) (rev xs) (len-rev xs l) (λ i h. e (n - 1 - i) (omega arith) ∙ sym (at-rev n xs i l h))
 
--- what an operation makes of ys and of amounts given in the other order
-turned-are : (op : ℤ → ℤ → ℤ) (n : ℕ) (g : ℕ → ℤ) (ys xs : List ℤ) → Len n ys → Len n xs → ((m : ℕ) → m < n → op (at (rev ys) m) (g m) ≡ at xs m)
-    → places n (λ i. op (at ys i) (g (n - 1 - i))) ≡ rev xs
-turned-are op n g ys xs k l e =
-    places-ext n _ (λ i. op (at (rev ys) (n - 1 - i)) (g (n - 1 - i))) (λ i h. ap (λ y. op y (g (n - 1 - i))) (sym (at-rev-back n ys i k h)))
-    ∙ rev-are n (λ m. op (at (rev ys) m) (g m)) xs l e
+-- ys with amounts given in the other order
+turned-are : (n : ℕ) (g : ℕ → ℤ) (ys xs : List ℤ) → Len n ys → Len n xs → ((m : ℕ) → m < n → at (rev ys) m +ℤ g m ≡ at xs m)
+    → places n (λ i. at ys i +ℤ g (n - 1 - i)) ≡ rev xs
+turned-are n g ys xs k l e =
+    places-ext n _ (λ i. at (rev ys) (n - 1 - i) +ℤ g (n - 1 - i)) (λ i h. ap (λ y. y +ℤ g (n - 1 - i)) (sym (at-rev-back n ys i k h)))
+    ∙ rev-are n (λ m. at (rev ys) m +ℤ g m) xs l e
 
 -- ---- the amounts of a stage
 module _ (N : ℕ) where
@@ -159,7 +159,7 @@ module _ (N : ℕ) (top bottom : List ℤ) (ht : length top ≡ halfWidth N) (hb
       let a = tanAmounts (widthOf N) top in
       let lr = len-rev bottom hb in
       let la = len-tangents (widthOf N) (good N) top ht in
-      turned-are _+ℤ_ (halfWidth N) (λ m. tangentAmount N m (at top m)) bottom (lift 28 (rev bottom) a) hb (len-lift 28 (rev bottom) a lr la)
+      turned-are (halfWidth N) (λ m. tangentAmount N m (at top m)) bottom (lift 28 (rev bottom) a) hb (len-lift 28 (rev bottom) a lr la)
       (λ m h. ap (λ z. at (rev bottom) m +ℤ z) (sym (at-tangents N top m h)) ∙ sym (at-lift 28 (halfWidth N) (rev bottom) a m lr la h))
 
 -- ---- the rotation of all pairs
