@@ -1,11 +1,12 @@
 -- One coefficient as a row, carried backwards through the steps with exact whole numbers; and the tests that the checker computes of it.
-use mathlib.Core.Bool.{Bool, true, _&&_}
+use mathlib.Core.Bool.{Bool, _&&_}
 use mathlib.Core.List.{List, [], _∷_, _++_}
-use Prim.Native.Nat.{ℕ, zero, suc, max, _+_, _-_, _*_, _^_}
+use Prim.Native.Nat.{ℕ, max, _+_, _-_, _*_, _^_}
 use lib.Dec.{leb}
 use lib.IntN.{ℤ, pos, natAbs, _+ℤ_, _*ℤ_}
 use lib.ListN.{take, drop}
 use Rattle.integers.specs.Vectors.{plus, scale, sumAbs}
+use Rattle.integers.specs.Tests.{below}
 use Rattle.tables.specs.Boxes.{Box}
 use Rattle.lifting.specs.Places.{tab}
 use Rattle.lifting.specs.RowForm.{rev, onto, times, negative, alt, weave, Width}
@@ -146,26 +147,11 @@ passes N w box ct ss lim k =
     let f = weave (r .a) (r .b) in
     nearBy (denominator N) ss (cosineBoxes N box k) lim r (currentRow w f) (previousRow w f) && sizedBy lim r f
 
--- ---- the test of one folded place: readings within R fold to values within B
-unfoldable pub foldedBy : Width → ℕ → ℕ → ℕ → Bool
-unfolding currentRow previousRow flat unit
-foldedBy w R B i =
-    let f = unit (w .M + w .M) i in
-    let c = currentRow w f in
-    let v = previousRow w f in
-    leb (sumAbs (flat v ++ flat c) * R + (c .e + v .e)) (B * c .p)
-
--- ---- n tests from k on
+-- ---- n tests from k on, of one f
 unfoldable pub allFrom : (ℕ → Bool) → ℕ → ℕ → Bool
-allFrom f zero k = true
-allFrom f (suc n) k = f k && allFrom f n (suc k)
+allFrom f n k = below n (λ i. f (k + i))
 
 -- of n coefficients (the columns and the boxes of the sines made once)
 unfoldable pub tested : ℕ → Width → (ℕ → Box) → Limits → ℕ → ℕ → Bool
 unfolding passes columns sineBoxes allFrom
 tested N w box lim n k = allFrom (passes N w box (columns w) (sineBoxes N box) lim) n k
-
--- of all folded places
-unfoldable pub foldedTested : Width → ℕ → ℕ → Bool
-unfolding foldedBy allFrom
-foldedTested w R B = allFrom (foldedBy w R B) (w .M + w .M) 0

@@ -1,41 +1,18 @@
--- A row that is close to a number on a state, and what a lift makes of it: the law of rounding is used here and nowhere above.
-use mathlib.Core.Path.{_≡_, _∙_}
+-- A row that is close to a number on a state, and what a lift makes of it: the lift step is used here and nowhere above.
+use mathlib.Core.Path.{_≡_}
 use mathlib.Core.List.{List}
-use Prim.Native.Nat.{ℕ, _-_, _*_, _^_, _≤_, _<_}
+use Prim.Native.Nat.{ℕ, _^_, _≤_, _<_}
 use native.Mathlib.Nat.{le-refl, mul-pos}
 use lib.Pow.{pow-pos}
 use lib.ListN.{length}
 use lib.IntN.{ℤ, pos, natAbs, _+ℤ_, _-ℤ_, _*ℤ_, +ℤ-comm}
-use Rattle.integers.specs.Floor.{round}
-use Rattle.integers.specs.Vectors.{dot, scale, plus, sumAbs}
+use Rattle.integers.specs.Vectors.{dot, scale, plus}
 use Rattle.integers.proofs.Ring.{ring}
 use Rattle.integers.proofs.Order.{near-chain}
-use Rattle.integers.proofs.Rounding.{round-near}
-use Rattle.integers.proofs.Products.{dot-plus, dot-scale, length-scale}
-use Rattle.integers.proofs.Lifts.{lift-row}
+use Rattle.integers.proofs.Lifts.{lift-known}
 use Rattle.lifting.specs.RowForm.{lift}
 use Rattle.lifting.proofs.Lists.{Len, len-scale, len-plus}
 use Rattle.distance.proofs.Carried.{Row, downA, downB}
-
--- ---- one lift, for any amount z whose transposed row gs is known
-kept : (p u d v s : ℤ) → p *ℤ (u +ℤ d) -ℤ ((p *ℤ u +ℤ v) +ℤ s) ≡ p *ℤ d -ℤ (s +ℤ v)
-kept p u d v s = simp ring
-
-lift-known : (k : ℕ) (u g gs x y z : List ℤ) → length y ≡ length z → dot g z ≡ dot gs x → length u ≡ length gs
-    → natAbs (pos (2 ^ k) *ℤ (dot u x +ℤ dot g (lift k y z)) -ℤ (dot (plus (scale (pos (2 ^ k)) u) gs) x +ℤ dot (scale (pos (2 ^ k)) g) y)) ≤ 2 ^ (k - 1) * sumAbs g
-lift-known k u g gs x y z e d l =
-    rw (
-      dot-plus (scale (pos (2 ^ k)) u) gs x (length-scale (pos (2 ^ k)) u ∙ l),
-      dot-scale (pos (2 ^ k)) u x,
-      ← d,
-      kept (pos (2 ^ k)) (dot u x) (dot g (lift k y z)) (dot g z) (dot (scale (pos (2 ^ k)) g) y),
-    )
-    (lift-row (2 ^ k) (2 ^ (k - 1)) (round k) (round-near k) g y z e)
-
-lift-known-a : (k : ℕ) (u g gs x y z : List ℤ) → length y ≡ length z → dot g z ≡ dot gs x → length u ≡ length gs
-    → natAbs (pos (2 ^ k) *ℤ (dot g (lift k y z) +ℤ dot u x) -ℤ (dot (scale (pos (2 ^ k)) g) y +ℤ dot (plus (scale (pos (2 ^ k)) u) gs) x)) ≤ 2 ^ (k - 1) * sumAbs g
-lift-known-a k u g gs x y z e d l =
-    rw (+ℤ-comm (dot g (lift k y z)) (dot u x), +ℤ-comm (dot (scale (pos (2 ^ k)) g) y) (dot (plus (scale (pos (2 ^ k)) u) gs) x)) (lift-known k u g gs x y z e d l)
 
 -- ---- a row that is close to c on the state (x, y)
 pub record Close (r : Row) (c : ℤ) (x y : List ℤ) : Type 0 where
@@ -46,6 +23,17 @@ pub record Fit (n : ℕ) (r : Row) : Type 0 where
   pub fb : Len n (r .b)
   pub pp : 0 < r .p
 
+-- the two lists exchanged
+abbrev exchanged : Row → Row
+exchanged r = record { a = r .b; b = r .a; p = r .p; e = r .e }
+
+close-exchanged : (r : Row) (c : ℤ) (x y : List ℤ) → Close r c x y → Close (exchanged r) c y x
+close-exchanged r c x y h = record { le = rw (+ℤ-comm (dot (r .b) y) (dot (r .a) x)) (h .le) }
+
+fit-exchanged : {n : ℕ} (r : Row) → Fit n r → Fit n (exchanged r)
+fit-exchanged r f = record { fa = f .fb; fb = f .fa; pp = f .pp }
+
+-- ---- before a lift of the second list by the first, and of the first by the second
 pub closeB : (k : ℕ) (gs : List ℤ) (r : Row) (c : ℤ) (x y z : List ℤ) → length y ≡ length z → dot (r .b) z ≡ dot gs x → length (r .a) ≡ length gs
     → Close r c x (lift k y z) → Close (downB k gs r) c x y
 unfolding downB
@@ -56,19 +44,16 @@ closeB k gs r c x y z e d l h = record {
 
 pub closeA : (k : ℕ) (gs : List ℤ) (r : Row) (c : ℤ) (x y z : List ℤ) → length x ≡ length z → dot (r .a) z ≡ dot gs y → length (r .b) ≡ length gs
     → Close r c (lift k x z) y → Close (downA k gs r) c x y
-unfolding downA
-closeA k gs r c x y z e d l h = record {
-  le = near-chain (r .p) (2 ^ k) c (dot (r .a) (lift k x z) +ℤ dot (r .b) y) (dot (scale (pos (2 ^ k)) (r .a)) x +ℤ dot (plus (scale (pos (2 ^ k)) (r .b)) gs) y)
-      (h .le) (lift-known-a k (r .b) (r .a) gs y x z e d l);
-}
+unfolding downA downB
+closeA k gs r c x y z e d l h = close-exchanged (downB k gs (exchanged r)) c y x (closeB k gs (exchanged r) c y x z e d l (close-exchanged r c (lift k x z) y h))
 
 pub fitB : {n : ℕ} (k : ℕ) (gs : List ℤ) (r : Row) → Len n gs → Fit n r → Fit n (downB k gs r)
 unfolding downB
 fitB k gs r l f = record { fa = len-plus (scale (pos (2 ^ k)) (r .a)) gs (len-scale (pos (2 ^ k)) (r .a) (f .fa)) l; fb = len-scale (pos (2 ^ k)) (r .b) (f .fb); pp = mul-pos (pow-pos k) (f .pp) }
 
 pub fitA : {n : ℕ} (k : ℕ) (gs : List ℤ) (r : Row) → Len n gs → Fit n r → Fit n (downA k gs r)
-unfolding downA
-fitA k gs r l f = record { fa = len-scale (pos (2 ^ k)) (r .a) (f .fa); fb = len-plus (scale (pos (2 ^ k)) (r .b)) gs (len-scale (pos (2 ^ k)) (r .b) (f .fb)) l; pp = mul-pos (pow-pos k) (f .pp) }
+unfolding downA downB
+fitA k gs r l f = fit-exchanged (downB k gs (exchanged r)) (fitB k gs (exchanged r) l (fit-exchanged r f))
 
 -- an exact change of the state
 pub re-read : (c v v′ : ℤ) (p e : ℕ) → v ≡ v′ → natAbs (pos p *ℤ c -ℤ v) ≤ e → natAbs (pos p *ℤ c -ℤ v′) ≤ e

@@ -1,30 +1,31 @@
 -- From the tests to the statements, over the width as a letter.
-use mathlib.Core.Path.{_≡_, refl, sym, _∙_, ap}
-use mathlib.Core.Bool.{Bool, true, false}
+use mathlib.Core.Path.{_≡_, sym, _∙_, ap}
+use mathlib.Core.Bool.{Bool}
 use mathlib.Core.List.{List, _++_}
-use Prim.Native.Nat.{ℕ, _+_, _*_, _≤_}
+use Prim.Native.Nat.{ℕ, _+_, _*_, _≤_, _<_}
 use native.Mathlib.Omega.{arith}
 use native.Mathlib.Nat.{mul-le-mul-right}
 use lib.Dec.{T, lit≤}
 use lib.ListN.{length, length-append}
 use lib.IntN.{ℤ, natAbs}
 use Rattle.integers.specs.Vectors.{AllAbs}
-use Rattle.integers.proofs.Products.{all-getD, all-mono}
+use Rattle.integers.proofs.Products.{all-append, all-mono}
 use Rattle.integers.proofs.Tested.{and-left, and-right}
 use Rattle.tables.specs.Widths.{byWidth, halfWidth}
 use Rattle.tables.proofs.ByWidth.{at-each}
 use Rattle.lifting.specs.Places.{at}
+use Rattle.lifting.specs.Limits.{readingLimit, rotatedLimit, coefficientLimit}
 use Rattle.lifting.specs.Steps.{lower, held, stages, frame}
 use Rattle.lifting.specs.RowForm.{weave, widthOf, high, rowFrame}
-use Rattle.lifting.proofs.StepLengths.{len-lower, len-held}
-use Rattle.lifting.proofs.RowForms.{good, M-of, lower-rows, held-rows, stages-rows, frame-rows}
+use Rattle.lifting.proofs.Rotation.{lower-size, held-size}
+use Rattle.lifting.proofs.Undo.{length-lower, length-held, width-half}
+use Rattle.lifting.proofs.RowForms.{good, M-of, held-rows, stages-rows, frame-rows}
 use Rattle.distance.specs.Exact.{anySine, anyCosine, lesser, greater, total, least, greatest, rootM, denominator}
-use Rattle.distance.specs.Statement.{IsWidth, readingLimit, foldedLimit, coefficientLimit, Block, coefficient, Near, DistanceAt, promised, Promised, shown, Shown, requested, Requested, gain, rounding, SizesAt, Sizes, FoldedAt, Folded, FrameSizes}
-use Rattle.distance.proofs.Carried.{Row, rowOf, columns, currentRow, previousRow, nearBy, sizedBy, sineBoxes, cosineBoxes, passes, foldedBy, foldedTested}
-use Rattle.distance.proofs.FoldRows.{foldedRows, len-folded}
+use Rattle.distance.specs.Statement.{IsWidth, Block, coefficient, Near, DistanceAt, promised, Promised, shown, Shown, requested, Requested, gain, rounding, SizesAt, Sizes, Folded, FrameSizes}
+use Rattle.distance.proofs.Carried.{Row, rowOf, columns, currentRow, previousRow, nearBy, sizedBy, sineBoxes, cosineBoxes, passes}
 use Rattle.distance.proofs.Ends.{picks-greater, picks-lesser}
-use Rattle.distance.proofs.Sound.{all-from, size-sound, end-sound, fold-sound}
-use Rattle.distance.proofs.Runs.{openRows, limits, passesAt, Passes, foldTested}
+use Rattle.distance.proofs.Sound.{size-sound, end-sound}
+use Rattle.distance.proofs.Runs.{limits, passesAt, Passes}
 
 -- ---- at one width
 module _ (N : ℕ) (twice : halfWidth N + halfWidth N ≡ N) where
@@ -58,7 +59,7 @@ module _ (N : ℕ) (twice : halfWidth N + halfWidth N ≡ N) where
     near-at t previous current p c =
         let w = widthOf N in
         let ends = end-sound w (good N) k previous current (p .long ∙ sym twice-rows) (c .long ∙ sym twice-rows) N twice-rows anyCosine (limits N) (p .within) (c .within) in
-        let rows = frame-rows N twice (held N previous) current (len-held N previous) (c .long) ∙ ap (λ h. rowFrame w h current) (held-rows N twice previous (p .long)) in
+        let rows = frame-rows N twice (held N previous) current (length-held N previous) (c .long) ∙ ap (λ h. rowFrame w h current) (held-rows N twice previous (p .long)) in
         let same : at (rowFrame w (high w previous) current) k ≡ at (frame N (held N previous) current) k = ap (λ f. at f k) (sym rows) in
         record {
           least-near = rw same at (ends greater picks-greater (near-part t));
@@ -69,18 +70,6 @@ module _ (N : ℕ) (twice : halfWidth N + halfWidth N ≡ N) where
     unfolding limits
     size-at t B f l b = rw (stages-rows N twice f l) (size-sound (widthOf N) (good N) k (limits N) (size-part t) B f (l ∙ sym twice-rows) b)
 
-  pub folded-at : T (foldTested N) → FoldedAt N
-  unfolding foldTested foldedTested openRows
-  folded-at t previous current p c =
-      let w = widthOf N in
-      let F = foldedRows w previous current in
-      let lp = p .long ∙ sym twice-rows in
-      let lc = c .long ∙ sym twice-rows in
-      rw (lower-rows N twice current (c .long), held-rows N twice previous (p .long))
-      (all-getD foldedLimit F (λ i h.
-      let passed = all-from (foldedBy w readingLimit foldedLimit) (w .M + w .M) 0 i t (omega arith) (omega (arith, len-folded w (good N) previous current lp lc)) in
-      fold-sound w (good N) readingLimit foldedLimit i passed previous current lp lc (p .within) (c .within)))
-
   pub distance-at : Passes N 0 N → DistanceAt N readingLimit (shown N)
   distance-at t previous current p c k h = near-at k (t k (omega arith) h) previous current p c
 
@@ -89,11 +78,8 @@ module _ (N : ℕ) (twice : halfWidth N + halfWidth N ≡ N) where
 
 -- ---- at every width
 pub every-width : (P : ℕ → Type 0) → P 8 → P 32 → P 128 → (N : ℕ) → IsWidth N → P N
-every-width P a b c = at-each (λ n t. T t → P n) true true true false (λ t. a) (λ t. b) (λ t. c) (λ n x y z t. absurd t)
-
-width-twice : (N : ℕ) → IsWidth N → halfWidth N + halfWidth N ≡ N
-unfolding halfWidth byWidth
-width-twice = every-width (λ n. halfWidth n + halfWidth n ≡ n) refl refl refl
+unfolding halfWidth
+every-width P a b c = at-each (λ n M. 0 < M → P n) 4 16 64 0 (λ h. a) (λ h. b) (λ h. c) (λ n x y z h. absurd (omega arith))
 
 shown-promised : (N : ℕ) → IsWidth N → shown N ≤ promised N
 unfolding shown promised rootM byWidth
@@ -103,9 +89,9 @@ shown-requested : (N : ℕ) → IsWidth N → shown N ≤ requested N
 unfolding shown requested byWidth
 shown-requested = every-width (λ n. shown n ≤ requested n) (lit≤ tt) (lit≤ tt) (lit≤ tt)
 
-frame-fits : (N : ℕ) → IsWidth N → gain N * foldedLimit + 100 * rounding N ≤ 100 * coefficientLimit
+frame-fits : (N : ℕ) → IsWidth N → gain N * rotatedLimit + 100 * rounding N ≤ 100 * coefficientLimit
 unfolding gain rounding byWidth
-frame-fits = every-width (λ n. gain n * foldedLimit + 100 * rounding n ≤ 100 * coefficientLimit) (lit≤ tt) (lit≤ tt) (lit≤ tt)
+frame-fits = every-width (λ n. gain n * rotatedLimit + 100 * rounding n ≤ 100 * coefficientLimit) (lit≤ tt) (lit≤ tt) (lit≤ tt)
 
 -- a longer distance, and readings in a narrower range
 weaker : {d e N k : ℕ} {previous current : List ℤ} → d ≤ e → Near d N previous current k → Near e N previous current k
@@ -116,9 +102,12 @@ weaker {N} l n =
 wider : {N R S : ℕ} {x : List ℤ} → R ≤ S → Block N R x → Block N S x
 wider {x} l b = record { long = b .long; within = all-mono x l (b .within) }
 
-module _ (passes-all : (N : ℕ) → IsWidth N → Passes N 0 N) (folds-all : (N : ℕ) → IsWidth N → T (foldTested N)) where
+pub folded-values : Folded
+folded-values N i previous current p c = all-append rotatedLimit (lower N current) (held N previous) (lower-size N current (c .within)) (held-size N previous (p .within))
+
+module _ (passes-all : (N : ℕ) → IsWidth N → Passes N 0 N) where
   pub shown-of : Shown
-  shown-of N i = distance-at N (width-twice N i) (passes-all N i)
+  shown-of N i = distance-at N (width-half N i) (passes-all N i)
 
   pub promised-of : Promised
   promised-of N i previous current p c k h = weaker (shown-promised N i) (shown-of N i previous current p c k h)
@@ -127,14 +116,11 @@ module _ (passes-all : (N : ℕ) → IsWidth N → Passes N 0 N) (folds-all : (N
   requested-of N i previous current p c k h = weaker (shown-requested N i) (shown-of N i previous current (wider (lit≤ tt) p) (wider (lit≤ tt) c) k h)
 
   pub sizes-of : Sizes
-  sizes-of N i = sizes-at N (width-twice N i) (passes-all N i)
-
-  pub folded-of : Folded
-  folded-of N i = folded-at N (width-twice N i) (folds-all N i)
+  sizes-of N i = sizes-at N (width-half N i) (passes-all N i)
 
   pub frame-sizes-of : FrameSizes
   unfolding coefficient frame
   frame-sizes-of N i previous current p c k h =
       let F = lower N current ++ held N previous in
-      let l : length F ≡ N = omega (arith, length-append (lower N current) (held N previous), len-lower N current, len-held N previous, width-twice N i) in
-      omega (arith, sizes-of N i foldedLimit F l (folded-of N i previous current p c) k h, frame-fits N i)
+      let l : length F ≡ N = omega (arith, length-append (lower N current) (held N previous), length-lower N current, length-held N previous, width-half N i) in
+      omega (arith, sizes-of N i rotatedLimit F l (folded-values N i previous current p c) k h, frame-fits N i)

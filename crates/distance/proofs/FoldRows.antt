@@ -11,11 +11,11 @@ use Rattle.integers.proofs.Order.{near-add}
 use Rattle.integers.proofs.Products.{dot-zeros, dot-append}
 use Rattle.lifting.specs.RowForm.{rev, Width, rotA, rotB, low, high}
 use Rattle.lifting.proofs.Lists.{Len, len-rev, len-take, len-drop}
-use Rattle.lifting.proofs.RowForms.{Good}
+use Rattle.lifting.proofs.RowForms.{Good, len-rotA, len-rotB}
 use Rattle.distance.proofs.Transposed.{zeros, dot-rev, dot-halves, dot-joined}
 use Rattle.distance.proofs.Carried.{Row, downA, downB, rowA, rowB, rowRot, lowRow, highRow, currentRow, previousRow, flat}
 use Rattle.distance.proofs.Closeness.{Close, Fit, re-read, exact}
-use Rattle.distance.proofs.Rotations.{len-rotA, len-rotB, fit-rot, close-rot}
+use Rattle.distance.proofs.Rotations.{fit-rot, close-rot}
 
 -- this block's lower places, and what the block before held
 abbrev pub foldedRows : Width → List ℤ → List ℤ → List ℤ

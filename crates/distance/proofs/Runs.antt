@@ -1,8 +1,11 @@
 -- The tests as the checker runs them, on the boxes as numbers, and what each says at its coefficients.
-use mathlib.Core.Path.{_≡_, sym, ap, subst, fun-ext}
-use mathlib.Core.Bool.{Bool, true, false, not}
-use Prim.Native.Nat.{ℕ, _+_, _≤_, _<_}
-use lib.Dec.{T, ltb, ltb→lt, nltb→le, lit<}
+use mathlib.Core.Path.{_≡_, refl, sym, ap, subst, fun-ext}
+use mathlib.Core.Bool.{Bool, true, false}
+use Prim.Native.Nat.{ℕ, _+_, _-_, _≤_, _<_}
+use native.Mathlib.Omega.{arith}
+use borrow.Author.Tests.{ltb-true, ltb-false}
+use lib.Dec.{T, ltb, lit<}
+use Rattle.integers.proofs.Tested.{below-at}
 use Rattle.tables.specs.Widths.{byWidth, halfWidth}
 use Rattle.tables.specs.Angles.{halfTurn, reflected, minus, signed}
 use Rattle.tables.specs.Boxes.{Box, negated}
@@ -11,12 +14,12 @@ use Rattle.tables.specs.Numbers.{sines, halfTangents, halfTangents8, halfTangen
 use Rattle.tables.proofs.BoxTable.{boxAt, cosine-box-is}
 use Rattle.tables.proofs.Quadrants.{reflected-le}
 use Rattle.lifting.specs.Places.{tab}
+use Rattle.lifting.specs.Limits.{readingLimit}
 use Rattle.lifting.specs.Steps.{rootLog, tangent, sine, cosine, oddOf, secant}
 use Rattle.lifting.specs.RowForm.{Width, third, widthOf}
 use Rattle.distance.specs.Exact.{signedBox, anyCosine}
-use Rattle.distance.specs.Statement.{readingLimit, foldedLimit, shown, gain, rounding}
-use Rattle.distance.proofs.Carried.{Limits, columns, sineBoxes, passes, tested, foldedTested}
-use Rattle.distance.proofs.Sound.{all-from}
+use Rattle.distance.specs.Statement.{shown, gain, rounding}
+use Rattle.distance.proofs.Carried.{Limits, columns, sineBoxes, passes, allFrom, tested}
 
 unfoldable pub limits : ℕ → Limits
 unfolding shown gain rounding
@@ -41,11 +44,6 @@ unfoldable pub testedAt : ℕ → ℕ → ℕ → Bool
 unfolding tested readCosine limits openRows
 testedAt N n k = tested N (openRows N) readCosine (limits N) n k
 
--- all folded places
-unfoldable pub foldTested : ℕ → Bool
-unfolding foldedTested openRows
-foldTested N = foldedTested (openRows N) readingLimit foldedLimit
-
 -- coefficient k passes, and every coefficient from `from` below `to`
 abbrev pub passesAt : ℕ → ℕ → Bool
 passesAt N k = passes N (widthOf N) anyCosine (columns (widthOf N)) (sineBoxes N anyCosine) (limits N) k
@@ -54,13 +52,14 @@ abbrev pub Passes : ℕ → ℕ → ℕ → Type 0
 Passes N from to = (k : ℕ) → from ≤ k → k < to → T (passesAt N k)
 
 pub passed : (N n k : ℕ) → T (testedAt N n k) → Passes N k (k + n)
-unfolding testedAt tested openRows
+unfolding testedAt tested allFrom openRows
 passed N n k t i a b =
-    all-from (passesAt N) n k i (subst (λ box. T (tested N (widthOf N) box (limits N) n k)) (fun-ext read-cosine) t) a b
-
-by-test : (Z : Type 0) (c : Bool) → (T c → Z) → (T (not c) → Z) → Z
-by-test Z true f g = f tt
-by-test Z false f g = g tt
+    subst (λ j. T (passesAt N j)) (omega arith)
+    (below-at n (λ j. passesAt N (k + j)) (subst (λ box. T (tested N (widthOf N) box (limits N) n k)) (fun-ext read-cosine) t) (i - k) (omega arith))
 
 pub both : (N from middle to : ℕ) → Passes N from middle → Passes N middle to → Passes N from to
-both N from middle to f g k a b = by-test (T (passesAt N k)) (ltb k middle) (λ h. f k a (ltb→lt k middle h)) (λ h. g k (nltb→le k middle h) b)
+both N from middle to f g k a b = by (ltb k middle) refl
+  where
+    by : (t : Bool) → ltb k middle ≡ t → T (passesAt N k)
+    by true e = f k a (ltb-true k middle e)
+    by false e = g k (ltb-false k middle e) b

@@ -1,8 +1,7 @@
 -- The tests are sound, at every width: what passes at k holds of coefficient k for all readings.
-use mathlib.Core.Path.{_≡_, sym, ap, subst}
-use mathlib.Core.Bool.{Bool}
-use mathlib.Core.List.{List, [], _∷_, _++_}
-use Prim.Native.Nat.{ℕ, zero, suc, _+_, _-_, _*_, _≤_, _<_}
+use mathlib.Core.Path.{_≡_, sym, ap}
+use mathlib.Core.List.{List, _++_}
+use Prim.Native.Nat.{ℕ, _+_, _*_, _≤_, _<_}
 use native.Mathlib.Omega.{arith}
 use native.Mathlib.Nat.{mul-pos, mul-le-mul-right, le-of-mul-le-mul-left, zero-add}
 use lib.Dec.{T, leb, leb→le}
@@ -10,35 +9,21 @@ use lib.ListN.{length, length-append}
 use lib.IntN.{ℤ, pos, negℤ, natAbs, _+ℤ_, _-ℤ_, _*ℤ_}
 use Rattle.integers.specs.Vectors.{dot, sumAbs, AllAbs}
 use Rattle.integers.proofs.Order.{near-chain, natAbs-*ℤ, natAbs-near}
-use Rattle.integers.proofs.Products.{natAbs-dot}
+use Rattle.integers.proofs.Products.{natAbs-dot, all-append}
+use Rattle.integers.proofs.PlaceLaws.{sum-ext}
 use Rattle.integers.proofs.Tested.{and-left, and-right}
 use Rattle.tables.specs.Boxes.{Box}
 use Rattle.lifting.specs.Places.{at, sum}
 use Rattle.lifting.specs.RowForm.{evens, odds, weave, Width, high, rowStages, rowFrame}
 use Rattle.lifting.proofs.Lists.{len-weave}
-use Rattle.lifting.proofs.PlaceLaws.{sum-ext}
 use Rattle.lifting.proofs.RowForms.{Good}
 use Rattle.distance.specs.Exact.{sineAngle, cosineAngle, denominator, term}
-use Rattle.distance.proofs.Transposed.{unit, len-unit, dot-unit, dot-weave}
-use Rattle.distance.proofs.Carried.{Row, Limits, rowOf, columns, currentRow, previousRow, flat, fars, nearBy, sizedBy, sineBoxes, cosineBoxes, foldedBy, allFrom}
+use Rattle.distance.proofs.Transposed.{dot-weave}
+use Rattle.distance.proofs.Carried.{Row, Limits, rowOf, columns, currentRow, previousRow, flat, fars, nearBy, sizedBy, sineBoxes, cosineBoxes}
 use Rattle.distance.proofs.Closeness.{re-read}
 use Rattle.distance.proofs.StageRows.{fit-row, close-stages}
 use Rattle.distance.proofs.FoldRows.{foldedRows, fit-current, fit-previous, len-flat, len-folded, near-folded}
 use Rattle.distance.proofs.Ends.{Picks, total-near, off-scale}
-
-pub all-append : (B : ℕ) (xs ys : List ℤ) → AllAbs B xs → AllAbs B ys → AllAbs B (xs ++ ys)
-all-append B [] ys h k = k
-all-append B (x ∷ xs) ys h k = (h .0, all-append B xs ys (h .1) k)
-
--- what passes n times from k on, passes at each
-from : (f : ℕ → Bool) (n k j : ℕ) → T (allFrom f n k) → j < n → T (f (k + j))
-unfolding allFrom
-from f zero k j t h = let z : ⊥ = omega arith in absurd z
-from f (suc n) k zero t h = subst (λ i. T (f i)) (omega arith) (and-left (f k) (allFrom f n (suc k)) t)
-from f (suc n) k (suc j) t h = subst (λ i. T (f i)) (omega arith) (from f n (suc k) j (and-right (f k) (allFrom f n (suc k)) t) (omega arith))
-
-pub all-from : (f : ℕ → Bool) (n k i : ℕ) → T (allFrom f n k) → k ≤ i → i < k + n → T (f i)
-all-from f n k i t a b = subst (λ i. T (f i)) (omega arith) (from f n k (i - k) t (omega arith))
 
 module _ (w : Width) (ok : Good w) (k : ℕ) where
   -- the row of coefficient k on the folded places
@@ -110,23 +95,3 @@ module _ (w : Width) (ok : Good w) (k : ℕ) where
           (at (rowFrame w (high w previous) current) k) (dot L xs) (sum (2 * N) (λ n. term pick (at xs n) (s n) (c n))) (mul-pos (fn .pp) (fit-row w ok k .pp)) near-frame
           (rw here (total-near pick picks (pos q) (pos p) (lim .reading) s c (2 * N) 0 L xs lL lx (all-append (lim .reading) previous current bp bc)))
           (leb→le _ _ t)
-
--- ---- the fold
-small : (p R B e S : ℕ) (c v : ℤ) → 0 < p → natAbs (pos p *ℤ c -ℤ v) ≤ e → natAbs v ≤ S * R → S * R + e ≤ B * p → natAbs c ≤ B
-small p R B e S c v z h k l =
-    let d : p * natAbs c ≤ p * B = omega (arith, natAbs-*ℤ (pos p) c, natAbs-near (pos p *ℤ c) v) in
-    le-of-mul-le-mul-left d z
-
-pub fold-sound : (w : Width) → Good w → (R B i : ℕ) → T (foldedBy w R B i) → (previous current : List ℤ) → length previous ≡ w .M + w .M → length current ≡ w .M + w .M
-    → AllAbs R previous → AllAbs R current → natAbs (at (foldedRows w previous current) i) ≤ B
-unfolding foldedBy
-fold-sound w ok R B i t previous current lp lc bp bc =
-    let f = unit (w .M + w .M) i in
-    let lf = len-unit (w .M + w .M) i in
-    let c = currentRow w f in
-    let v = previousRow w f in
-    let L = flat v ++ flat c in
-    let F = foldedRows w previous current in
-    rw (← dot-unit (w .M + w .M) i F (len-folded w ok previous current lp lc))
-    (small (c .p) R B (c .e + v .e) (sumAbs L) (dot f F) (dot L (previous ++ current)) (fit-current w ok f lf .pp) (near-folded w ok previous current lp lc f lf)
-    (natAbs-dot L (previous ++ current) R (all-append R previous current bp bc)) (leb→le _ _ t))

@@ -11,12 +11,12 @@ use Rattle.integers.proofs.Products.{dot-plus, dot-plus-r}
 use Rattle.lifting.specs.Places.{at}
 use Rattle.lifting.specs.RowForm.{rev, negative, alt, evens, odds, Width, one, two, three, four, five, rowStages}
 use Rattle.lifting.proofs.Lists.{Len, len-lift, len-plus, len-mul, len-rev, len-alt, len-negative, len-evens, len-odds, len-take, len-drop}
-use Rattle.lifting.proofs.RowForms.{Good}
+use Rattle.lifting.proofs.RowForms.{Good, liftA, liftB, len-liftA, len-liftB}
 use Rattle.distance.proofs.Transposed.{unit, len-unit, dot-unit, dot-rev, dot-alt, dot-signs, dot-halves}
 use Rattle.distance.proofs.Columns.{cols, len-cols, mulParts, mulSparse, len-parts, len-sparse, dot-parts, dot-sparse}
 use Rattle.distance.proofs.Carried.{Row, downA, downB, rowA, rowB, rowAt, turned, row3, signed, row2, added, row1, rowOf, columns}
 use Rattle.distance.proofs.Closeness.{Close, Fit, closeA, closeB, fitA, fitB, re-read, exact}
-use Rattle.distance.proofs.Rotations.{liftA, liftB, len-liftA, len-liftB, fit-rowA, fit-rowB, close-liftA, close-liftB}
+use Rattle.distance.proofs.Rotations.{fit-rowA, fit-rowB, close-liftA, close-liftB}
 
 module _ (w : Width) (ok : Good w) where
   -- ---- the frame's place k, and stages 4 and 5, which are the lifts of the rotation on (top, reversed bottom)
@@ -58,7 +58,7 @@ module _ (w : Width) (ok : Good w) where
   fit45 k = fit-turned _ (fit-rowA w ok _ (fit-rowB w ok _ (fitAt k)))
 
   close45 : (k : ℕ) (t b : List ℤ) → Len (w .M) t → Len (w .M) b → Close (row45 k) (at (four w t b ++ five w (four w t b) b) k) t b
-  unfolding row45 four five liftA liftB
+  unfolding row45 four five
   close45 k t b h l =
       let y = rev b in
       let ly = len-rev b l in

@@ -1,11 +1,7 @@
--- Width 8: the tests run here, so that a wrong definition is refused in this crate.
+-- Width 8: the test runs here, so that a wrong definition is refused in this crate.
 use lib.Dec.{T}
-use Rattle.distance.proofs.Runs.{testedAt, foldTested}
+use Rattle.distance.proofs.Runs.{testedAt}
 
 pub near-8 : T (testedAt 8 8 0)
 unfolding testedAt
 near-8 = tt
-
-pub fold-8 : T (foldTested 8)
-unfolding foldTested
-fold-8 = tt

@@ -1,24 +1,19 @@
 -- What is shown of one frame, over the width N as a letter. The crate distance_runs proves it (proofs/Theorems).
 use mathlib.Core.Path.{_≡_}
-use mathlib.Core.Bool.{true, false}
 use mathlib.Core.List.{List, _++_}
 use Prim.Native.Nat.{ℕ, _+_, _*_, _≤_, _<_}
-use lib.Dec.{T}
 use lib.IntN.{ℤ, pos, natAbs, _-ℤ_, _*ℤ_}
 use lib.ListN.{length}
 use Rattle.integers.specs.Vectors.{AllAbs}
-use Rattle.tables.specs.Widths.{byWidth}
+use Rattle.tables.specs.Widths.{byWidth, halfWidth}
 use Rattle.lifting.specs.Places.{at}
+use Rattle.lifting.specs.Limits.{readingLimit, rotatedLimit, coefficientLimit}
 use Rattle.lifting.specs.Steps.{lower, held, stages, frame}
 use Rattle.distance.specs.Exact.{least, greatest, rootM, denominator}
 
--- N is 8, 32 or 128
+-- N is 8, 32 or 128: the half width of any other number is 0
 abbrev pub IsWidth : ℕ → Type 0
-IsWidth N = T (byWidth true true true false N)
-
--- "each from −32,767 to 32,767"
-abbrev pub readingLimit : ℕ
-readingLimit = 32767
+IsWidth N = 0 < halfWidth N
 
 -- N readings, each within R
 pub record Block (N R : ℕ) (x : List ℤ) : Type 0 where
@@ -34,7 +29,7 @@ pub record Near (d N : ℕ) (previous current : List ℤ) (k : ℕ) : Type 0 whe
   pub least-near : natAbs (pos (denominator N) *ℤ coefficient N previous current k -ℤ least N k previous current) ≤ d * denominator N
   pub greatest-near : natAbs (pos (denominator N) *ℤ coefficient N previous current k -ℤ greatest N k previous current) ≤ d * denominator N
 
--- for every two blocks of readings within R
+-- for every two blocks of readings within R: a block of zeros is one, before the first and after the last (proofs/ZeroBlock)
 abbrev pub DistanceAt : ℕ → ℕ → ℕ → Type 0
 DistanceAt N R d = (previous current : List ℤ) → Block N R previous → Block N R current → (k : ℕ) → k < N → Near d N previous current k
 
@@ -48,7 +43,7 @@ promised N = 5 * rootM N + 2
 abbrev pub Promised : Type 0
 Promised = Distance readingLimit promised
 
--- ---- 2. The least whole numbers for which the same test passes; and what change request 14 asks.
+-- ---- 2. The least whole numbers for which the same test passes; and what change request 14 asks of readings within ±32,766.
 unfoldable pub shown : ℕ → ℕ
 shown = byWidth 7 11 20 0
 
@@ -74,20 +69,13 @@ SizesAt N G E = (B : ℕ) (f : List ℤ) → length f ≡ N → AllAbs B f → (
 abbrev pub Sizes : Type 0
 Sizes = (N : ℕ) → IsWidth N → SizesAt N (gain N) (rounding N)
 
--- readings in range fold to values within this (the gate asks for 50,000)
-abbrev pub foldedLimit : ℕ
-foldedLimit = 46342
-
-abbrev pub FoldedAt : ℕ → Type 0
-FoldedAt N = (previous current : List ℤ) → Block N readingLimit previous → Block N readingLimit current → AllAbs foldedLimit (lower N current ++ held N previous)
-
+-- readings in range fold to values within 46,342
 abbrev pub Folded : Type 0
-Folded = (N : ℕ) → IsWidth N → FoldedAt N
+Folded =
+    (N : ℕ) → IsWidth N → (previous current : List ℤ) → Block N readingLimit previous → Block N readingLimit current
+    → AllAbs rotatedLimit (lower N current ++ held N previous)
 
 -- and their frame is one that the gate lets pass on the way back: "every coefficient within ±1,048,576"
-abbrev pub coefficientLimit : ℕ
-coefficientLimit = 1048576
-
 abbrev pub FrameSizes : Type 0
 FrameSizes =
     (N : ℕ) → IsWidth N → (previous current : List ℤ) → Block N readingLimit previous → Block N readingLimit current

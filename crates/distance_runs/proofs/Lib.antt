@@ -3,6 +3,4 @@ pub mod Near128from0
 pub mod Near128from32
 pub mod Near128from64
 pub mod Near128from96
-pub mod Fold32
-pub mod Fold128
 pub mod Theorems

@@ -1,11 +1,11 @@
--- The lift step: y becomes y + the rounded (A x) / 2^k. Against the exact step, a row g is off by at most half a unit for each unit of g.
-use mathlib.Core.Path.{_≡_, refl, sym, _∙_, ap, subst}
-use mathlib.Core.List.{List, [], _∷_, _++_, map, zipWith}
-use Prim.Native.Nat.{ℕ, zero, suc, _+_, _*_, _-_, _^_, _≤_, _<_}
+-- The lift step: y becomes y + the rounded z / 2^k. Against the exact step, a row g is off by at most half a unit for each unit of g.
+use mathlib.Core.Path.{_≡_, refl, sym, _∙_, ap}
+use mathlib.Core.List.{List, [], _∷_, zipWith}
+use Prim.Native.Nat.{ℕ, zero, suc, _*_, _-_, _^_, _≤_, _<_}
 use native.Mathlib.Omega.{arith}
-use native.Mathlib.Nat.{mul-le-mul, suc-inj, le-refl}
+use native.Mathlib.Nat.{suc-inj, le-refl}
 use lib.ListN.{length, getD}
-use lib.IntN.{ℤ, pos, negsuc, negℤ, natAbs, _+ℤ_, _-ℤ_, _*ℤ_, +ℤ-negℤ-cancel, -ℤ-+ℤ-cancel}
+use lib.IntN.{ℤ, pos, natAbs, _+ℤ_, _-ℤ_, _*ℤ_, +ℤ-negℤ-cancel, -ℤ-+ℤ-cancel}
 use Rattle.integers.specs.Floor.{round}
 use Rattle.integers.specs.Vectors.{dot, scale, plus, sumAbs, mulVec, vecMul, Rows}
 use Rattle.integers.proofs.Ring.{ring}
@@ -32,25 +32,26 @@ module _ (p h : ℕ) (f : ℤ → ℤ) (near : (a : ℤ) → natAbs (pos p *ℤ 
       rw (split-term (pos p) g y (f a) a d s t)
       (omega (arith, natAbs-+ℤ (g *ℤ (pos p *ℤ f a -ℤ a)) (pos p *ℤ d -ℤ (s +ℤ t)), natAbs-*ℤ-le g (pos p *ℤ f a -ℤ a) (le-refl (natAbs g)) (near a), lift-row gs ys bs (suc-inj e)))
 
-pub lift-step : (k n : ℕ) (g y : List ℤ) (A : List (List ℤ)) (x : List ℤ) → Rows n A → length y ≡ length A
-    → natAbs (pos (2 ^ k) *ℤ dot g (zipWith (λ y a. y +ℤ round k a) y (mulVec A x)) -ℤ (dot (scale (pos (2 ^ k)) g) y +ℤ dot (vecMul n g A) x)) ≤ 2 ^ (k - 1) * sumAbs g
-lift-step k n g y A x h e = rw (← dot-mulVec n g A x h) (lift-row (2 ^ k) (2 ^ (k - 1)) (round k) (round-near k) g y (mulVec A x) (e ∙ sym (length-mulVec A x)))
-
--- the whole state, x kept and y lifted: the row (u, g) after the step is the row (2 ^ k u + g A, 2 ^ k g) before it
+-- the whole state, x kept and y lifted by amounts z whose row g is a row gs of x: (u, g) after the step is (2 ^ k u + gs, 2 ^ k g) before it
 kept : (p u d v s : ℤ) → p *ℤ (u +ℤ d) -ℤ ((p *ℤ u +ℤ v) +ℤ s) ≡ p *ℤ d -ℤ (s +ℤ v)
 kept p u d v s = simp ring
 
-pub lift-state : (k n : ℕ) (u g x y : List ℤ) (A : List (List ℤ)) → Rows n A → length y ≡ length A → length u ≡ n
+pub lift-known : (k : ℕ) (u g gs x y z : List ℤ) → length y ≡ length z → dot g z ≡ dot gs x → length u ≡ length gs
+    → natAbs (pos (2 ^ k) *ℤ (dot u x +ℤ dot g (zipWith (λ y a. y +ℤ round k a) y z)) -ℤ (dot (plus (scale (pos (2 ^ k)) u) gs) x +ℤ dot (scale (pos (2 ^ k)) g) y)) ≤ 2 ^ (k - 1) * sumAbs g
+lift-known k u g gs x y z e d l =
+    rw (
+      dot-plus (scale (pos (2 ^ k)) u) gs x (length-scale (pos (2 ^ k)) u ∙ l),
+      dot-scale (pos (2 ^ k)) u x,
+      ← d,
+      kept (pos (2 ^ k)) (dot u x) (dot g (zipWith (λ y a. y +ℤ round k a) y z)) (dot g z) (dot (scale (pos (2 ^ k)) g) y),
+    )
+    (lift-row (2 ^ k) (2 ^ (k - 1)) (round k) (round-near k) g y z e)
+
+-- the amounts A x of a matrix
+pub lift-step : (k n : ℕ) (u g x y : List ℤ) (A : List (List ℤ)) → Rows n A → length y ≡ length A → length u ≡ n
     → natAbs (pos (2 ^ k) *ℤ (dot u x +ℤ dot g (zipWith (λ y a. y +ℤ round k a) y (mulVec A x)))
     -ℤ (dot (plus (scale (pos (2 ^ k)) u) (vecMul n g A)) x +ℤ dot (scale (pos (2 ^ k)) g) y)) ≤ 2 ^ (k - 1) * sumAbs g
-lift-state k n u g x y A h e l =
-    let same : length (scale (pos (2 ^ k)) u) ≡ length (vecMul n g A) = omega (arith, length-scale (pos (2 ^ k)) u, length-vecMul n g A h) in
-    rw (
-      dot-plus (scale (pos (2 ^ k)) u) (vecMul n g A) x same,
-      dot-scale (pos (2 ^ k)) u x,
-      kept (pos (2 ^ k)) (dot u x) (dot g (zipWith (λ y a. y +ℤ round k a) y (mulVec A x))) (dot (vecMul n g A) x) (dot (scale (pos (2 ^ k)) g) y),
-    )
-    (lift-step k n g y A x h e)
+lift-step k n u g x y A h e l = lift-known k u g (vecMul n g A) x y (mulVec A x) (e ∙ sym (length-mulVec A x)) (dot-mulVec n g A x h) (l ∙ sym (length-vecMul n g A h))
 
 -- what one operation makes of a list with another of its length, its inverse undoes: a lift's step back, and the step after it
 pub zip-undo : (op back : ℤ → ℤ → ℤ) → ((y a : ℤ) → back (op y a) a ≡ y) → (y a : List ℤ) → length y ≡ length a → zipWith back (zipWith op y a) a ≡ y

@@ -5,10 +5,10 @@ use Prim.Native.Nat.{ℕ, zero, suc, _+_, _*_, _≤_, _<_}
 use native.Mathlib.Nat.{mul-le-mul-left, suc-mul}
 use native.Mathlib.Numerals.{add-one}
 use native.Mathlib.Omega.{arith}
-use borrow.Author.Tests.{ltb-true, ltb-false}
+use borrow.Author.Tests.{ltb-true, ltb-false, eqb-true, eqb-false}
 use mathlib.Core.Bool.{Bool, true, false}
-use lib.Dec.{ltb}
-use lib.IntN.{ℤ, pos, natAbs, _+ℤ_, _*ℤ_}
+use lib.Dec.{eqb, ltb}
+use lib.IntN.{ℤ, pos, natAbs, _+ℤ_, _*ℤ_, +ℤ-assoc, +ℤ-comm, +ℤ-idl, +ℤ-idr}
 use lib.ListN.{length, getD, take, List·getD-eq-default}
 use lib.Seq.{ext-getD, take-all}
 use Rattle.integers.specs.Places.{tab, places, at, sum, Within, sumProducts}
@@ -16,7 +16,7 @@ use Rattle.integers.specs.Vectors.{dot, sumAbs, AllAbs}
 use Rattle.integers.proofs.Order.{natAbs-+ℤ, natAbs-*ℤ}
 use Rattle.integers.proofs.Products.{dot-take-suc-l, all-getD, getD-all}
 
-length-tab : (f : ℕ → ℤ) (n i : ℕ) → length (tab f n i) ≡ n
+pub length-tab {ℓ} : {A : Type ℓ} (f : ℕ → A) (n i : ℕ) → length (tab f n i) ≡ n
 unfolding tab
 length-tab f zero i = refl
 length-tab f (suc n) i = ap suc (length-tab f n (suc i))
@@ -24,14 +24,14 @@ length-tab f (suc n) i = ap suc (length-tab f n (suc i))
 pub length-places : (n : ℕ) (f : ℕ → ℤ) → length (places n f) ≡ n
 length-places n f = length-tab f n 0
 
-at-tab : (f : ℕ → ℤ) (n i j : ℕ) → j < n → at (tab f n i) j ≡ f (i + j)
+pub at-tab {ℓ} : {A : Type ℓ} (f : ℕ → A) (n i j : ℕ) (d : A) → j < n → getD (tab f n i) j d ≡ f (i + j)
 unfolding tab
-at-tab f zero i j h = absurd (omega arith)
-at-tab f (suc n) i zero h = ap f (omega arith)
-at-tab f (suc n) i (suc j) h = at-tab f n (suc i) j (omega arith) ∙ ap f (omega arith)
+at-tab f zero i j d h = absurd (omega arith)
+at-tab f (suc n) i zero d h = ap f (omega arith)
+at-tab f (suc n) i (suc j) d h = at-tab f n (suc i) j d (omega arith) ∙ ap f (omega arith)
 
 pub at-places : (n : ℕ) (f : ℕ → ℤ) (i : ℕ) → i < n → at (places n f) i ≡ f i
-at-places n f i h = at-tab f n 0 i h ∙ ap f (omega arith)
+at-places n f i h = at-tab f n 0 i (pos 0) h ∙ ap f (omega arith)
 
 -- a list is what stands at its places
 pub by-places : (n : ℕ) (xs : List ℤ) (f : ℕ → ℤ) → length xs ≡ n → ((i : ℕ) → i < n → at xs i ≡ f i) → xs ≡ places n f
@@ -43,9 +43,8 @@ places-ext n f g h = by-places n (places n f) g (length-places n f) (λ i l. at-
 pub places-at : (n : ℕ) (xs : List ℤ) → length xs ≡ n → places n (at xs) ≡ xs
 places-at n xs l = sym (by-places n xs (at xs) l (λ i h. refl))
 
--- a list is what is at its places
 pub places-is : (n : ℕ) (f : ℕ → ℤ) (xs : List ℤ) → length xs ≡ n → ((i : ℕ) → i < n → f i ≡ at xs i) → places n f ≡ xs
-places-is n f xs l h = ext-getD (pos 0) (places n f) xs (length-places n f ∙ sym l) (λ i k. let j : i < n = omega (arith, length-places n f) in at-places n f i j ∙ h i j)
+places-is n f xs l h = sym (by-places n xs f l (λ i k. sym (h i k)))
 
 pub all-places : (B n : ℕ) (f : ℕ → ℤ) → ((i : ℕ) → i < n → natAbs (f i) ≤ B) → AllAbs B (places n f)
 all-places B n f h = all-getD B (places n f) (λ i k. let j : i < n = omega (arith, length-places n f) in rw (at-places n f i j) (h i j))
@@ -60,6 +59,31 @@ pub sum-ext : (n : ℕ) (f g : ℕ → ℤ) → ((i : ℕ) → i < n → f i ≡
 unfolding sum
 sum-ext zero f g h = refl
 sum-ext (suc n) f g h = ap₂ _+ℤ_ (sum-ext n f g (λ i l. h i (omega arith))) (h n (omega arith))
+
+-- the first term apart
+pub sum-front : (n : ℕ) (f : ℕ → ℤ) → sum (suc n) f ≡ f 0 +ℤ sum n (λ i. f (suc i))
+unfolding sum
+sum-front zero f = +ℤ-comm (pos 0) (f 0)
+sum-front (suc n) f = ap (λ z. z +ℤ f (suc n)) (sum-front n f) ∙ +ℤ-assoc (f 0) (sum n (λ i. f (suc i))) (f (suc n))
+
+-- all terms are 0, and all but one
+sum-none : (n : ℕ) (f : ℕ → ℤ) → ((i : ℕ) → i < n → f i ≡ pos 0) → sum n f ≡ pos 0
+unfolding sum
+sum-none zero f e = refl
+sum-none (suc n) f e = ap₂ _+ℤ_ (sum-none n f (λ i h. e i (omega arith))) (e n (omega arith))
+
+pub sum-only : (n j : ℕ) (f : ℕ → ℤ) → j < n → ((i : ℕ) → i < n → (i ≡ j → ⊥) → f i ≡ pos 0) → sum n f ≡ f j
+unfolding sum
+sum-only zero j f h e = absurd (omega arith)
+sum-only (suc n) j f h e = by (sum-only n j f) (eqb n j) refl
+  where
+    by : (j < n → ((i : ℕ) → i < n → (i ≡ j → ⊥) → f i ≡ pos 0) → sum n f ≡ f j) → (b : Bool) → eqb n j ≡ b → sum n f +ℤ f n ≡ f j
+    by ih true t =
+        let d = eqb-true n j t in
+        ap₂ _+ℤ_ (sum-none n f (λ i l. e i (omega arith) (λ q. omega arith))) (ap f d) ∙ +ℤ-idl (f j)
+    by ih false t =
+        let d = eqb-false n j t in
+        ap₂ _+ℤ_ (ih (omega (arith, d)) (λ i l q. e i (omega arith) q)) (e n (omega arith) d) ∙ +ℤ-idr (f j)
 
 sum-take : (n : ℕ) (xs ys : List ℤ) → dot (take n xs) ys ≡ sum n (λ k. at xs k *ℤ at ys k)
 unfolding sum

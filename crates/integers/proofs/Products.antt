@@ -125,6 +125,10 @@ all-set B [] i v h k = tt
 all-set B (x ∷ xs) zero v h k = (k, h .1)
 all-set B (x ∷ xs) (suc i) v h k = (h .0, all-set B xs i v (h .1) k)
 
+pub all-append : (B : ℕ) (xs ys : List ℤ) → AllAbs B xs → AllAbs B ys → AllAbs B (xs ++ ys)
+all-append B [] ys h k = k
+all-append B (x ∷ xs) ys h k = (h .0, all-append B xs ys (h .1) k)
+
 pub all-mono : {B C : ℕ} (e : List ℤ) → B ≤ C → AllAbs B e → AllAbs C e
 all-mono [] l h = tt
 all-mono (x ∷ xs) l h = (omega arith, all-mono xs l (h .1))

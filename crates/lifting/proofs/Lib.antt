@@ -9,8 +9,7 @@ pub mod StageSizes
 pub mod TableSizes
 pub mod FrameSizes
 pub mod Parts
-pub mod PlaceLaws
-pub mod StepLengths
+pub mod ListPlaces
 pub mod ThirdStage
 pub mod RowForms
 pub mod ZeroBlock

@@ -1,4 +1,4 @@
--- The lists that the steps are made of: lengths, and each list turned back.
+-- The lengths of the lists that the steps over rows are made of, and a list reversed twice.
 use mathlib.Core.Path.{_≡_, refl, sym, _∙_, ap}
 use mathlib.Core.List.{List, [], _∷_, _++_}
 use Prim.Native.Nat.{ℕ, zero, suc, _+_}
@@ -6,22 +6,20 @@ use native.Mathlib.Omega.{arith}
 use native.Mathlib.Nat.{suc-inj}
 use lib.ListN.{length, take, drop, length-drop}
 use lib.Seq.{length-take-le}
-use lib.IntN.{ℤ, negℤ, _+ℤ_, _-ℤ_, negℤ-negℤ, +ℤ-negℤ-cancel, -ℤ-+ℤ-cancel}
+use lib.IntN.{ℤ, _+ℤ_}
 use Rattle.integers.specs.Floor.{round}
 use Rattle.integers.specs.Vectors.{scale, plus, mulVec, Rows}
+use Rattle.integers.proofs.PlaceLaws.{length-tab}
 use Rattle.integers.proofs.Products.{length-scale, length-plus, length-mulVec}
 use Rattle.integers.proofs.Lifts.{length-lift}
 use Rattle.lifting.specs.Places.{tab}
-use Rattle.lifting.specs.RowForm.{onto, rev, times, less, negative, alt, evens, odds, weave, lift, unlift}
+use Rattle.lifting.specs.RowForm.{onto, rev, times, negative, alt, evens, odds, weave, lift}
 
 abbrev pub Len : ℕ → List ℤ → Type 0
 Len n xs = length xs ≡ n
 
 pub len-lift : {n : ℕ} (k : ℕ) (y a : List ℤ) → Len n y → Len n a → Len n (lift k y a)
 len-lift k y a h l = length-lift (λ y a. y +ℤ round k a) y a (h ∙ sym l) ∙ h
-
-pub len-unlift : {n : ℕ} (k : ℕ) (y a : List ℤ) → Len n y → Len n a → Len n (unlift k y a)
-len-unlift k y a h l = length-lift (λ y a. y -ℤ round k a) y a (h ∙ sym l) ∙ h
 
 pub len-scale : {n : ℕ} (c : ℤ) (xs : List ℤ) → Len n xs → Len n (scale c xs)
 len-scale c xs h = length-scale c xs ∙ h
@@ -73,20 +71,27 @@ same-alt (x ∷ y ∷ xs) = ap (λ k. suc (suc k)) (same-alt xs)
 pub len-alt : {n : ℕ} (xs : List ℤ) → Len n xs → Len n (alt xs)
 len-alt xs h = same-alt xs ∙ h
 
+same-negative : (xs : List ℤ) → length (negative xs) ≡ length xs
+unfolding negative
+same-negative [] = refl
+same-negative (x ∷ xs) = ap suc (same-negative xs)
+
+pub len-negative : {n : ℕ} (xs : List ℤ) → Len n xs → Len n (negative xs)
+len-negative xs h = same-negative xs ∙ h
+
 -- ---- even and odd places
+parted : {n : ℕ} (xs : List ℤ) → length xs ≡ n + n → Len n (evens xs) × Len n (odds xs)
+unfolding evens odds
+parted {n} [] h = (omega arith, omega arith)
+parted {n} (x ∷ []) h = let z : ⊥ = omega arith in absurd z
+parted {n = zero} (x ∷ y ∷ xs) h = let z : ⊥ = omega arith in absurd z
+parted {n = suc n} (x ∷ y ∷ xs) h = let p = parted {n = n} xs (omega arith) in (ap suc (p .0), ap suc (p .1))
+
 pub len-evens : {n : ℕ} (xs : List ℤ) → length xs ≡ n + n → Len n (evens xs)
-unfolding evens
-len-evens {n} [] h = omega arith
-len-evens {n} (x ∷ []) h = omega arith
-len-evens {n = zero} (x ∷ y ∷ xs) h = let z : ⊥ = omega arith in absurd z
-len-evens {n = suc n} (x ∷ y ∷ xs) h = ap suc (len-evens xs (omega arith))
+len-evens xs h = parted xs h .0
 
 pub len-odds : {n : ℕ} (xs : List ℤ) → length xs ≡ n + n → Len n (odds xs)
-unfolding odds
-len-odds {n} [] h = omega arith
-len-odds {n} (x ∷ []) h = omega arith
-len-odds {n = zero} (x ∷ y ∷ xs) h = let z : ⊥ = omega arith in absurd z
-len-odds {n = suc n} (x ∷ y ∷ xs) h = ap suc (len-odds xs (omega arith))
+len-odds xs h = parted xs h .1
 
 pub len-weave : {n : ℕ} (xs ys : List ℤ) → Len n xs → Len n ys → length (weave xs ys) ≡ n + n
 unfolding weave
@@ -102,28 +107,8 @@ len-take {n} xs h = length-take-le n xs (omega arith)
 pub len-drop : {n : ℕ} (xs : List ℤ) → length xs ≡ n + n → Len n (drop n xs)
 len-drop {n} xs h = omega (arith, length-drop n xs)
 
--- ---- a table by index
-pub len-tab {ℓ} : {A : Type ℓ} (f : ℕ → A) (n i : ℕ) → length (tab f n i) ≡ n
-unfolding tab
-len-tab f zero i = refl
-len-tab f (suc n) i = ap suc (len-tab f n (suc i))
-
+-- ---- a table of rows
 pub rows-tab : (f : ℕ → ℕ → ℤ) (n m i : ℕ) → Rows n (tab (λ j. tab (f j) n 0) m i)
 unfolding tab
 rows-tab f n zero i = tt
-rows-tab f n (suc m) i = (len-tab (f i) n 0, rows-tab f n m (suc i))
-
-pub len-less : {n : ℕ} (xs ys : List ℤ) → Len n xs → Len n ys → Len n (less xs ys)
-unfolding less
-len-less [] ys h l = h
-len-less (x ∷ xs) [] h l = l
-len-less {n = zero} (x ∷ xs) (y ∷ ys) h l = let z : ⊥ = omega arith in absurd z
-len-less {n = suc n} (x ∷ xs) (y ∷ ys) h l = ap suc (len-less xs ys (suc-inj h) (suc-inj l))
-
-same-negative : (xs : List ℤ) → length (negative xs) ≡ length xs
-unfolding negative
-same-negative [] = refl
-same-negative (x ∷ xs) = ap suc (same-negative xs)
-
-pub len-negative : {n : ℕ} (xs : List ℤ) → Len n xs → Len n (negative xs)
-len-negative xs h = same-negative xs ∙ h
+rows-tab f n (suc m) i = (length-tab (f i) n 0, rows-tab f n m (suc i))

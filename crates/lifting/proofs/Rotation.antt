@@ -19,17 +19,11 @@ use Rattle.tables.specs.Angles.{halfTurn, reflected, minus, signed}
 use Rattle.tables.specs.Numbers.{sines, halfTangents, halfTangents8, halfTangents32, halfTangents128, cosineOf, sineOf, halfTangentOf}
 use Rattle.tables.proofs.ByWidth.{at-each}
 use Rattle.lifting.specs.Places.{at}
+use Rattle.lifting.specs.Limits.{readingLimit, rotatedLimit, foldedLimit}
 use Rattle.lifting.specs.Steps.{tangent, sine, tangentAmount, sineAmount, rotatedA, rotatedB, lower, held}
 use Rattle.integers.proofs.PlaceLaws.{all-places}
 use Rattle.integers.specs.Tests.{below}
 use Rattle.integers.proofs.Tested.{below-at}
-
--- the limits of a reading, and of what a rotation makes of two
-abbrev pub readingLimit : ℕ
-readingLimit = 32767
-
-abbrev pub rotatedLimit : ℕ
-rotatedLimit = 46342
 
 -- q·z is a row of what is at most L and a row of what is at most h
 sized : (q : ℕ) (z : ℤ) (g k x e : List ℤ) (L h K : ℕ) → pos q *ℤ z ≡ dot g x +ℤ dot k e → AllAbs L x → AllAbs h e → sumAbs g * L + sumAbs k * h < q * suc K → natAbs z ≤ K
@@ -127,8 +121,8 @@ module _ (N : ℕ) (x : List ℤ) (readings : AllAbs readingLimit x) where
   held-size = all-places rotatedLimit (halfWidth N) _ (λ n h. rotatedB-size N n (at x n) (at x (N - 1 - n)) h (getD-all readingLimit x readings n) (getD-all readingLimit x readings (N - 1 - n)))
 
   -- and so within the gate
-  pub lower-gate : AllAbs 50000 (lower N x)
+  pub lower-gate : AllAbs foldedLimit (lower N x)
   lower-gate = all-mono (lower N x) (lit≤ tt) lower-size
 
-  pub held-gate : AllAbs 50000 (held N x)
+  pub held-gate : AllAbs foldedLimit (held N x)
   held-gate = all-mono (held N x) (lit≤ tt) held-size

@@ -8,7 +8,7 @@ use Rattle.tables.specs.Widths.{byWidth, halfWidth}
 use Rattle.tables.specs.Angles.{halfTurn, reflected, minus, signed}
 use Rattle.tables.specs.Numbers.{secants, secants8, secants32, secants128, sineOf, halfTangentOf, secantOf}
 use Rattle.tables.proofs.ByWidth.{at-each}
-use Rattle.tables.proofs.Sizes.{half-tangents-le, cosine-size, secant-size}
+use Rattle.tables.proofs.Sizes.{half-tangents-le, cosine-size}
 use Rattle.lifting.specs.Places.{tab}
 use Rattle.lifting.specs.Steps.{tangent, sine, cosine, oddOf, secant}
 use Rattle.integers.specs.Tests.{below}
@@ -25,10 +25,6 @@ sine-size N m = cosine-size ((2 * m + 1) * (128 / N) + 768)
 pub cosine-entry-size : (N m n : ℕ) → natAbs (cosine N m n) ≤ 2 ^ 28
 unfolding cosine
 cosine-entry-size N m n = cosine-size ((2 * m + 1) * (2 * n + 1) * (128 / halfWidth N))
-
-pub secant-entry-size : (N m n : ℕ) → natAbs (secant N m n) ≤ 11000000000
-unfolding secant
-secant-entry-size N m n = secant-size N (oddOf m n)
 
 abbrev fits : ℕ → ℕ → ℕ → Bool
 fits N M m = leb (sumAbs (tab (secant N m) M 0)) (4 * M * 2 ^ 28)

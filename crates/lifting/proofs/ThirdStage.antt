@@ -7,9 +7,9 @@ use borrow.Author.Tests.{eq-eqb, ne-eqb}
 use lib.Dec.{eqb}
 use lib.IntN.{ℤ, pos, negℤ, _+ℤ_, _-ℤ_, _*ℤ_}
 use Rattle.integers.proofs.Ring.{ring}
+use Rattle.integers.proofs.PlaceLaws.{sum-only}
 use Rattle.lifting.specs.Places.{sum}
 use Rattle.lifting.specs.RowForm.{third}
-use Rattle.lifting.proofs.PlaceLaws.{sum-only}
 
 module _ (M l m : ℕ) (sec cos tan : ℕ → ℤ) (x : ℕ → ℤ) where
   diagonal : ℕ → ℤ

@@ -17,23 +17,37 @@ use Rattle.tables.proofs.ByWidth.{at-each}
 use Rattle.lifting.proofs.Lists.{len-take, len-drop}
 use Rattle.integers.proofs.PlaceLaws.{length-places, at-places, places-is, undone}
 
--- ---- the rotation
+-- ---- the rotation: three steps, each undone by the opposite with the same amount
+module _ (s t : ℤ → ℤ) where
+  abbrev turnA : (ℤ → ℤ → ℤ) → ℤ → ℤ → ℤ
+  turnA op a b = op a (s (op b (t a)))
+
+  abbrev turnB : (ℤ → ℤ → ℤ) → ℤ → ℤ → ℤ
+  turnB op a b = op (op b (t a)) (t (turnA op a b))
+
+  module _ (op back : ℤ → ℤ → ℤ) (u : (z r : ℤ) → back (op z r) r ≡ z) (a b : ℤ) where
+    returned-A : turnA back (turnA op a b) (turnB op a b) ≡ a
+    returned-A = rw (u (op b (t a)) (t (turnA op a b))) (u a (s (op b (t a))))
+
+    returned-B : turnB back (turnA op a b) (turnB op a b) ≡ b
+    returned-B = rw (returned-A, u (op b (t a)) (t (turnA op a b))) (u b (t a))
+
 module _ (N m : ℕ) (a b : ℤ) where
   pub unrotated-rotated-A : unrotatedA N m (rotatedA N m a b) (rotatedB N m a b) ≡ a
   unfolding unrotatedA rotatedA rotatedB
-  unrotated-rotated-A = rw (+ℤ-negℤ-cancel (b +ℤ tangentAmount N m a) (tangentAmount N m (rotatedA N m a b))) (+ℤ-negℤ-cancel a (sineAmount N m (b +ℤ tangentAmount N m a)))
+  unrotated-rotated-A = returned-A (sineAmount N m) (tangentAmount N m) _+ℤ_ _-ℤ_ +ℤ-negℤ-cancel a b
 
   pub unrotated-rotated-B : unrotatedB N m (rotatedA N m a b) (rotatedB N m a b) ≡ b
-  unfolding unrotatedB rotatedB
-  unrotated-rotated-B = rw (unrotated-rotated-A, +ℤ-negℤ-cancel (b +ℤ tangentAmount N m a) (tangentAmount N m (rotatedA N m a b))) (+ℤ-negℤ-cancel b (tangentAmount N m a))
+  unfolding unrotatedA unrotatedB rotatedA rotatedB
+  unrotated-rotated-B = returned-B (sineAmount N m) (tangentAmount N m) _+ℤ_ _-ℤ_ +ℤ-negℤ-cancel a b
 
   pub rotated-unrotated-A : rotatedA N m (unrotatedA N m a b) (unrotatedB N m a b) ≡ a
   unfolding rotatedA unrotatedA unrotatedB
-  rotated-unrotated-A = rw (-ℤ-+ℤ-cancel (b -ℤ tangentAmount N m a) (tangentAmount N m (unrotatedA N m a b))) (-ℤ-+ℤ-cancel a (sineAmount N m (b -ℤ tangentAmount N m a)))
+  rotated-unrotated-A = returned-A (sineAmount N m) (tangentAmount N m) _-ℤ_ _+ℤ_ -ℤ-+ℤ-cancel a b
 
   pub rotated-unrotated-B : rotatedB N m (unrotatedA N m a b) (unrotatedB N m a b) ≡ b
-  unfolding rotatedB unrotatedB
-  rotated-unrotated-B = rw (rotated-unrotated-A, -ℤ-+ℤ-cancel (b -ℤ tangentAmount N m a) (tangentAmount N m (unrotatedA N m a b))) (-ℤ-+ℤ-cancel b (tangentAmount N m a))
+  unfolding rotatedA rotatedB unrotatedA unrotatedB
+  rotated-unrotated-B = returned-B (sineAmount N m) (tangentAmount N m) _-ℤ_ _+ℤ_ -ℤ-+ℤ-cancel a b
 
 -- ---- the stages
 minus-d : (m : ℕ) (z : ℤ) → negℤ (alternate m (negℤ (alternate m z))) ≡ z

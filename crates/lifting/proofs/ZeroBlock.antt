@@ -1,13 +1,13 @@
--- A block of zeros folds to zeros, so that the frame of a first block, with nothing held, is the one behind a block of zeros.
+-- A block of zeros holds zeros, so that the frame of a first block, with nothing held, is the one behind a block of zeros.
 use mathlib.Core.Path.{_≡_, refl, sym, _∙_, ap, ap₂}
-use Prim.Native.Nat.{ℕ, zero, suc, _-_}
+use Prim.Native.Nat.{ℕ, zero, suc}
 use lib.IntN.{pos, negℤ, *ℤ-zero}
 use lib.ListN.{replicate, length-replicate}
 use Rattle.integers.specs.Floor.{round, floorDiv}
+use Rattle.integers.proofs.PlaceLaws.{places-is}
 use Rattle.tables.specs.Widths.{halfWidth}
 use Rattle.lifting.specs.Places.{at}
-use Rattle.lifting.specs.Steps.{tangent, sine, tangentAmount, sineAmount, rotatedA, rotatedB, lower, held}
-use Rattle.lifting.proofs.PlaceLaws.{places-are}
+use Rattle.lifting.specs.Steps.{tangent, sine, tangentAmount, sineAmount, rotatedA, rotatedB, held}
 
 at-zeros : (n i : ℕ) → at (replicate n (pos 0)) i ≡ pos 0
 at-zeros zero i = refl
@@ -35,14 +35,8 @@ module _ (N : ℕ) where
   unfolding rotatedB
   rotated-b-zero m = rw (rotated-a-zero m, tangent-zero m)
 
-  pub lower-zeros : (n : ℕ) → lower N (replicate n (pos 0)) ≡ replicate (halfWidth N) (pos 0)
-  unfolding lower
-  lower-zeros n =
-      places-are (halfWidth N) _ (replicate (halfWidth N) (pos 0)) (length-replicate (halfWidth N) (pos 0))
-      (λ i h. ap₂ (rotatedA N (halfWidth N - 1 - i)) (at-zeros n _) (at-zeros n _) ∙ rotated-a-zero _ ∙ sym (at-zeros (halfWidth N) i))
-
   pub held-zeros : (n : ℕ) → held N (replicate n (pos 0)) ≡ replicate (halfWidth N) (pos 0)
   unfolding held
   held-zeros n =
-      places-are (halfWidth N) _ (replicate (halfWidth N) (pos 0)) (length-replicate (halfWidth N) (pos 0))
+      places-is (halfWidth N) _ (replicate (halfWidth N) (pos 0)) (length-replicate (halfWidth N) (pos 0))
       (λ i h. ap₂ (rotatedB N i) (at-zeros n _) (at-zeros n _) ∙ rotated-b-zero i ∙ sym (at-zeros (halfWidth N) i))

@@ -1,5 +1,6 @@
 pub mod Places
 pub mod Steps
+pub mod Limits
 pub mod Moves
 pub mod Expanded
 pub mod RowForm
