@@ -19,7 +19,7 @@ use Rattle.lifting.specs.Steps.{sineAmount, tangentAmount, rotatedA, rot
 use Rattle.lifting.specs.Moves.{moved, Moves}
 use Rattle.lifting.specs.Expanded.{Tangents, Sines}
 use Rattle.lifting.proofs.StageLaws.{lifted, respoken, stride-reverse}
-use Rattle.lifting.proofs.PlaceLaws.{at-append}
+use Rattle.lifting.proofs.ListPlaces.{at-append}
 use Rattle.lifting.proofs.StageSizes.{moved-size, moves-wide}
 
 -- ---- one lift of a rotation: y takes the rounded products of a table and x

@@ -1,13 +1,14 @@
 -- What stands at a place of a list that the steps over rows are made of.
 use mathlib.Core.Path.{_≡_, refl, sym, _∙_, ap}
-use mathlib.Core.Bool.{Bool, true, false}
-use mathlib.Core.List.{List, [], _∷_}
+use mathlib.Core.Bool.{Bool, true, false, cond}
+use mathlib.Core.List.{List, [], _∷_, _++_}
 use Prim.Native.Nat.{ℕ, zero, suc, _+_, _-_, _*_, _%_, _<_}
 use native.Mathlib.Omega.{arith}
 use native.Mathlib.Nat.{add-suc, suc-add, zero-add}
 use borrow.Author.Tests.{ltb-true, ltb-false}
 use lib.Dec.{eqb, ltb}
-use lib.ListN.{length}
+use lib.ListN.{length, List·getD-append}
+use lib.Seq.{getD-append-add}
 use lib.IntN.{ℤ, pos, negℤ, _+ℤ_, _*ℤ_, zero-*ℤ, *ℤ-zero}
 use Rattle.integers.specs.Floor.{round}
 use Rattle.integers.specs.Vectors.{dot, mulVec}
@@ -20,6 +21,16 @@ use Rattle.lifting.specs.Steps.{alternate}
 use Rattle.lifting.specs.RowForm.{onto, rev, times, negative, alt, evens, odds, lift}
 use Rattle.lifting.proofs.Lists.{Len}
 use Rattle.lifting.proofs.SumLaws.{row-sum}
+
+-- ---- two lists one behind the other
+pub at-append : (xs ys : List ℤ) (n j : ℕ) → length xs ≡ n → at (xs ++ ys) j ≡ cond (ltb j n) (at xs j) (at ys (j - n))
+at-append xs ys n j l = by (ltb j n) refl
+  where
+    by : (b : Bool) → ltb j n ≡ b → at (xs ++ ys) j ≡ cond b (at xs j) (at ys (j - n))
+    by true e = List·getD-append xs ys (pos 0) j (omega (arith, ltb-true j n e))
+    by false e =
+        let i : j ≡ length xs + (j - n) = omega (arith, ltb-false j n e) in
+        ap (at (xs ++ ys)) i ∙ getD-append-add xs ys (j - n) (pos 0)
 
 -- ---- reversed
 at-onto-past : (xs acc : List ℤ) (j : ℕ) → at (onto xs acc) (length xs + j) ≡ at acc j

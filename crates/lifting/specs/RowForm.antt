@@ -1,9 +1,9 @@
--- The same steps over whole rows, which the code follows and the proofs on distance compute with. proofs/RowForms shows them equal to Steps.
+-- The same steps forward over whole rows, which the proofs on distance compute with. proofs/RowForms shows them equal to Steps.
 use mathlib.Core.Bool.{true, false, cond}
 use mathlib.Core.List.{List, [], _∷_, _++_, zipWith}
-use Prim.Native.Nat.{ℕ, _+_, _-_, _*_, _^_}
+use Prim.Native.Nat.{ℕ, _+_, _*_, _^_}
 use lib.Dec.{eqb}
-use lib.IntN.{ℤ, pos, negℤ, _+ℤ_, _-ℤ_, _*ℤ_}
+use lib.IntN.{ℤ, pos, negℤ, _+ℤ_, _*ℤ_}
 use lib.ListN.{take, drop}
 use Rattle.integers.specs.Floor.{round}
 use Rattle.integers.specs.Vectors.{plus, mulVec}
@@ -24,11 +24,6 @@ unfoldable pub times : List ℤ → List ℤ → List ℤ
 times [] ys = []
 times (x ∷ xs) [] = []
 times (x ∷ xs) (y ∷ ys) = (x *ℤ y) ∷ times xs ys
-
-unfoldable pub less : List ℤ → List ℤ → List ℤ
-less [] ys = []
-less (x ∷ xs) [] = []
-less (x ∷ xs) (y ∷ ys) = (x -ℤ y) ∷ less xs ys
 
 unfoldable pub negative : List ℤ → List ℤ
 negative [] = []
@@ -55,12 +50,9 @@ weave [] ys = []
 weave (x ∷ xs) [] = []
 weave (x ∷ xs) (y ∷ ys) = x ∷ y ∷ weave xs ys
 
--- y takes the rounded amounts a/2^k, and gives them back
+-- y takes the rounded amounts a/2^k
 abbrev pub lift : ℕ → List ℤ → List ℤ → List ℤ
 lift k y a = zipWith (λ y a. y +ℤ round k a) y a
-
-abbrev pub unlift : ℕ → List ℤ → List ℤ → List ℤ
-unlift k y a = zipWith (λ y a. y -ℤ round k a) y a
 
 -- ---- the tables of a width as rows; √M is 2^l
 pub record Width : Type 0 where
@@ -101,21 +93,12 @@ rotA w a b = lift 28 a (sinAmounts w (lift 28 b (tanAmounts w a)))
 unfoldable pub rotB : Width → List ℤ → List ℤ → List ℤ
 rotB w a b = lift 28 (lift 28 b (tanAmounts w a)) (tanAmounts w (rotA w a b))
 
-unfoldable pub unrotA : Width → List ℤ → List ℤ → List ℤ
-unrotA w a b = unlift 28 a (sinAmounts w (unlift 28 b (tanAmounts w a)))
-
-unfoldable pub unrotB : Width → List ℤ → List ℤ → List ℤ
-unrotB w a b = unlift 28 (unlift 28 b (tanAmounts w a)) (tanAmounts w (unrotA w a b))
-
 -- ---- the fold
 unfoldable pub low : Width → List ℤ → List ℤ
 low w x = rev (rotA w (take (w .M) x) (rev (drop (w .M) x)))
 
 unfoldable pub high : Width → List ℤ → List ℤ
 high w x = rotB w (take (w .M) x) (rev (drop (w .M) x))
-
-unfoldable pub unfoldRows : Width → List ℤ → List ℤ → List ℤ
-unfoldRows w low high = unrotA w (rev low) high ++ rev (unrotB w (rev low) high)
 
 -- ---- the five stages
 unfoldable pub one : Width → List ℤ → List ℤ → List ℤ
@@ -145,28 +128,3 @@ rowStages w f =
 -- the frame of a block, with what the block before it held
 unfoldable pub rowFrame : Width → List ℤ → List ℤ → List ℤ
 rowFrame w before block = rowStages w (low w block ++ before)
-
--- ---- undone
-unfoldable pub unone : Width → List ℤ → List ℤ → List ℤ
-unone w top bot = less (unlift (27 + w .l) bot (mulVec (w .cs) (alt top))) top
-
-unfoldable pub untwo : Width → List ℤ → List ℤ → List ℤ
-untwo w top bot = negative (alt (unlift (28 + w .l) top (mulVec (w .cs) bot)))
-
-unfoldable pub unthree : Width → List ℤ → List ℤ → List ℤ
-unthree w top bot = unlift (28 + 2 * w .l) bot (mulVec (w .a3) top)
-
-unfoldable pub unfour : Width → List ℤ → List ℤ → List ℤ
-unfour w top bot = unlift 28 top (sinAmounts w (rev bot))
-
-unfoldable pub unfive : Width → List ℤ → List ℤ → List ℤ
-unfive w top bot = rev (unlift 28 (rev bot) (tanAmounts w top))
-
-unfoldable pub unrowStages : Width → List ℤ → List ℤ
-unrowStages w c =
-    let top₄ = take (w .M) c in
-    let bot₃ = unfive w top₄ (drop (w .M) c) in
-    let top₂ = unfour w top₄ bot₃ in
-    let bot₁ = unthree w top₂ bot₃ in
-    let top = untwo w top₂ bot₁ in
-    weave top (unone w top bot₁)
