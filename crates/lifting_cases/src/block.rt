@@ -1,0 +1,123 @@
+// One block alone, forward and back.
+ghost use mathlib.Core.Path.{_≡_};
+ghost use lib.ListN.{length};
+ghost use Rattle.tables.specs.Widths.{halfWidth};
+ghost use Rattle.lifting.specs.Expanded.{Width};
+use crate::line;
+use lifting::folding;
+use lifting::frame;
+use lifting::gate;
+use lifting::gate::Found;
+use lifting::room;
+use lifting::vectors;
+use tables::widths;
+
+// In i32 where every number is within the gate's 50,000; else nothing.
+fn narrowed(x: &[i64], out: &mut [i32])
+    requires { ⌜ length (now x) ≡ length (now out) ⌝ }
+{
+    let beyond = gate::first_beyond(x, 50000);
+    if let Found::Nothing = beyond {
+        vectors::narrow(x, out);
+    }
+}
+
+fn fold_wide(width: usize, half: usize, wide: &[i64], lower: &mut [i32], held: &mut [i32])
+    requires { ⌜ Width width half ⌝ }
+    requires { ⌜ (length (now wide) ≡ width) × (length (now lower) ≡ halfWidth width) × (length (now held) ≡ halfWidth width) ⌝ }
+{
+    let beyond = gate::first_beyond(wide, 32767);
+    if let Found::Nothing = beyond {
+        let mut low = room::of_64();
+        let mut high = room::of_64();
+        folding::fold(width, half, wide, &mut low[..half], &mut high[..half]);
+        narrowed(&low[..half], lower);
+        narrowed(&high[..half], held);
+    }
+}
+
+fn fold(width: usize, half: usize, block: &[i32], lower: &mut [i32], held: &mut [i32])
+    requires { ⌜ Width width half ⌝ }
+    requires { ⌜ (length (now block) ≡ width) × (length (now lower) ≡ halfWidth width) × (length (now held) ≡ halfWidth width) ⌝ }
+{
+    let mut wide = room::of_128();
+    vectors::widen(block, &mut wide[..width]);
+    fold_wide(width, half, &wide[..width], lower, held);
+}
+
+fn unfold_wide(width: usize, half: usize, low: &[i64], high: &[i64], block: &mut [i32])
+    requires { ⌜ Width width half ⌝ }
+    requires { ⌜ (length (now block) ≡ width) × (length (now low) ≡ halfWidth width) × (length (now high) ≡ halfWidth width) ⌝ }
+{
+    let lower = gate::first_beyond(low, 50000);
+    if let Found::At(_) = lower {
+        return;
+    }
+    let held = gate::first_beyond(high, 50000);
+    if let Found::At(_) = held {
+        return;
+    }
+    let mut wide = room::of_128();
+    folding::unfold(width, half, low, high, &mut wide[..width]);
+    narrowed(&wide[..width], block);
+}
+
+fn unfold(width: usize, half: usize, lower: &[i32], held: &[i32], block: &mut [i32])
+    requires { ⌜ Width width half ⌝ }
+    requires { ⌜ (length (now block) ≡ width) × (length (now lower) ≡ halfWidth width) × (length (now held) ≡ halfWidth width) ⌝ }
+{
+    let mut low = room::of_64();
+    let mut high = room::of_64();
+    vectors::widen(lower, &mut low[..half]);
+    vectors::widen(held, &mut high[..half]);
+    unfold_wide(width, half, &low[..half], &high[..half], block);
+}
+
+fn there_and_back(
+    width: usize,
+    half: usize,
+    block: &[i32],
+    folded: &mut [i32],
+    held: &mut [i32],
+    coefficients: &mut [i32],
+)
+    requires { ⌜ Width width half ⌝ }
+    requires { ⌜ (length (now block) ≡ width) × (length (now folded) ≡ width) × (length (now held) ≡ halfWidth width) × (length (now coefficients) ≡ width) ⌝ }
+{
+    fold(width, half, block, &mut folded[..half], held);
+    line::print(folded);
+    line::print(held);
+    frame::stages(width, folded, coefficients);
+    line::print(coefficients);
+    frame::unstages(width, coefficients, folded);
+    unfold(width, half, &folded[..half], held, coefficients);
+    line::print(coefficients);
+}
+
+fn room_of_128() -> [i32; 128]
+    ensures { λ r. ⌜ 128 ≡ length r ⌝ }
+{
+    [0; 128]
+}
+
+// The folded values, what is held, the frame, and the block again.
+pub fn show(width: usize, block: &[i32]) {
+    let half = widths::half_width(width);
+    if half == 0 {
+        return;
+    }
+    if block.len() != width {
+        return;
+    }
+    let mut folded = room_of_128();
+    let mut held = room_of_128();
+    let mut coefficients = room_of_128();
+    there_and_back(
+        width,
+        half,
+        block,
+        &mut folded[..width],
+        &mut held[..half],
+        &mut coefficients[..width],
+    );
+}
