@@ -70,11 +70,19 @@ slice-aggregate-fold-2 c = part-long _ (c .before .before .of-642 .result) (omeg
 
 fold-requires : tie.Need-fold-requires
 fold-requires c κs =
-    let s = c .before .before .before .before .before .before .before in
-    (s .pre .0, (s .pre .1 .0, ((
-      sym (part-long _ (c .before .before .before .of-64 .result) (omega (arith, c .before .before .before .of-64 .ensures, half-le s))) ∙ s .pre .0 .half-is,
-      sym (part-long _ (c .before .before .of-642 .result) (omega (arith, c .before .before .of-642 .ensures, half-le s))) ∙ s .pre .0 .half-is,
-    ), within-up (none-within 32767 _ (sym (c .before .before .before .before .before .before .first-beyond .ensures) ∙ c .before .before .before .before .enum-told .given .1)) (omega arith))))
+    let s = c .before .before .before .before .before .before .before in (
+      s .pre .0,
+      (
+        s .pre .1 .0,
+        (
+          (
+            sym (part-long _ (c .before .before .before .of-64 .result) (omega (arith, c .before .before .before .of-64 .ensures, half-le s))) ∙ s .pre .0 .half-is,
+            sym (part-long _ (c .before .before .of-642 .result) (omega (arith, c .before .before .of-642 .ensures, half-le s))) ∙ s .pre .0 .half-is,
+          ),
+          within-up (none-within 32767 _ (sym (c .before .before .before .before .before .before .first-beyond .ensures) ∙ c .before .before .before .before .enum-told .given .1)) (omega arith),
+        ),
+      ),
+    )
 
 array-share-prefix-low : tie.Need-array-share-prefix-low
 array-share-prefix-low c = let f = c .before .before in front-le _ (low f) (low-rest f) (low-long f)

@@ -72,13 +72,15 @@ slice-aggregate-there-and-back-3 c = part-long _ (c .before .before .before .roo
 
 there-and-back-requires : tie.Need-there-and-back-requires
 there-and-back-requires c κs =
-    let e = c .before .before .before .before .before .before in
-    (width e, (
-      e .if2 .left,
-      sym (part-long _ (c .before .before .before .before .before .room-of-128 .result) (omega (arith, c .before .before .before .before .before .room-of-128 .ensures, width-le e))),
-      sym (part-long _ (c .before .before .before .before .room-of-1282 .result) (omega (arith, c .before .before .before .before .room-of-1282 .ensures, half-le e))) ∙ width e .half-is,
-      sym (part-long _ (c .before .before .before .room-of-1283 .result) (omega (arith, c .before .before .before .room-of-1283 .ensures, width-le e))),
-    ))
+    let e = c .before .before .before .before .before .before in (
+      width e,
+      (
+        e .if2 .left,
+        sym (part-long _ (c .before .before .before .before .before .room-of-128 .result) (omega (arith, c .before .before .before .before .before .room-of-128 .ensures, width-le e))),
+        sym (part-long _ (c .before .before .before .before .room-of-1282 .result) (omega (arith, c .before .before .before .before .room-of-1282 .ensures, half-le e))) ∙ width e .half-is,
+        sym (part-long _ (c .before .before .before .room-of-1283 .result) (omega (arith, c .before .before .before .room-of-1283 .ensures, width-le e))),
+      ),
+    )
 
 returns-3 : tie.Need-returns-3
 returns-3 c = search needs

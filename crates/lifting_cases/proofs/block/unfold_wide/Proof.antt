@@ -70,11 +70,19 @@ slice-aggregate-unfold c = part-long _ (c .before .of-128 .result) (omega (arith
 
 unfold-requires : tie.Need-unfold-requires
 unfold-requires c κs =
-    let s = c .before .before .before .before .before .before .before .before in
-    (s .pre .0, (record { top-long = s .pre .1 .1; bottom-long = s .pre .1 .2 }, (sym (part-long _ (c .before .of-128 .result) (omega (arith, c .before .of-128 .ensures, width-le s))), (
-      none-within 50000 _ (sym (c .before .before .before .before .before .before .before .first-beyond .ensures) ∙ c .before .before .before .before .before .enum-told2 .given .1),
-      none-within 50000 _ (sym (c .before .before .before .before .first-beyond2 .ensures) ∙ c .before .before .enum-told4 .given .1),
-    ))))
+    let s = c .before .before .before .before .before .before .before .before in (
+      s .pre .0,
+      (
+        record { top-long = s .pre .1 .1; bottom-long = s .pre .1 .2 },
+        (
+          sym (part-long _ (c .before .of-128 .result) (omega (arith, c .before .of-128 .ensures, width-le s))),
+          (
+            none-within 50000 _ (sym (c .before .before .before .before .before .before .before .first-beyond .ensures) ∙ c .before .before .before .before .before .enum-told2 .given .1),
+            none-within 50000 _ (sym (c .before .before .before .before .first-beyond2 .ensures) ∙ c .before .before .enum-told4 .given .1),
+          ),
+        ),
+      ),
+    )
 
 array-share-prefix-wide : tie.Need-array-share-prefix-wide
 array-share-prefix-wide c = let u = c .before in front-le _ (wide u) (rest u) (wide-long u)
