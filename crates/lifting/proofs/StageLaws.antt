@@ -1,27 +1,23 @@
 -- What the work on vectors comes to: each stage of Steps, and its sizes.
-use mathlib.Core.Path.{_≡_, refl, sym, ap, ap₂, _∙_}
+use mathlib.Core.Path.{_≡_, refl, ap, ap₂, _∙_}
 use mathlib.Core.Bool.{Bool, true, false, cond}
 use mathlib.Core.List.{List}
-use Prim.Native.Nat.{ℕ, _+_, _-_, _*_, _%_, _^_, _≤_, _<_}
+use Prim.Native.Nat.{ℕ, _+_, _-_, _*_, _%_, _^_, _<_}
 use native.Mathlib.Nat.{mod-eq-of-lt, mul-add-mod-self-left, pow-succ'}
 use native.Mathlib.Numerals.{add-one}
 use native.Mathlib.Omega.{arith}
-use lib.IntN.{ℤ, pos, negℤ, natAbs, _+ℤ_, _-ℤ_, _*ℤ_}
+use lib.IntN.{ℤ, pos, negℤ, _+ℤ_, _-ℤ_, _*ℤ_}
 use lib.ListN.{length}
-use lib.Pow.{pow-mono}
 use Rattle.integers.specs.Floor.{round}
-use Rattle.integers.specs.Places.{places, at, sum, Within}
+use Rattle.integers.specs.Places.{places, at, sum}
 use Rattle.integers.proofs.Ring.{ring}
-use Rattle.integers.proofs.Order.{natAbs-+ℤ, natAbs--ℤ, natAbs-negℤ}
-use Rattle.integers.proofs.Rounding.{round-whole, round-within}
-use Rattle.integers.proofs.PlaceLaws.{length-places, at-places, places-ext, places-at, within-places, within-up, sum-ext, dot-size, products-le, sumAbs-le}
+use Rattle.integers.proofs.Rounding.{round-whole}
+use Rattle.integers.proofs.PlaceLaws.{length-places, at-places, places-ext, places-at, sum-ext}
 use Rattle.tables.specs.Widths.{byWidth, halfWidth}
 use Rattle.tables.proofs.ByWidth.{at-each}
-use Rattle.tables.proofs.Quadrants.{signed-size}
-use Rattle.lifting.specs.Steps.{rootLog, cosine, secant, alternate, amount1, amount2, amount3, sineAmount, tangentAmount, sine, tangent, stage1, stage2, stage3, stage4, stage5, unstage1, unstage2, unstage3, unstage4, unstage5}
-use Rattle.lifting.specs.Moves.{moved, flipped, Moves}
+use Rattle.lifting.specs.Steps.{rootLog, cosine, secant, alternate, amount1, amount2, amount3, sineAmount, tangentAmount, tangent, stage1, stage2, stage3, stage4, stage5, unstage1, unstage2, unstage3, unstage4, unstage5}
+use Rattle.lifting.specs.Moves.{moved, flipped}
 use Rattle.lifting.specs.Expanded.{cosineSums, secantSums, third, Tangents, Sines}
-use Rattle.lifting.proofs.SumLaws.{row-sum}
 
 -- what `lift` and `alternate` give
 abbrev pub lifted : Bool → ℕ → List ℤ → List ℤ → List ℤ

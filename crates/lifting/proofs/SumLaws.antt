@@ -1,5 +1,5 @@
 -- The row sums of the stages, from the expanded tables.
-use mathlib.Core.Path.{_≡_, refl, sym, ap, ap₂, _∙_}
+use mathlib.Core.Path.{_≡_, refl, sym, ap, _∙_}
 use mathlib.Core.List.{List}
 use Prim.Native.Nat.{ℕ, _+_, _-_, _*_, _/_, _%_, _^_, _≤_, _<_}
 use native.Mathlib.Nat.{mod-lt, div-add-mod, mul-add-mod-self-left}
@@ -7,10 +7,10 @@ use native.Mathlib.Omega.{arith}
 use borrow.Author.Tests.{eq-eqb, ne-eqb, eqb-true, eqb-false, ltb-true, ltb-false}
 use mathlib.Core.Bool.{Bool, true, false}
 use lib.Dec.{eqb, ltb}
-use lib.IntN.{ℤ, pos, natAbs, _-ℤ_, _*ℤ_}
+use lib.IntN.{ℤ, pos, natAbs, _*ℤ_}
 use lib.ListN.{length}
 use Rattle.integers.specs.Places.{places, at, sum, Within, sumProducts}
-use Rattle.integers.specs.Vectors.{dot, sumAbs}
+use Rattle.integers.specs.Vectors.{dot}
 use Rattle.integers.proofs.Differences.{zs}
 use Rattle.integers.proofs.PlaceLaws.{length-places, at-places, places-ext, dot-sum, sum-ext, products-le, sumAbs-le}
 use Rattle.tables.specs.Widths.{halfWidth}

@@ -3,9 +3,9 @@ use mathlib.Core.Path.{_≡_, sym, ap, subst, _∙_}
 use mathlib.Core.List.{List}
 use Prim.Native.Nat.{ℕ, _^_}
 use native.Mathlib.Omega.{arith}
-use lib.IntN.{ℤ, natAbs, negℤ}
+use lib.IntN.{ℤ}
 use lib.ListN.{length}
-use Rattle.integers.specs.Places.{places, Within}
+use Rattle.integers.specs.Places.{Within}
 use Rattle.integers.proofs.Order.{natAbs-negℤ}
 use Rattle.integers.proofs.PlaceLaws.{length-places, within-places}
 use Rattle.tables.specs.Widths.{halfWidth}

@@ -1,6 +1,4 @@
 -- `lifting::expand::root_log` meets its contract.
-use borrow.Author.Needs.{needs}
-use native.Mathlib.Omega.{arith}
 use mathlib.Core.Path.{sym}
 use Rattle.tables.proofs.ByWidth.{at-8, at-32, at-128, at-other}
 use Rattle.lifting.specs.Steps.{rootLog}

@@ -1,16 +1,9 @@
 -- `lifting::expand::turn` meets its contract.
 use borrow.Author.Needs.{needs}
 use native.Mathlib.Omega.{arith}
-use mathlib.Core.Path.{_≡_, refl, sym, ap, ap₂, _∙_}
-use Prim.Native.Nat.{ℕ, _+_, _-_, _*_, _/_, _%_, _^_, _≤_, _<_}
-use lib.IntN.{ℤ, pos, negℤ, natAbs, _*ℤ_, _-ℤ_}
-use lib.ListN.{length}
-use mir.Syntax.{w16, w64}
-use mir.Val.{SFits, toZ, ofZ}
-use Rattle.integers.specs.Places.{places, at, sum}
-use Rattle.integers.proofs.Held.{Held, held, held-ok, held-eq, asks-minus, h-minus}
-use Rattle.integers.proofs.Fills.{Filling, filling-none, filling-next, filling-here, filling-all}
-use Rattle.integers.proofs.PlaceLaws.{places-ext, at-places, length-places}
+use mathlib.Core.Path.{ap, _∙_}
+use Prim.Native.Nat.{_-_}
+use Rattle.integers.proofs.PlaceLaws.{places-ext}
 use native.Mathlib.Nat.{div-le-self}
 use Rattle.tables.specs.Numbers.{cosineOf}
 use Rattle.lifting.proofs.expand.turn.Statement.{statement}

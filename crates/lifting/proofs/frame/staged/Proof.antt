@@ -1,21 +1,18 @@
 -- `lifting::frame::staged` meets its contract.
 use borrow.Author.Needs.{needs}
-use native.Mathlib.Omega.{arith}
 use mathlib.Core.Path.{_≡_, sym, ap, subst, _∙_}
 use mathlib.Core.List.{List}
-use Prim.Native.Nat.{ℕ, _+_, _^_}
+use Prim.Native.Nat.{ℕ, _^_}
 use lib.IntN.{ℤ, pos}
 use lib.ListN.{length}
 use Rattle.integers.specs.Places.{Within}
-use Rattle.integers.proofs.PlaceLaws.{within-up}
-use Rattle.tables.specs.Widths.{halfWidth}
-use Rattle.lifting.specs.Steps.{stages, unstages}
+use Rattle.lifting.specs.Steps.{stages}
 use Rattle.lifting.specs.Gate.{told, firstBeyond}
 use Rattle.lifting.specs.declared.gate.Answer.the-variants.{Done}
 use Rattle.lifting.specs.declared.gate.Found.the-variants.{Nothing}
-use Rattle.lifting.proofs.Undo.{width-half, length-stages, length-unstages}
+use Rattle.lifting.proofs.Undo.{width-half, length-stages}
 use Rattle.lifting.proofs.FrameLaws.{stages-within}
-use Rattle.lifting.proofs.GateLaws.{none-within, stages-refused, stages-done, unstages-refused, unstaged-refused, unstages-done}
+use Rattle.lifting.proofs.GateLaws.{none-within, stages-refused, stages-done}
 use Rattle.lifting.proofs.frame.staged.Statement.{statement}
 use Rattle.lifting.proofs.frame.staged.Tie as tie
 

@@ -7,7 +7,7 @@ use lib.ListN.{length, getD, drop}
 use lib.IntN.{pos, negℤ, _-ℤ_}
 use mir.Syntax.{w64}
 use mir.Val.{SFits, toZ, ofZ}
-use Rattle.integers.proofs.Words.{small, minus-small}
+use Rattle.integers.proofs.Words.{minus-small}
 use Rattle.integers.proofs.Held.{Held, held, held-ok, asks-minus, h-minus, h-lt}
 use Rattle.lifting.specs.Gate.{firstBeyond}
 use Rattle.lifting.proofs.GateLaws.{above, below, neither, stops, goes-on, ends}

@@ -1,20 +1,9 @@
 -- `lifting::stages::all` meets its contract.
 use borrow.Author.Needs.{needs}
-use native.Mathlib.Omega.{arith}
-use mathlib.Core.Path.{_≡_, refl, sym, ap, ap₂, subst, _∙_}
-use mathlib.Core.Bool.{Bool, true, false, cond}
-use mathlib.Core.List.{List}
-use Prim.Native.Nat.{ℕ, _+_, _-_, _*_, _%_, _^_, _≤_, _<_}
-use lib.IntN.{ℤ, pos, natAbs, _*ℤ_}
-use lib.ListN.{length}
-use Rattle.integers.specs.Places.{places, at, Within}
-use Rattle.integers.specs.Floor.{round}
-use Rattle.integers.proofs.PlaceLaws.{length-places, within-places, within-up}
-use Rattle.integers.proofs.Order.{natAbs-*ℤ-le}
-use Rattle.tables.specs.Widths.{halfWidth}
-use Rattle.tables.proofs.ByWidth.{half-width-le}
-use Rattle.lifting.specs.Moves.{moved, Moves}
-use Rattle.lifting.proofs.StageSizes.{moves-wide, moves-whole}
+use mathlib.Core.Path.{sym, ap, subst, _∙_}
+use mathlib.Core.Bool.{cond}
+use Prim.Native.Nat.{ℕ, _-_}
+use Rattle.integers.specs.Places.{Within}
 use Rattle.lifting.specs.Expanded.{top4, bottom5, untop2, unbottom1}
 use Rattle.lifting.proofs.stages.all.Statement.{statement}
 use Rattle.lifting.proofs.stages.all.Tie as tie

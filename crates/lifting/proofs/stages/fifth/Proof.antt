@@ -1,20 +1,18 @@
 -- `lifting::stages::fifth` meets its contract.
 use borrow.Author.Needs.{needs}
 use native.Mathlib.Omega.{arith}
-use mathlib.Core.Path.{_≡_, refl, sym, ap, ap₂, subst, _∙_}
-use mathlib.Core.Bool.{Bool, true, false, cond}
+use mathlib.Core.Path.{_≡_, sym, ap, ap₂, subst, _∙_}
 use mathlib.Core.List.{List}
-use Prim.Native.Nat.{ℕ, _+_, _-_, _*_, _%_, _^_, _≤_, _<_}
-use lib.IntN.{ℤ, pos, natAbs, _*ℤ_}
+use Prim.Native.Nat.{ℕ, _+_, _-_, _*_, _%_, _^_}
+use lib.IntN.{ℤ, _*ℤ_}
 use lib.ListN.{length}
 use Rattle.integers.specs.Places.{places, at, Within}
-use Rattle.integers.specs.Floor.{round}
 use Rattle.integers.proofs.PlaceLaws.{length-places, within-places, within-up}
 use Rattle.integers.proofs.Order.{natAbs-*ℤ-le}
 use Rattle.tables.specs.Widths.{halfWidth}
 use Rattle.tables.proofs.ByWidth.{half-width-le}
-use Rattle.lifting.specs.Moves.{moved, Moves}
-use Rattle.lifting.proofs.StageSizes.{moves-wide, moves-whole}
+use Rattle.lifting.specs.Moves.{Moves}
+use Rattle.lifting.proofs.StageSizes.{moves-wide}
 use Rattle.lifting.proofs.StageLaws.{lifted, stride-reverse, amounts5, stage5-is}
 use Rattle.lifting.proofs.TableSizes.{tangents-within, tangents-long}
 use Rattle.lifting.proofs.stages.fifth.Statement.{statement}

@@ -1,23 +1,16 @@
 -- `lifting::stages::forward` meets its contract.
 use borrow.Author.Needs.{needs}
 use native.Mathlib.Omega.{arith}
-use mathlib.Core.Path.{_≡_, refl, sym, ap, ap₂, subst, _∙_}
-use mathlib.Core.Bool.{Bool, true, false, cond}
+use mathlib.Core.Path.{_≡_, sym, ap, ap₂, subst, _∙_}
 use mathlib.Core.List.{List}
-use Prim.Native.Nat.{ℕ, _+_, _-_, _*_, _%_, _^_, _≤_, _<_}
-use lib.IntN.{ℤ, pos, natAbs, _*ℤ_}
+use Prim.Native.Nat.{ℕ, _-_}
+use lib.IntN.{ℤ}
 use lib.ListN.{length}
-use Rattle.integers.specs.Places.{places, at, Within}
-use Rattle.integers.specs.Floor.{round}
-use Rattle.integers.proofs.PlaceLaws.{length-places, within-places, within-up}
-use Rattle.integers.proofs.Order.{natAbs-*ℤ-le}
-use Rattle.tables.specs.Widths.{halfWidth}
-use Rattle.tables.proofs.ByWidth.{half-width-le}
-use Rattle.lifting.specs.Moves.{moved, Moves}
-use Rattle.lifting.proofs.StageSizes.{moves-wide, moves-whole}
-use Rattle.lifting.specs.Steps.{stage1, stage2, stage3, stage4, stage5, unstage1, unstage2, unstage3, unstage4, unstage5}
-use Rattle.lifting.specs.Expanded.{bottom1, top2, bottom3, top4, bottom5, unbottom5, untop4, unbottom3, untop2, unbottom1}
-use Rattle.lifting.proofs.FrameSizes.{within1, within2, within3, within4, long1, long2, long3, long4, unwithin5, unwithin4, unwithin3, unwithin2, unlong5, unlong4, unlong3, unlong2}
+use Rattle.integers.specs.Places.{Within}
+use Rattle.integers.proofs.PlaceLaws.{within-up}
+use Rattle.lifting.specs.Steps.{stage2, stage3, stage4, stage5}
+use Rattle.lifting.specs.Expanded.{bottom1, top2, bottom3, top4, bottom5}
+use Rattle.lifting.proofs.FrameSizes.{within1, within2, within3, within4, long1, long2, long3, long4}
 use Rattle.lifting.proofs.stages.forward.Statement.{statement}
 use Rattle.lifting.proofs.stages.forward.Tie as tie
 

@@ -1,20 +1,15 @@
 -- `lifting::stages::second` meets its contract.
 use borrow.Author.Needs.{needs}
 use native.Mathlib.Omega.{arith}
-use mathlib.Core.Path.{_≡_, refl, sym, ap, ap₂, subst, _∙_}
-use mathlib.Core.Bool.{Bool, true, false, cond}
-use mathlib.Core.List.{List}
-use Prim.Native.Nat.{ℕ, _+_, _-_, _*_, _%_, _^_, _≤_, _<_}
-use lib.IntN.{ℤ, pos, natAbs, _*ℤ_}
+use mathlib.Core.Path.{_≡_, sym, ap, ap₂, subst, _∙_}
+use mathlib.Core.Bool.{true, false, cond}
+use Prim.Native.Nat.{_+_, _-_, _^_, _≤_}
 use lib.ListN.{length}
-use Rattle.integers.specs.Places.{places, at, Within}
-use Rattle.integers.specs.Floor.{round}
-use Rattle.integers.proofs.PlaceLaws.{length-places, within-places, within-up}
-use Rattle.integers.proofs.Order.{natAbs-*ℤ-le}
+use Rattle.integers.specs.Places.{Within}
+use Rattle.integers.proofs.PlaceLaws.{length-places, within-up}
 use Rattle.tables.specs.Widths.{halfWidth}
-use Rattle.tables.proofs.ByWidth.{half-width-le}
-use Rattle.lifting.specs.Moves.{moved, Moves}
-use Rattle.lifting.proofs.StageSizes.{moves-wide, moves-whole}
+use Rattle.lifting.specs.Moves.{Moves}
+use Rattle.lifting.proofs.StageSizes.{moves-wide}
 use Rattle.lifting.specs.Steps.{rootLog, stage2, unstage2}
 use Rattle.lifting.specs.Expanded.{cosineSums}
 use Rattle.lifting.proofs.StageLaws.{lifted, altered, stage2-is, unstage2-is}

@@ -1,26 +1,22 @@
 -- `lifting::stages::third` meets its contract.
 use borrow.Author.Needs.{needs}
 use native.Mathlib.Omega.{arith}
-use mathlib.Core.Path.{_≡_, refl, sym, ap, ap₂, subst, _∙_}
-use mathlib.Core.Bool.{Bool, true, false, cond}
+use mathlib.Core.Path.{_≡_, sym, ap, ap₂, subst, _∙_}
 use mathlib.Core.List.{List}
-use Prim.Native.Nat.{ℕ, _+_, _-_, _*_, _%_, _^_, _≤_, _<_}
-use lib.IntN.{ℤ, pos, natAbs, _*ℤ_}
+use Prim.Native.Nat.{ℕ, _+_, _-_, _*_, _^_, _≤_}
+use lib.IntN.{ℤ, _*ℤ_}
 use lib.ListN.{length}
 use Rattle.integers.specs.Places.{places, at, Within}
-use Rattle.integers.specs.Floor.{round}
-use Rattle.integers.proofs.PlaceLaws.{length-places, within-places, within-up}
-use Rattle.integers.proofs.Order.{natAbs-*ℤ-le}
+use Rattle.integers.proofs.PlaceLaws.{length-places, within-up}
 use Rattle.tables.specs.Widths.{halfWidth}
 use Rattle.tables.proofs.ByWidth.{half-width-le}
-use Rattle.lifting.specs.Moves.{moved, Moves}
-use Rattle.lifting.proofs.StageSizes.{moves-wide, moves-whole}
+use Rattle.lifting.specs.Moves.{Moves}
 use Rattle.lifting.specs.Steps.{rootLog}
 use Rattle.lifting.specs.Expanded.{cosineSums, secantSums}
-use Rattle.lifting.specs.Expanded.{third as thirdOf}
 use Rattle.lifting.proofs.StageLaws.{lifted, amounts3, stage3-is}
 use Rattle.lifting.proofs.StageSizes.{root-le, cosine-sums-size, secant-sums-size, amounts3-move}
 use Rattle.lifting.proofs.TableSizes.{tangents-within, tangents-long}
+use Rattle.lifting.specs.Expanded.{third as thirdOf}
 use Rattle.lifting.proofs.stages.third.Statement.{statement}
 use Rattle.lifting.proofs.stages.third.Tie as tie
 

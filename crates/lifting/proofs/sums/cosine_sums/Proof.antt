@@ -1,16 +1,15 @@
 -- `lifting::sums::cosine_sums` meets its contract.
 use borrow.Author.Needs.{needs}
 use native.Mathlib.Omega.{arith}
-use mathlib.Core.Path.{_≡_, refl, sym, ap, ap₂, _∙_}
-use Prim.Native.Nat.{ℕ, _+_, _-_, _*_, _/_, _%_, _^_, _≤_, _<_}
-use lib.IntN.{ℤ, pos, negℤ, natAbs, _*ℤ_, _-ℤ_}
+use mathlib.Core.Path.{_≡_, refl, sym, ap, _∙_}
+use Prim.Native.Nat.{ℕ, _+_, _-_, _*_, _%_, _≤_, _<_}
+use lib.IntN.{_*ℤ_}
 use lib.ListN.{length}
-use mir.Syntax.{w16, w64}
-use mir.Val.{SFits, toZ, ofZ}
+use mir.Syntax.{w64}
 use Rattle.integers.specs.Places.{places, at, sum}
-use Rattle.integers.proofs.Held.{Held, held, held-ok, held-eq, asks-minus, h-minus}
-use Rattle.integers.proofs.Fills.{Filling, filling-none, filling-next, filling-here, filling-all}
-use Rattle.integers.proofs.PlaceLaws.{places-ext, at-places, length-places}
+use Rattle.integers.proofs.Held.{held-ok}
+use Rattle.integers.proofs.Fills.{Filling, filling-none, filling-next, filling-all}
+use Rattle.integers.proofs.PlaceLaws.{length-places}
 use Rattle.tables.specs.Widths.{halfWidth}
 use Rattle.tables.proofs.ByWidth.{half-width-le}
 use Rattle.lifting.specs.Steps.{cosine}

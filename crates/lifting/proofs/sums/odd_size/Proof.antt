@@ -1,7 +1,6 @@
 -- `lifting::sums::odd_size` meets its contract.
 use borrow.Author.Needs.{needs}
-use native.Mathlib.Omega.{arith}
-use mathlib.Core.Path.{sym, _∙_}
+use mathlib.Core.Path.{sym}
 use Rattle.lifting.proofs.SumLaws.{odd-sum, odd-above, odd-below}
 use Rattle.lifting.proofs.sums.odd_size.Statement.{statement}
 use Rattle.lifting.proofs.sums.odd_size.Tie as tie

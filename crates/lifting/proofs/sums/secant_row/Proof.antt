@@ -1,19 +1,15 @@
 -- `lifting::sums::secant_row` meets its contract.
 use borrow.Author.Needs.{needs}
 use native.Mathlib.Omega.{arith}
-use mathlib.Core.Path.{_≡_, refl, sym, ap, ap₂, _∙_}
-use Prim.Native.Nat.{ℕ, _+_, _-_, _*_, _/_, _%_, _^_, _≤_, _<_}
-use lib.IntN.{ℤ, pos, negℤ, natAbs, _*ℤ_, _-ℤ_}
+use mathlib.Core.Path.{ap, _∙_}
+use Prim.Native.Nat.{_-_, _≤_, _<_}
 use lib.ListN.{length}
-use mir.Syntax.{w16, w64}
-use mir.Val.{SFits, toZ, ofZ}
-use Rattle.integers.specs.Places.{places, at, sum}
-use Rattle.integers.proofs.Held.{Held, held, held-ok, held-eq, asks-minus, h-minus}
-use Rattle.integers.proofs.Fills.{Filling, filling-none, filling-next, filling-here, filling-all}
-use Rattle.integers.proofs.PlaceLaws.{places-ext, at-places, length-places}
-use Rattle.tables.specs.Widths.{halfWidth}
+use mir.Syntax.{w64}
+use Rattle.integers.specs.Places.{places, at}
+use Rattle.integers.proofs.Held.{held-ok}
+use Rattle.integers.proofs.Fills.{Filling, filling-none, filling-next, filling-all}
 use Rattle.tables.proofs.ByWidth.{half-width-le}
-use Rattle.lifting.specs.Steps.{secant, oddOf}
+use Rattle.lifting.specs.Steps.{secant}
 use Rattle.lifting.proofs.SumLaws.{odd-inside, secants-at}
 use Rattle.lifting.proofs.sums.secant_row.Statement.{statement}
 use Rattle.lifting.proofs.sums.secant_row.Tie as tie

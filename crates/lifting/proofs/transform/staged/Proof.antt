@@ -1,9 +1,9 @@
 -- `lifting::transform::staged` meets its contract.
 use borrow.Author.Needs.{needs}
 use native.Mathlib.Omega.{arith}
-use mathlib.Core.Path.{_≡_, refl, sym, ap, ap₂, subst, _∙_}
-use mathlib.Core.List.{List, _++_}
-use Prim.Native.Nat.{ℕ, _+_, _-_, _*_, _/_, _≤_, _<_}
+use mathlib.Core.Path.{_≡_, sym, ap, _∙_}
+use mathlib.Core.List.{List}
+use Prim.Native.Nat.{ℕ, _+_, _-_, _*_, _/_, _≤_}
 use lib.IntN.{ℤ, pos, negℤ}
 use lib.ListN.{length, take, drop}
 use Rattle.integers.specs.Places.{places}
@@ -12,7 +12,6 @@ use Rattle.tables.specs.Widths.{halfWidth}
 use Rattle.tables.specs.Numbers.{cosineOf, secantOf}
 use Rattle.tables.proofs.ByWidth.{half-width-le}
 use Rattle.lifting.specs.Steps.{sine, tangent}
-use Rattle.lifting.specs.Expanded.{Turn, Secants, Tangents, Sines}
 use Rattle.lifting.proofs.Undo.{width-half}
 use Rattle.lifting.proofs.Parts.{part-long, front, front-long, front-le}
 use Rattle.lifting.proofs.transform.staged.Statement.{statement}

@@ -1,21 +1,19 @@
 -- `lifting::transform::unframed` meets its contract.
 use borrow.Author.Needs.{needs}
 use native.Mathlib.Omega.{arith}
-use mathlib.Core.Path.{_≡_, refl, sym, ap, ap₂, subst, _∙_}
-use mathlib.Core.List.{List, _++_}
-use Prim.Native.Nat.{ℕ, _+_, _*_, _%_, _≤_, _<_}
+use mathlib.Core.Path.{_≡_, sym, ap, ap₂, subst, _∙_}
+use mathlib.Core.List.{List}
+use Prim.Native.Nat.{ℕ, _+_, _*_, _%_, _≤_}
 use lib.IntN.{ℤ}
 use lib.ListN.{length, take, drop}
 use Rattle.integers.specs.Places.{places, at, Within}
-use Rattle.integers.proofs.PlaceLaws.{length-places}
 use Rattle.tables.specs.Widths.{halfWidth}
 use Rattle.tables.proofs.ByWidth.{half-width-le, half-width-ge}
-use Rattle.lifting.specs.Steps.{topOf, bottomOf, stages, unstages}
 use Rattle.lifting.specs.Moves.{wovenAt}
-use Rattle.lifting.specs.Expanded.{top4, bottom5, untop2, unbottom1}
-use Rattle.lifting.proofs.Undo.{width-half, length-top, length-bottom}
-use Rattle.lifting.proofs.FrameSizes.{long4, long5, unlong2, unlong1}
-use Rattle.lifting.proofs.FrameLaws.{read-evens, read-odds, read-front, read-back, stages-halves, unstages-halves, top-within, bottom-within, take-within, drop-within}
+use Rattle.lifting.specs.Expanded.{untop2, unbottom1}
+use Rattle.lifting.proofs.Undo.{width-half}
+use Rattle.lifting.proofs.FrameSizes.{unlong2, unlong1}
+use Rattle.lifting.proofs.FrameLaws.{read-front, read-back, unstages-halves, take-within, drop-within}
 use Rattle.lifting.proofs.transform.unframed.Statement.{statement}
 use Rattle.lifting.proofs.transform.unframed.Tie as tie
 

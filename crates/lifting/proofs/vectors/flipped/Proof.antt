@@ -1,16 +1,11 @@
 -- `lifting::vectors::flipped` meets its contract.
-use borrow.Author.Needs.{needs}
 use native.Mathlib.Omega.{arith}
-use mathlib.Core.Path.{_≡_, sym, ap, ap₂, _∙_}
-use Prim.Native.Nat.{ℕ, _+_, _-_, _*_, _/_, _%_, _^_, _≤_, _<_}
-use lib.IntN.{ℤ, pos, natAbs, _-ℤ_}
-use lib.ListN.{length}
+use mathlib.Core.Path.{sym, ap, _∙_}
+use Prim.Native.Nat.{_-_}
+use lib.IntN.{pos, _-ℤ_}
 use mir.Syntax.{w64}
-use mir.Val.{SFits, toZ, ofZ}
-use Rattle.integers.specs.Places.{places, at}
-use Rattle.integers.proofs.Held.{held, held-ok}
-use Rattle.integers.proofs.Num.{Num, num, num-call, num-add, num-sub, num-mul, add-asks, sub-asks, mul-asks}
-use Rattle.integers.proofs.Fills.{Filling, filling-none, filling-next, filling-here, filling-all}
+use mir.Val.{SFits, ofZ}
+use Rattle.integers.proofs.Held.{held}
 use Rattle.integers.proofs.Held.{Held, asks-minus, h-minus}
 use Rattle.integers.proofs.Words.{minus-small}
 use Rattle.lifting.specs.Moves.{flipped}

@@ -1,21 +1,18 @@
 -- `lifting::vectors::inner_product` meets its contract.
 use borrow.Author.Needs.{needs}
 use native.Mathlib.Omega.{arith}
-use mathlib.Core.Path.{_≡_, sym, ap, subst, _∙_}
+use mathlib.Core.Path.{sym, ap, subst, _∙_}
 use mathlib.Core.List.{List}
-use Prim.Native.Nat.{ℕ, _+_, _-_, _*_, _/_, _%_, _^_, _≤_, _<_}
-use lib.IntN.{ℤ, pos, natAbs, _+ℤ_, _*ℤ_}
+use Prim.Native.Nat.{_+_, _-_, _*_, _≤_}
+use lib.IntN.{ℤ, pos, _+ℤ_, _*ℤ_}
 use lib.ListN.{length}
 use mir.Syntax.{w64}
 use mir.Val.{toZ, ofZ}
-use Rattle.integers.specs.Places.{places, at}
+use Rattle.integers.specs.Places.{at}
 use Rattle.integers.proofs.Held.{held, held-ok}
-use Rattle.integers.proofs.Num.{Num, num, num-call, num-add, num-sub, num-mul, add-asks, sub-asks, mul-asks}
-use Rattle.integers.proofs.Fills.{Filling, filling-none, filling-next, filling-here, filling-all}
 use lib.ListN.{take}
 use lib.Seq.{take-all}
 use mir.Val.{SFits}
-use Rattle.integers.specs.Places.{sumProducts}
 use Rattle.integers.specs.Vectors.{dot}
 use Rattle.integers.proofs.Held.{Held, held-eq, asks-add, asks-mul, h-add, h-mul}
 use Rattle.integers.proofs.Words.{small}

@@ -1,7 +1,7 @@
 -- `lifting::vectors::narrow` meets its contract.
 use borrow.Author.Needs.{needs}
 use native.Mathlib.Omega.{arith}
-use mathlib.Core.Path.{sym, ap, _∙_}
+use mathlib.Core.Path.{_∙_}
 use Prim.Native.Nat.{_-_, _≤_}
 use lib.IntN.{ℤ}
 use lib.ListN.{length}
@@ -9,7 +9,7 @@ use mir.Syntax.{w32, w64}
 use mir.Val.{SFits, ofZ}
 use Rattle.integers.proofs.Words.{small}
 use Rattle.integers.proofs.Held.{Held, held-ok, asks-cast, h-cast}
-use Rattle.integers.specs.Places.{places, at}
+use Rattle.integers.specs.Places.{at}
 use Rattle.integers.proofs.PlaceLaws.{places-at}
 use Rattle.integers.proofs.Fills.{Filling, filling-none, filling-next, filling-all}
 use Rattle.lifting.proofs.vectors.narrow.Statement.{statement}

@@ -1,16 +1,13 @@
 -- `lifting::vectors::strided` meets its contract.
 use borrow.Author.Needs.{needs}
 use native.Mathlib.Omega.{arith}
-use mathlib.Core.Path.{_≡_, sym, ap, ap₂, _∙_}
-use Prim.Native.Nat.{ℕ, _+_, _-_, _*_, _/_, _%_, _^_, _≤_, _<_}
-use lib.IntN.{ℤ, pos, natAbs, _*ℤ_}
+use mathlib.Core.Path.{_≡_, sym, ap, _∙_}
+use Prim.Native.Nat.{_+_, _-_, _*_, _%_, _≤_, _<_}
 use lib.ListN.{length}
 use mir.Syntax.{w64}
-use mir.Val.{toZ, ofZ}
-use Rattle.integers.specs.Places.{places, at}
-use Rattle.integers.proofs.Held.{held, held-ok}
-use Rattle.integers.proofs.Num.{Num, num, num-call, num-add, num-sub, num-mul, add-asks, sub-asks, mul-asks}
-use Rattle.integers.proofs.Fills.{Filling, filling-none, filling-next, filling-here, filling-all}
+use Rattle.integers.specs.Places.{at}
+use Rattle.integers.proofs.Held.{held-ok}
+use Rattle.integers.proofs.Fills.{Filling, filling-none, filling-next, filling-all}
 use native.Mathlib.Nat.{mod-lt, mod-eq-of-lt, mod-add-mod}
 use Rattle.integers.proofs.PlaceLaws.{next-multiple}
 use Rattle.lifting.proofs.vectors.strided.Statement.{statement}

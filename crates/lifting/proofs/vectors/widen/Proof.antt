@@ -1,12 +1,12 @@
 -- `lifting::vectors::widen` meets its contract.
 use borrow.Author.Needs.{needs}
 use native.Mathlib.Omega.{arith}
-use mathlib.Core.Path.{sym, ap, _∙_}
+use mathlib.Core.Path.{_∙_}
 use Prim.Native.Nat.{_-_, _≤_}
 use lib.IntN.{ℤ}
 use lib.ListN.{length}
 use Rattle.integers.proofs.Held.{asks-wide, h-wide}
-use Rattle.integers.specs.Places.{places, at}
+use Rattle.integers.specs.Places.{at}
 use Rattle.integers.proofs.PlaceLaws.{places-at}
 use Rattle.integers.proofs.Fills.{Filling, filling-none, filling-next, filling-all}
 use Rattle.lifting.proofs.vectors.widen.Statement.{statement}

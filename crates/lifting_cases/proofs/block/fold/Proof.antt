@@ -2,17 +2,13 @@
 use borrow.Author.Needs.{needs}
 use native.Mathlib.Omega.{arith}
 use mathlib.Core.Path.{_≡_, sym, ap, _∙_}
-use mathlib.Core.List.{List, _++_}
-use Prim.Native.Nat.{ℕ, _≤_}
+use mathlib.Core.List.{List}
+use Prim.Native.Nat.{_≤_}
 use lib.IntN.{ℤ}
-use lib.ListN.{length, take, drop}
-use Rattle.integers.specs.Places.{Within}
-use Rattle.integers.proofs.PlaceLaws.{within-up}
-use Rattle.tables.specs.Widths.{halfWidth}
+use lib.ListN.{length, drop}
 use Rattle.tables.proofs.ByWidth.{half-width-le}
-use Rattle.lifting.proofs.Undo.{width-half, length-lower, length-held, length-unfolded}
-use Rattle.lifting.proofs.Parts.{part-long, front, front-long, front-le}
-use Rattle.lifting.proofs.GateLaws.{none-within}
+use Rattle.lifting.proofs.Undo.{width-half}
+use Rattle.lifting.proofs.Parts.{part-long, front-long, front-le}
 use Rattle.lifting_cases.proofs.block.fold.Statement.{statement}
 use Rattle.lifting_cases.proofs.block.fold.Tie as tie
 

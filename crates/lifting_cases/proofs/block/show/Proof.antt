@@ -1,19 +1,13 @@
 -- `lifting_cases::block::show` meets its contract.
 use borrow.Author.Needs.{needs}
 use native.Mathlib.Omega.{arith}
-use mathlib.Core.Path.{_≡_, sym, ap, _∙_}
-use mathlib.Core.List.{List, _++_}
-use Prim.Native.Nat.{ℕ, _≤_}
-use lib.IntN.{ℤ}
-use lib.ListN.{length, take, drop}
-use Rattle.integers.specs.Places.{Within}
-use Rattle.integers.proofs.PlaceLaws.{within-up}
+use mathlib.Core.Path.{_≡_, sym, _∙_}
+use Prim.Native.Nat.{_≤_}
 use Rattle.tables.specs.Widths.{halfWidth}
 use Rattle.tables.proofs.ByWidth.{half-width-le}
 use Rattle.lifting.specs.Expanded.{Width}
-use Rattle.lifting.proofs.Undo.{width-half, length-lower, length-held, length-unfolded}
-use Rattle.lifting.proofs.Parts.{part-long, front, front-long, front-le}
-use Rattle.lifting.proofs.GateLaws.{none-within}
+use Rattle.lifting.proofs.Undo.{width-half}
+use Rattle.lifting.proofs.Parts.{part-long}
 use Rattle.lifting_cases.proofs.block.show.Statement.{statement}
 use Rattle.lifting_cases.proofs.block.show.Tie as tie
 
