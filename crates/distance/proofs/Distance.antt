@@ -54,7 +54,7 @@ module _ (N : ℕ) (twice : halfWidth N + halfWidth N ≡ N) where
     unfolding passes
     size-part t = and-right nearTest sizeTest t
 
-    near-at : T (passesAt N k) → (previous current : List ℤ) → Block N readingLimit previous → Block N readingLimit current → Near (shown N) N previous current k
+    near-at : T (passesAt N k) → (previous current : List ℤ) → Block N readingLimit previous → Block N readingLimit current → Near (shown N) N previous current k (coefficient N previous current k)
     unfolding least greatest total anySine coefficient limits
     near-at t previous current p c =
         let w = widthOf N in
@@ -94,7 +94,7 @@ unfolding gain rounding byWidth
 frame-fits = every-width (λ n. gain n * rotatedLimit + 100 * rounding n ≤ 100 * coefficientLimit) (lit≤ tt) (lit≤ tt) (lit≤ tt)
 
 -- a longer distance, and readings in a narrower range
-weaker : {d e N k : ℕ} {previous current : List ℤ} → d ≤ e → Near d N previous current k → Near e N previous current k
+weaker : {d e N k : ℕ} {previous current : List ℤ} {c : ℤ} → d ≤ e → Near d N previous current k c → Near e N previous current k c
 weaker {N} l n =
     let m = mul-le-mul-right (denominator N) l in
     record { least-near = omega (arith, n .least-near); greatest-near = omega (arith, n .greatest-near) }

@@ -24,14 +24,14 @@ pub record Block (N R : ℕ) (x : List ℤ) : Type 0 where
 unfoldable pub coefficient : ℕ → List ℤ → List ℤ → ℕ → ℤ
 coefficient N previous current k = at (frame N (held N previous) current) k
 
--- both ends of the exact coefficient k lie within d of coefficient k
-pub record Near (d N : ℕ) (previous current : List ℤ) (k : ℕ) : Type 0 where
-  pub least-near : natAbs (pos (denominator N) *ℤ coefficient N previous current k -ℤ least N k previous current) ≤ d * denominator N
-  pub greatest-near : natAbs (pos (denominator N) *ℤ coefficient N previous current k -ℤ greatest N k previous current) ≤ d * denominator N
+-- both ends of the exact coefficient k lie within d of the number c
+pub record Near (d N : ℕ) (previous current : List ℤ) (k : ℕ) (c : ℤ) : Type 0 where
+  pub least-near : natAbs (pos (denominator N) *ℤ c -ℤ least N k previous current) ≤ d * denominator N
+  pub greatest-near : natAbs (pos (denominator N) *ℤ c -ℤ greatest N k previous current) ≤ d * denominator N
 
 -- for every two blocks of readings within R: a block of zeros is one, before the first and after the last (proofs/ZeroBlock)
 abbrev pub DistanceAt : ℕ → ℕ → ℕ → Type 0
-DistanceAt N R d = (previous current : List ℤ) → Block N R previous → Block N R current → (k : ℕ) → k < N → Near d N previous current k
+DistanceAt N R d = (previous current : List ℤ) → Block N R previous → Block N R current → (k : ℕ) → k < N → Near d N previous current k (coefficient N previous current k)
 
 abbrev pub Distance : ℕ → (ℕ → ℕ) → Type 0
 Distance R d = (N : ℕ) → IsWidth N → DistanceAt N R (d N)

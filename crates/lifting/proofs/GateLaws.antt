@@ -14,7 +14,7 @@ use lib.Signed.{ltZ, _≤ℤ_}
 use Rattle.integers.specs.Places.{at, Within}
 use Rattle.tables.specs.Widths.{halfWidth}
 use Rattle.lifting.specs.Steps.{stages, unstages}
-use Rattle.lifting.specs.Gate.{told, beyond, firstBeyond, Given, refusedAt, shaped, stagesAsked, unstagesAsked}
+use Rattle.lifting.specs.Gate.{told, beyond, first, firstBeyond, Given, refusedAt, shaped, stagesAsked, unstagesAsked}
 use Rattle.lifting.specs.declared.gate.Answer.the-variants.{Done, Width, InputLength, OutputLength, Range, Folded}
 use Rattle.lifting.specs.declared.gate.Found.{Found}
 use Rattle.lifting.specs.declared.gate.Found.the-variants.{At, Nothing}
@@ -41,17 +41,18 @@ neither (pos (suc l)) (negsuc a) k e f = le-ltb (suc l) (suc a) (omega (arith, l
 neither (negsuc l) x k e f = absurd (k .le)
 
 -- the search that goes on at i: it ends there, goes on, or has nothing left
-pub stops : (l : ℤ) (s : List ℤ) (i : ℕ) → i < length s → beyond l (getD s i (pos 0)) ≡ true → firstBeyond l (drop i s) i ≡ At i
-unfolding firstBeyond
-stops l s i h e = rw (drop-cons s i (pos 0) h, e)
+module _ (test : ℤ → Bool) (s : List ℤ) (i : ℕ) where
+  pub stops : i < length s → test (getD s i (pos 0)) ≡ true → first test (drop i s) i ≡ At i
+  unfolding first
+  stops h e = rw (drop-cons s i (pos 0) h, e)
 
-pub goes-on : (l : ℤ) (s : List ℤ) (i : ℕ) → i < length s → beyond l (getD s i (pos 0)) ≡ false → firstBeyond l (drop i s) i ≡ firstBeyond l (drop (i + 1) s) (i + 1)
-unfolding firstBeyond
-goes-on l s i h e = rw (drop-cons s i (pos 0) h, e, add-one)
+  pub goes-on : i < length s → test (getD s i (pos 0)) ≡ false → first test (drop i s) i ≡ first test (drop (i + 1) s) (i + 1)
+  unfolding first
+  goes-on h e = rw (drop-cons s i (pos 0) h, e, add-one)
 
-pub ends : (l : ℤ) (s : List ℤ) (i : ℕ) → i ≡ length s → firstBeyond l (drop i s) i ≡ Nothing
-unfolding firstBeyond
-ends l s i e = rw (e, drop-length)
+  pub ends : i ≡ length s → first test (drop i s) i ≡ Nothing
+  unfolding first
+  ends e = rw (e, drop-length)
 
 -- ---- a search without result
 found : Found → Bool
@@ -64,7 +65,7 @@ unfound true k f e = absurd (subst T (ap found e) tt)
 unfound false k f e = (refl, e)
 
 none-beyond : (l : ℕ) (s : List ℤ) (k : ℕ) → firstBeyond (pos l) s k ≡ Nothing → (i : ℕ) → natAbs (at s i) ≤ l
-unfolding firstBeyond beyond
+unfolding first beyond
 none-beyond l [] k e i = omega arith
 none-beyond l (x ∷ s) k e zero = ltb-false l (natAbs x) (unfound (beyond (pos l) x) k (firstBeyond (pos l) s (suc k)) e .0)
 none-beyond l (x ∷ s) k e (suc i) = none-beyond l s (suc k) (unfound (beyond (pos l) x) k (firstBeyond (pos l) s (suc k)) e .1) i

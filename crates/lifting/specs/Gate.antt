@@ -28,13 +28,17 @@ told (Folded i) = (10, i)
 told (Halves i) = (11, i)
 told (Unfolded i) = (12, i)
 
--- the first number of a list that is beyond ±limit, where the list's first stands at k
+-- the first number of a list that a test names, where the list's first stands at k
+unfoldable pub first : (ℤ → Bool) → List ℤ → ℕ → Found
+first test [] k = Nothing
+first test (x ∷ xs) k = cond (test x) (At k) (first test xs (suc k))
+
+-- the first that is beyond ±limit
 unfoldable pub beyond : ℤ → ℤ → Bool
 beyond limit x = ltb (natAbs limit) (natAbs x)
 
-unfoldable pub firstBeyond : ℤ → List ℤ → ℕ → Found
-firstBeyond limit [] k = Nothing
-firstBeyond limit (x ∷ xs) k = cond (beyond limit x) (At k) (firstBeyond limit xs (suc k))
+abbrev pub firstBeyond : ℤ → List ℤ → ℕ → Found
+firstBeyond limit = first (beyond limit)
 
 -- what a call gives: the answer's number and place, and the output afterwards
 abbrev pub Given : Type 0
