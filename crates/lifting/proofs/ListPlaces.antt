@@ -12,7 +12,7 @@ use lib.Seq.{getD-append-add}
 use lib.IntN.{ℤ, pos, negℤ, _+ℤ_, _*ℤ_, zero-*ℤ, *ℤ-zero}
 use Rattle.integers.specs.Floor.{round}
 use Rattle.integers.specs.Vectors.{dot, mulVec}
-use Rattle.integers.proofs.PlaceLaws.{at-tab}
+use Rattle.integers.proofs.PlaceLaws.{at-tab, row-sum}
 use Rattle.integers.proofs.Products.{getD-mulVec}
 use Rattle.integers.proofs.Lifts.{getD-lift}
 use Rattle.tables.specs.Angles.{signed}
@@ -20,7 +20,6 @@ use Rattle.lifting.specs.Places.{tab, places, at, sum}
 use Rattle.lifting.specs.Steps.{alternate}
 use Rattle.lifting.specs.RowForm.{onto, rev, times, negative, alt, evens, odds, lift}
 use Rattle.lifting.proofs.Lists.{Len}
-use Rattle.lifting.proofs.SumLaws.{row-sum}
 
 -- ---- two lists one behind the other
 pub at-append : (xs ys : List ℤ) (n j : ℕ) → length xs ≡ n → at (xs ++ ys) j ≡ cond (ltb j n) (at xs j) (at ys (j - n))

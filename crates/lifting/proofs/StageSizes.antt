@@ -14,14 +14,13 @@ use Rattle.integers.specs.Floor.{round}
 use Rattle.integers.specs.Places.{places, at, sum, Within}
 use Rattle.integers.proofs.Order.{natAbs-+ℤ, natAbs--ℤ, natAbs-negℤ, natAbs-*ℤ, natAbs-*ℤ-le}
 use Rattle.integers.proofs.Rounding.{round-whole, round-within}
-use Rattle.integers.proofs.PlaceLaws.{length-places, at-places, within-places, within-up, sum-ext, dot-size, products-le, sumAbs-le}
+use Rattle.integers.proofs.PlaceLaws.{length-places, at-places, within-places, within-up, sum-ext, row-sum, dot-size, products-le, sumAbs-le}
 use Rattle.tables.specs.Widths.{byWidth, halfWidth}
 use Rattle.tables.proofs.ByWidth.{at-each, half-width-le}
 use Rattle.tables.proofs.Quadrants.{signed-size}
 use Rattle.lifting.specs.Steps.{rootLog, cosine, secant, alternate, amount1, amount2, amount3, sineAmount, tangentAmount, sine, tangent, stage1, stage2, stage3, stage4, stage5, unstage1, unstage2, unstage3, unstage4, unstage5}
 use Rattle.lifting.specs.Moves.{moved, flipped, Moves}
 use Rattle.lifting.specs.Expanded.{cosineSums, secantSums, Tangents}
-use Rattle.lifting.proofs.SumLaws.{row-sum}
 use Rattle.lifting.proofs.StageLaws.{lifted, altered, amounts3, amounts3-at}
 use Rattle.lifting.proofs.SecantRows.{cosine-entry-size, secant-row, tangent-size, sine-size}
 

@@ -7,12 +7,11 @@ use native.Mathlib.Omega.{arith}
 use borrow.Author.Tests.{eq-eqb, ne-eqb, eqb-true, eqb-false, ltb-true, ltb-false}
 use mathlib.Core.Bool.{Bool, true, false}
 use lib.Dec.{eqb, ltb}
-use lib.IntN.{ℤ, pos, natAbs, _*ℤ_}
+use lib.IntN.{ℤ, pos, natAbs}
 use lib.ListN.{length}
-use Rattle.integers.specs.Places.{places, at, sum, Within, sumProducts}
-use Rattle.integers.specs.Vectors.{dot}
+use Rattle.integers.specs.Places.{places, at, Within, sumProducts}
 use Rattle.integers.proofs.Differences.{zs}
-use Rattle.integers.proofs.PlaceLaws.{length-places, at-places, places-ext, dot-sum, sum-ext, products-le, sumAbs-le}
+use Rattle.integers.proofs.PlaceLaws.{length-places, at-places, places-ext, products-le, sumAbs-le}
 use Rattle.tables.specs.Widths.{halfWidth}
 use Rattle.tables.specs.Numbers.{cosineOf, secantOf}
 use Rattle.tables.proofs.ByWidth.{at-each, half-width-le}
@@ -36,11 +35,7 @@ module _ (m n : ℕ) where
   unfolding oddOf
   odd-below e h = rw (ne-eqb ((m + n + 1) % 2) 1 e) (simp zs (omega arith))
 
--- ---- a row times a list
-pub row-sum : (M : ℕ) (f : ℕ → ℤ) (x : List ℤ) → dot (places M f) x ≡ sum M (λ n. f n *ℤ at x n)
-row-sum M f x = dot-sum M (places M f) x (length-places M f) ∙ sum-ext M _ _ (λ n l. ap (λ z. z *ℤ at x n) (at-places M f n l))
-
--- the cosines of a turn, read around its end
+-- ---- the cosines of a turn, read around its end
 turn-parts : (N : ℕ) → 0 < halfWidth N → 8 * halfWidth N * (128 / halfWidth N) ≡ 1024
 unfolding halfWidth
 turn-parts = at-each (λ n M. 0 < M → 8 * M * (128 / M) ≡ 1024) 4 16 64 0 (λ z. refl) (λ z. refl) (λ z. refl) (λ n x y w z. absurd (omega arith))

@@ -9,13 +9,13 @@ use mir.Syntax.{w64}
 use Rattle.integers.specs.Places.{places, at, sum}
 use Rattle.integers.proofs.Held.{held-ok}
 use Rattle.integers.proofs.Fills.{Filling, filling-none, filling-next, filling-all}
-use Rattle.integers.proofs.PlaceLaws.{length-places}
+use Rattle.integers.proofs.PlaceLaws.{length-places, row-sum}
 use Rattle.tables.specs.Widths.{halfWidth}
 use Rattle.tables.proofs.ByWidth.{half-width-le}
 use Rattle.lifting.specs.Steps.{cosine}
 use Rattle.integers.specs.Vectors.{dot}
 use Rattle.lifting.specs.Expanded.{cosineSums}
-use Rattle.lifting.proofs.SumLaws.{turn-long, turn-row, cosine-room, row-sum}
+use Rattle.lifting.proofs.SumLaws.{turn-long, turn-row, cosine-room}
 use Rattle.lifting.proofs.sums.cosine_sums.Statement.{statement}
 use Rattle.lifting.proofs.sums.cosine_sums.Tie as tie
 

@@ -9,12 +9,12 @@ use mir.Syntax.{w64}
 use Rattle.integers.specs.Places.{places, at, sum}
 use Rattle.integers.proofs.Held.{held-ok}
 use Rattle.integers.proofs.Fills.{Filling, filling-none, filling-next, filling-all}
-use Rattle.integers.proofs.PlaceLaws.{length-places}
+use Rattle.integers.proofs.PlaceLaws.{length-places, row-sum}
 use Rattle.tables.specs.Widths.{halfWidth}
 use Rattle.lifting.specs.Steps.{secant}
 use Rattle.integers.specs.Vectors.{dot}
 use Rattle.lifting.specs.Expanded.{secantSums}
-use Rattle.lifting.proofs.SumLaws.{secant-room, row-sum}
+use Rattle.lifting.proofs.SumLaws.{secant-room}
 use Rattle.lifting.proofs.sums.secant_sums.Statement.{statement}
 use Rattle.lifting.proofs.sums.secant_sums.Tie as tie
 
