@@ -1,7 +1,4 @@
-pub mod Lists
 pub mod MoveLaws
-pub mod Undo
-pub mod Rotation
 pub mod SecantRows
 pub mod SumLaws
 pub mod StageLaws
@@ -9,10 +6,6 @@ pub mod StageSizes
 pub mod TableSizes
 pub mod FrameSizes
 pub mod Parts
-pub mod ListPlaces
-pub mod ThirdStage
-pub mod RowForms
-pub mod ZeroBlock
 pub mod FrameLaws
 pub mod GateLaws
 pub mod FoldLaws

@@ -7,7 +7,7 @@ use mathlib.Core.List.{List}
 use lib.IntN.{ℤ, negℤ, negℤ-negℤ}
 use Rattle.integers.specs.Places.{at}
 use Rattle.tables.specs.Angles.{signed}
-use Rattle.lifting.specs.Steps.{alternate}
+use Rattle.steps.specs.Steps.{alternate}
 use Rattle.lifting.specs.Moves.{flipped, wovenAt}
 
 module _ (i : ℕ) (z : ℤ) where

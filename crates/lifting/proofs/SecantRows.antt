@@ -9,8 +9,8 @@ use Rattle.tables.specs.Angles.{halfTurn, reflected, minus, signed}
 use Rattle.tables.specs.Numbers.{secants, secants8, secants32, secants128, sineOf, halfTangentOf, secantOf}
 use Rattle.tables.proofs.ByWidth.{at-each}
 use Rattle.tables.proofs.Sizes.{half-tangents-le, cosine-size}
-use Rattle.lifting.specs.Places.{tab}
-use Rattle.lifting.specs.Steps.{tangent, sine, cosine, oddOf, secant}
+use Rattle.steps.specs.Places.{tab}
+use Rattle.steps.specs.Steps.{tangent, sine, cosine, oddOf, secant}
 use Rattle.integers.specs.Tests.{below}
 use Rattle.integers.proofs.Tested.{below-at}
 

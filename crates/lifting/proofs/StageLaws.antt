@@ -15,7 +15,7 @@ use Rattle.integers.proofs.Rounding.{round-whole}
 use Rattle.integers.proofs.PlaceLaws.{length-places, at-places, places-ext, places-at, sum-ext}
 use Rattle.tables.specs.Widths.{byWidth, halfWidth}
 use Rattle.tables.proofs.ByWidth.{at-each}
-use Rattle.lifting.specs.Steps.{rootLog, cosine, secant, alternate, amount1, amount2, amount3, sineAmount, tangentAmount, tangent, stage1, stage2, stage3, stage4, stage5, unstage1, unstage2, unstage3, unstage4, unstage5}
+use Rattle.steps.specs.Steps.{rootLog, cosine, secant, alternate, amount1, amount2, amount3, sineAmount, tangentAmount, tangent, stage1, stage2, stage3, stage4, stage5, unstage1, unstage2, unstage3, unstage4, unstage5}
 use Rattle.lifting.specs.Moves.{moved, flipped}
 use Rattle.lifting.specs.Expanded.{cosineSums, secantSums, third, Tangents, Sines}
 

@@ -18,7 +18,7 @@ use Rattle.integers.proofs.PlaceLaws.{length-places, at-places, within-places, 
 use Rattle.tables.specs.Widths.{byWidth, halfWidth}
 use Rattle.tables.proofs.ByWidth.{at-each, half-width-le}
 use Rattle.tables.proofs.Quadrants.{signed-size}
-use Rattle.lifting.specs.Steps.{rootLog, cosine, secant, alternate, amount1, amount2, amount3, sineAmount, tangentAmount, sine, tangent, stage1, stage2, stage3, stage4, stage5, unstage1, unstage2, unstage3, unstage4, unstage5}
+use Rattle.steps.specs.Steps.{rootLog, cosine, secant, alternate, amount1, amount2, amount3, sineAmount, tangentAmount, sine, tangent, stage1, stage2, stage3, stage4, stage5, unstage1, unstage2, unstage3, unstage4, unstage5}
 use Rattle.lifting.specs.Moves.{moved, flipped, Moves}
 use Rattle.lifting.specs.Expanded.{cosineSums, secantSums, Tangents}
 use Rattle.lifting.proofs.StageLaws.{lifted, altered, amounts3, amounts3-at}

@@ -16,10 +16,10 @@ use Rattle.tables.specs.Widths.{halfWidth}
 use Rattle.tables.specs.Numbers.{cosineOf, secantOf}
 use Rattle.tables.proofs.ByWidth.{at-each, half-width-le}
 use Rattle.tables.proofs.Reading.{cosine-turn}
-use Rattle.lifting.specs.Steps.{cosine, secant, oddOf}
+use Rattle.steps.specs.Steps.{cosine, secant, oddOf}
 use Rattle.lifting.specs.Expanded.{Turn, Secants}
 use Rattle.lifting.proofs.SecantRows.{cosine-entry-size, secant-row}
-use Rattle.lifting.proofs.Undo.{width-half}
+use Rattle.steps.proofs.Undo.{width-half}
 
 -- ---- r by its size
 module _ (m n : ℕ) where

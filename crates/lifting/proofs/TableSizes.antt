@@ -9,7 +9,7 @@ use Rattle.integers.specs.Places.{Within}
 use Rattle.integers.proofs.Order.{natAbs-negℤ}
 use Rattle.integers.proofs.PlaceLaws.{length-places, within-places}
 use Rattle.tables.specs.Widths.{halfWidth}
-use Rattle.lifting.specs.Steps.{sine, tangent}
+use Rattle.steps.specs.Steps.{sine, tangent}
 use Rattle.lifting.specs.Expanded.{Sines, Tangents}
 use Rattle.lifting.proofs.SecantRows.{sine-size, tangent-size}
 

@@ -7,7 +7,7 @@ use lib.ListN.{length}
 use Rattle.integers.specs.Places.{places, at, sum}
 use Rattle.tables.specs.Widths.{halfWidth}
 use Rattle.tables.specs.Numbers.{cosineOf, secantOf}
-use Rattle.lifting.specs.Steps.{rootLog, cosine, secant, tangent, sine, stage1, stage2, stage3, stage4, stage5, unstage1, unstage2, unstage3, unstage4, unstage5}
+use Rattle.steps.specs.Steps.{rootLog, cosine, secant, tangent, sine, stage1, stage2, stage3, stage4, stage5, unstage1, unstage2, unstage3, unstage4, unstage5}
 
 unfoldable pub cosineSums : ℕ → List ℤ → List ℤ
 cosineSums N x = places (halfWidth N) (λ m. sum (halfWidth N) (λ n. cosine N m n *ℤ at x n))

@@ -7,7 +7,7 @@ use lib.IntN.{ℤ, pos, negℤ, natAbs, _+ℤ_, _-ℤ_}
 use lib.ListN.{getD}
 use Rattle.integers.specs.Floor.{round}
 use Rattle.integers.specs.Places.{at}
-use Rattle.lifting.specs.Steps.{alternate}
+use Rattle.steps.specs.Steps.{alternate}
 
 -- a step, or the step undone
 unfoldable pub moved : Bool → ℤ → ℤ → ℤ

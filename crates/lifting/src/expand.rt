@@ -6,7 +6,7 @@ ghost use lib.ListN.{length};
 ghost use Rattle.integers.specs.Places.{places};
 ghost use Rattle.tables.specs.Widths.{halfWidth};
 ghost use Rattle.tables.specs.Numbers.{cosineOf, secantOf};
-ghost use Rattle.lifting.specs.Steps.{rootLog, sine, tangent};
+ghost use Rattle.steps.specs.Steps.{rootLog, sine, tangent};
 
 // l, where √M is 2^l; 0 where there is no such width.
 pub fn root_log(width: usize) -> u32

@@ -6,7 +6,7 @@ ghost use lib.IntN.{natAbs, _*ℤ_};
 ghost use lib.ListN.{length};
 ghost use Rattle.integers.specs.Places.{places, at, Within};
 ghost use Rattle.tables.specs.Widths.{halfWidth};
-ghost use Rattle.lifting.specs.Steps.{rootLog, stage1, stage2, stage3, stage4, stage5, unstage1, unstage2, unstage3, unstage4, unstage5};
+ghost use Rattle.steps.specs.Steps.{rootLog, stage1, stage2, stage3, stage4, stage5, unstage1, unstage2, unstage3, unstage4, unstage5};
 ghost use Rattle.lifting.specs.Expanded.{third, Turn, Secants, Tangents, Sines, Halves, Tables, Room, top4, bottom5, untop2, unbottom1};
 use crate::sums;
 use crate::vectors;

@@ -5,7 +5,7 @@ ghost use lib.IntN.{natAbs};
 ghost use lib.ListN.{length};
 ghost use Rattle.integers.specs.Places.{places, Within};
 ghost use Rattle.tables.specs.Widths.{halfWidth};
-ghost use Rattle.lifting.specs.Steps.{oddOf, secant};
+ghost use Rattle.steps.specs.Steps.{oddOf, secant};
 ghost use Rattle.lifting.specs.Expanded.{cosineSums, secantSums, Turn, Secants};
 use crate::vectors;
 

@@ -1,7 +1,7 @@
 -- `lifting::expand::root_log` meets its contract.
 use mathlib.Core.Path.{sym}
 use Rattle.tables.proofs.ByWidth.{at-8, at-32, at-128, at-other}
-use Rattle.lifting.specs.Steps.{rootLog}
+use Rattle.steps.specs.Steps.{rootLog}
 use Rattle.lifting.proofs.expand.root_log.Statement.{statement}
 use Rattle.lifting.proofs.expand.root_log.Tie as tie
 

@@ -6,7 +6,7 @@ use Prim.Native.Nat.{ℕ, _+_, _-_, _*_, _/_}
 use Rattle.integers.proofs.PlaceLaws.{places-ext}
 use native.Mathlib.Nat.{div-le-self}
 use Rattle.tables.specs.Numbers.{cosineOf, sineOf}
-use Rattle.lifting.specs.Steps.{sine}
+use Rattle.steps.specs.Steps.{sine}
 use Rattle.lifting.proofs.expand.sines.Statement.{statement}
 use Rattle.lifting.proofs.expand.sines.Tie as tie
 

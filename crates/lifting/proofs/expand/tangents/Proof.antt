@@ -8,7 +8,7 @@ use mir.Syntax.{w64}
 use mir.Val.{SFits, ofZ}
 use Rattle.integers.proofs.Held.{Held, held-ok, held-eq, asks-minus, h-minus}
 use Rattle.integers.proofs.Fills.{Filling, filling-none, filling-next, filling-all}
-use Rattle.lifting.specs.Steps.{tangent}
+use Rattle.steps.specs.Steps.{tangent}
 use Rattle.lifting.proofs.SecantRows.{tangent-size}
 use Rattle.integers.proofs.Words.{minus-small}
 use Rattle.lifting.proofs.expand.tangents.Statement.{statement}

@@ -10,7 +10,7 @@ use Rattle.tables.specs.Widths.{halfWidth}
 use Rattle.tables.proofs.ByWidth.{half-width-le}
 use Rattle.lifting.specs.Expanded.{Width}
 use Rattle.lifting.specs.Gate.{Given, stagesAsked, stagesAlone}
-use Rattle.lifting.proofs.Undo.{width-half}
+use Rattle.steps.proofs.Undo.{width-half}
 use Rattle.lifting.proofs.Parts.{part-long}
 use Rattle.lifting.proofs.GateLaws.{width-refused, input-refused, output-refused, shape-passed}
 use Rattle.lifting.proofs.frame.stages.Statement.{statement}

@@ -8,7 +8,7 @@ use lib.IntN.{ℤ}
 use lib.ListN.{length}
 use Rattle.integers.specs.Places.{Within}
 use Rattle.integers.proofs.PlaceLaws.{within-up}
-use Rattle.lifting.specs.Steps.{unstage1, unstage2, unstage3, unstage4}
+use Rattle.steps.specs.Steps.{unstage1, unstage2, unstage3, unstage4}
 use Rattle.lifting.specs.Expanded.{top2, bottom3, unbottom5, untop4, unbottom3, untop2, unbottom1}
 use Rattle.lifting.proofs.FrameSizes.{unwithin5, unwithin4, unwithin3, unwithin2, unlong5, unlong4, unlong3, unlong2}
 use Rattle.lifting.proofs.stages.backward.Statement.{statement}

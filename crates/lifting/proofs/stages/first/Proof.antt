@@ -12,7 +12,7 @@ use Rattle.tables.proofs.ByWidth.{half-width-le}
 use Rattle.lifting.specs.Moves.{Moves}
 use Rattle.lifting.proofs.StageSizes.{moves-wide, moves-whole}
 use Rattle.tables.proofs.ByWidth.{half-width-ge}
-use Rattle.lifting.specs.Steps.{rootLog, stage1, unstage1}
+use Rattle.steps.specs.Steps.{rootLog, stage1, unstage1}
 use Rattle.lifting.specs.Expanded.{cosineSums}
 use Rattle.lifting.proofs.StageLaws.{lifted, altered, stride-copy, stage1-is, unstage1-is}
 use Rattle.lifting.proofs.StageSizes.{root-le, altered-within, lifted-wide, lifted-whole, cosine-sums-wide}

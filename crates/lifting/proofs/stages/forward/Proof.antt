@@ -8,7 +8,7 @@ use lib.IntN.{ℤ}
 use lib.ListN.{length}
 use Rattle.integers.specs.Places.{Within}
 use Rattle.integers.proofs.PlaceLaws.{within-up}
-use Rattle.lifting.specs.Steps.{stage2, stage3, stage4, stage5}
+use Rattle.steps.specs.Steps.{stage2, stage3, stage4, stage5}
 use Rattle.lifting.specs.Expanded.{bottom1, top2, bottom3, top4, bottom5}
 use Rattle.lifting.proofs.FrameSizes.{within1, within2, within3, within4, long1, long2, long3, long4}
 use Rattle.lifting.proofs.stages.forward.Statement.{statement}

@@ -10,7 +10,7 @@ use Rattle.integers.proofs.PlaceLaws.{length-places, within-up}
 use Rattle.tables.specs.Widths.{halfWidth}
 use Rattle.lifting.specs.Moves.{Moves}
 use Rattle.lifting.proofs.StageSizes.{moves-wide}
-use Rattle.lifting.specs.Steps.{rootLog, stage2, unstage2}
+use Rattle.steps.specs.Steps.{rootLog, stage2, unstage2}
 use Rattle.lifting.specs.Expanded.{cosineSums}
 use Rattle.lifting.proofs.StageLaws.{lifted, altered, stage2-is, unstage2-is}
 use Rattle.lifting.proofs.StageSizes.{root-le, altered-within, lifted-wide, cosine-sums-wide}

@@ -11,7 +11,7 @@ use Rattle.integers.proofs.PlaceLaws.{length-places, within-up}
 use Rattle.tables.specs.Widths.{halfWidth}
 use Rattle.tables.proofs.ByWidth.{half-width-le}
 use Rattle.lifting.specs.Moves.{Moves}
-use Rattle.lifting.specs.Steps.{rootLog}
+use Rattle.steps.specs.Steps.{rootLog}
 use Rattle.lifting.specs.Expanded.{cosineSums, secantSums}
 use Rattle.lifting.proofs.StageLaws.{lifted, amounts3, stage3-is}
 use Rattle.lifting.proofs.StageSizes.{root-le, cosine-sums-size, secant-sums-size, amounts3-move}

@@ -12,7 +12,7 @@ use Rattle.integers.proofs.Fills.{Filling, filling-none, filling-next, filling-
 use Rattle.integers.proofs.PlaceLaws.{length-places, row-sum}
 use Rattle.tables.specs.Widths.{halfWidth}
 use Rattle.tables.proofs.ByWidth.{half-width-le}
-use Rattle.lifting.specs.Steps.{cosine}
+use Rattle.steps.specs.Steps.{cosine}
 use Rattle.integers.specs.Vectors.{dot}
 use Rattle.lifting.specs.Expanded.{cosineSums}
 use Rattle.lifting.proofs.SumLaws.{turn-long, turn-row, cosine-room}

@@ -9,7 +9,7 @@ use Rattle.integers.specs.Places.{places, at}
 use Rattle.integers.proofs.Held.{held-ok}
 use Rattle.integers.proofs.Fills.{Filling, filling-none, filling-next, filling-all}
 use Rattle.tables.proofs.ByWidth.{half-width-le}
-use Rattle.lifting.specs.Steps.{secant}
+use Rattle.steps.specs.Steps.{secant}
 use Rattle.lifting.proofs.SumLaws.{odd-inside, secants-at}
 use Rattle.lifting.proofs.sums.secant_row.Statement.{statement}
 use Rattle.lifting.proofs.sums.secant_row.Tie as tie

@@ -11,7 +11,7 @@ use Rattle.integers.proofs.Held.{held-ok}
 use Rattle.integers.proofs.Fills.{Filling, filling-none, filling-next, filling-all}
 use Rattle.integers.proofs.PlaceLaws.{length-places, row-sum}
 use Rattle.tables.specs.Widths.{halfWidth}
-use Rattle.lifting.specs.Steps.{secant}
+use Rattle.steps.specs.Steps.{secant}
 use Rattle.integers.specs.Vectors.{dot}
 use Rattle.lifting.specs.Expanded.{secantSums}
 use Rattle.lifting.proofs.SumLaws.{secant-room}

@@ -11,7 +11,7 @@ use Rattle.tables.specs.Widths.{halfWidth}
 use Rattle.tables.proofs.ByWidth.{half-width-le, half-width-ge}
 use Rattle.lifting.specs.Moves.{wovenAt}
 use Rattle.lifting.specs.Expanded.{untop2, unbottom1}
-use Rattle.lifting.proofs.Undo.{width-half}
+use Rattle.steps.proofs.Undo.{width-half}
 use Rattle.lifting.proofs.FrameSizes.{unlong2, unlong1}
 use Rattle.lifting.proofs.FrameLaws.{read-front, read-back, unstages-halves, take-within, drop-within}
 use Rattle.lifting.proofs.transform.unframed.Statement.{statement}

@@ -18,9 +18,9 @@ use Rattle.tables.specs.Widths.{byWidth, halfWidth}
 use Rattle.tables.specs.Angles.{halfTurn, reflected, minus, signed}
 use Rattle.tables.specs.Numbers.{sines, halfTangents, halfTangents8, halfTangents32, halfTangents128, cosineOf, sineOf, halfTangentOf}
 use Rattle.tables.proofs.ByWidth.{at-each}
-use Rattle.lifting.specs.Places.{at}
-use Rattle.lifting.specs.Limits.{readingLimit, rotatedLimit, foldedLimit}
-use Rattle.lifting.specs.Steps.{tangent, sine, tangentAmount, sineAmount, rotatedA, rotatedB, lower, held}
+use Rattle.steps.specs.Places.{at}
+use Rattle.steps.specs.Limits.{readingLimit, rotatedLimit, foldedLimit}
+use Rattle.steps.specs.Steps.{tangent, sine, tangentAmount, sineAmount, rotatedA, rotatedB, lower, held}
 use Rattle.integers.proofs.PlaceLaws.{all-places}
 use Rattle.integers.specs.Tests.{below}
 use Rattle.integers.proofs.Tested.{below-at}

@@ -6,8 +6,8 @@ use lib.ListN.{replicate, length-replicate}
 use Rattle.integers.specs.Floor.{round, floorDiv}
 use Rattle.integers.proofs.PlaceLaws.{places-is}
 use Rattle.tables.specs.Widths.{halfWidth}
-use Rattle.lifting.specs.Places.{at}
-use Rattle.lifting.specs.Steps.{tangent, sine, tangentAmount, sineAmount, rotatedA, rotatedB, held}
+use Rattle.steps.specs.Places.{at}
+use Rattle.steps.specs.Steps.{tangent, sine, tangentAmount, sineAmount, rotatedA, rotatedB, held}
 
 at-zeros : (n i : ℕ) → at (replicate n (pos 0)) i ≡ pos 0
 at-zeros zero i = refl

@@ -11,13 +11,13 @@ use Rattle.integers.specs.Vectors.{plus, mulVec, Rows}
 use Rattle.integers.proofs.PlaceLaws.{length-tab, at-places, places-is, places-ext, sum-ext}
 use Rattle.integers.proofs.Products.{getD-plus}
 use Rattle.tables.specs.Widths.{halfWidth}
-use Rattle.lifting.specs.Places.{places, at, sum}
-use Rattle.lifting.specs.Steps.{rootLog, tangent, sine, cosine, secant, alternate, tangentAmount, sineAmount, rotatedA, rotatedB, lower, held, topOf, bottomOf, amount1, amount2, amount3, stage1, stage2, stage3, stage4, stage5, stages, frame}
-use Rattle.lifting.specs.RowForm.{rev, negative, alt, evens, odds, lift, Width, third, widthOf, tanAmounts, sinAmounts, rotA, rotB, low, high, one, two, three, four, five, rowStages, rowFrame}
-use Rattle.lifting.proofs.Lists.{Len, len-lift, len-plus, len-mul, len-rev, len-times, len-alt, len-evens, len-odds, len-take, len-drop, rows-tab, len-negative}
-use Rattle.lifting.proofs.ListPlaces.{at-rev, at-rev-back, at-times, at-negative, at-lift, at-alt, at-evens, at-odds, at-mul}
-use Rattle.lifting.proofs.Undo.{length-lower, length-top, length-bottom, length-stage1, length-stage2, length-stage3, length-stage4}
-use Rattle.lifting.proofs.ThirdStage.{third-sum}
+use Rattle.steps.specs.Places.{places, at, sum}
+use Rattle.steps.specs.Steps.{rootLog, tangent, sine, cosine, secant, alternate, tangentAmount, sineAmount, rotatedA, rotatedB, lower, held, topOf, bottomOf, amount1, amount2, amount3, stage1, stage2, stage3, stage4, stage5, stages, frame}
+use Rattle.steps.specs.RowForm.{rev, negative, alt, evens, odds, lift, Width, third, widthOf, tanAmounts, sinAmounts, rotA, rotB, low, high, one, two, three, four, five, rowStages, rowFrame}
+use Rattle.steps.proofs.Lists.{Len, len-lift, len-plus, len-mul, len-rev, len-times, len-alt, len-evens, len-odds, len-take, len-drop, rows-tab, len-negative}
+use Rattle.steps.proofs.ListPlaces.{at-rev, at-rev-back, at-times, at-negative, at-lift, at-alt, at-evens, at-odds, at-mul}
+use Rattle.steps.proofs.Undo.{length-lower, length-top, length-bottom, length-stage1, length-stage2, length-stage3, length-stage4}
+use Rattle.steps.proofs.ThirdStage.{third-sum}
 
 -- ---- the tables of a width have its lengths
 pub record Good (w : Width) : Type 0 where

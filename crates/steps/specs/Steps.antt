@@ -10,7 +10,7 @@ use Rattle.integers.specs.Floor.{round}
 use Rattle.tables.specs.Widths.{byWidth, halfWidth}
 use Rattle.tables.specs.Angles.{signed}
 use Rattle.tables.specs.Numbers.{cosineOf, sineOf, halfTangentOf, secantOf}
-use Rattle.lifting.specs.Places.{places, at, sum}
+use Rattle.steps.specs.Places.{places, at, sum}
 
 -- √M is 2^l
 unfoldable pub rootLog : ℕ → ℕ

@@ -12,8 +12,8 @@ use Rattle.integers.specs.Vectors.{scale, plus, mulVec, Rows}
 use Rattle.integers.proofs.PlaceLaws.{length-tab}
 use Rattle.integers.proofs.Products.{length-scale, length-plus, length-mulVec}
 use Rattle.integers.proofs.Lifts.{length-lift}
-use Rattle.lifting.specs.Places.{tab}
-use Rattle.lifting.specs.RowForm.{onto, rev, times, negative, alt, evens, odds, weave, lift}
+use Rattle.steps.specs.Places.{tab}
+use Rattle.steps.specs.RowForm.{onto, rev, times, negative, alt, evens, odds, weave, lift}
 
 abbrev pub Len : ℕ → List ℤ → Type 0
 Len n xs = length xs ≡ n

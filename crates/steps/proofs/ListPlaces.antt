@@ -16,10 +16,10 @@ use Rattle.integers.proofs.PlaceLaws.{at-tab, row-sum}
 use Rattle.integers.proofs.Products.{getD-mulVec}
 use Rattle.integers.proofs.Lifts.{getD-lift}
 use Rattle.tables.specs.Angles.{signed}
-use Rattle.lifting.specs.Places.{tab, places, at, sum}
-use Rattle.lifting.specs.Steps.{alternate}
-use Rattle.lifting.specs.RowForm.{onto, rev, times, negative, alt, evens, odds, lift}
-use Rattle.lifting.proofs.Lists.{Len}
+use Rattle.steps.specs.Places.{tab, places, at, sum}
+use Rattle.steps.specs.Steps.{alternate}
+use Rattle.steps.specs.RowForm.{onto, rev, times, negative, alt, evens, odds, lift}
+use Rattle.steps.proofs.Lists.{Len}
 
 -- ---- two lists one behind the other
 pub at-append : (xs ys : List ℤ) (n j : ℕ) → length xs ≡ n → at (xs ++ ys) j ≡ cond (ltb j n) (at xs j) (at ys (j - n))

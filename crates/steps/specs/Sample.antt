@@ -7,8 +7,8 @@ use Rattle.integers.specs.Floor.{round, floorDiv}
 use Rattle.tables.specs.Widths.{byWidth, halfWidth}
 use Rattle.tables.specs.Angles.{halfTurn, reflected, minus, signed}
 use Rattle.tables.specs.Numbers.{sines, halfTangents, halfTangents8, secants, secants8, cosineOf, sineOf, halfTangentOf, secantOf}
-use Rattle.lifting.specs.Places.{tab, sum}
-use Rattle.lifting.specs.Steps.{rootLog, tangent, sine, cosine, oddOf, secant, alternate, tangentAmount, sineAmount, rotatedA, rotatedB, lower, held, topOf, bottomOf, amount1, amount2, amount3, stage1, stage2, stage3, stage4, stage5, stages, frame, unrotatedA, unrotatedB, unfolded, unstage1, unstage2, unstage3, unstage4, unstage5, interleaved, unstages}
+use Rattle.steps.specs.Places.{tab, sum}
+use Rattle.steps.specs.Steps.{rootLog, tangent, sine, cosine, oddOf, secant, alternate, tangentAmount, sineAmount, rotatedA, rotatedB, lower, held, topOf, bottomOf, amount1, amount2, amount3, stage1, stage2, stage3, stage4, stage5, stages, frame, unrotatedA, unrotatedB, unfolded, unstage1, unstage2, unstage3, unstage4, unstage5, interleaved, unstages}
 
 abbrev block : List ℤ
 block = pos 100 ∷ pos 0 ∷ pos 0 ∷ pos 0 ∷ pos 0 ∷ pos 0 ∷ pos 0 ∷ pos 0 ∷ []

@@ -11,10 +11,10 @@ use lib.ListN.{length, take, drop, length-append, take-append-drop}
 use lib.Seq.{take-at, drop-at}
 use Rattle.tables.specs.Widths.{halfWidth}
 use Rattle.tables.specs.Angles.{signed}
-use Rattle.lifting.specs.Places.{places, at}
-use Rattle.lifting.specs.Steps.{alternate, tangentAmount, sineAmount, rotatedA, rotatedB, unrotatedA, unrotatedB, lower, held, unfolded, topOf, bottomOf, interleaved, amount1, amount2, amount3, stage1, stage2, stage3, stage4, stage5, stages, unstage1, unstage2, unstage3, unstage4, unstage5, unstages}
+use Rattle.steps.specs.Places.{places, at}
+use Rattle.steps.specs.Steps.{alternate, tangentAmount, sineAmount, rotatedA, rotatedB, unrotatedA, unrotatedB, lower, held, unfolded, topOf, bottomOf, interleaved, amount1, amount2, amount3, stage1, stage2, stage3, stage4, stage5, stages, unstage1, unstage2, unstage3, unstage4, unstage5, unstages}
 use Rattle.tables.proofs.ByWidth.{at-each}
-use Rattle.lifting.proofs.Lists.{len-take, len-drop}
+use Rattle.steps.proofs.Lists.{len-take, len-drop}
 use Rattle.integers.proofs.PlaceLaws.{length-places, at-places, places-is, undone}
 
 -- ---- the rotation: three steps, each undone by the opposite with the same amount

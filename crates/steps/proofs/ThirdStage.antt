@@ -8,8 +8,8 @@ use lib.Dec.{eqb}
 use lib.IntN.{ℤ, pos, negℤ, _+ℤ_, _-ℤ_, _*ℤ_}
 use Rattle.integers.proofs.Ring.{ring}
 use Rattle.integers.proofs.PlaceLaws.{sum-only}
-use Rattle.lifting.specs.Places.{sum}
-use Rattle.lifting.specs.RowForm.{third}
+use Rattle.steps.specs.Places.{sum}
+use Rattle.steps.specs.RowForm.{third}
 
 module _ (M l m : ℕ) (sec cos tan : ℕ → ℤ) (x : ℕ → ℤ) where
   diagonal : ℕ → ℤ

@@ -8,8 +8,8 @@ use lib.ListN.{take, drop}
 use Rattle.integers.specs.Floor.{round}
 use Rattle.integers.specs.Vectors.{plus, mulVec}
 use Rattle.tables.specs.Widths.{halfWidth}
-use Rattle.lifting.specs.Places.{tab}
-use Rattle.lifting.specs.Steps.{rootLog, tangent, sine, cosine, secant}
+use Rattle.steps.specs.Places.{tab}
+use Rattle.steps.specs.Steps.{rootLog, tangent, sine, cosine, secant}
 
 -- ---- lists
 unfoldable pub onto : List ℤ → List ℤ → List ℤ
