@@ -1,10 +1,3 @@
-pub mod MoveLaws
-pub mod SecantRows
-pub mod SumLaws
-pub mod StageLaws
-pub mod StageSizes
-pub mod TableSizes
-pub mod FrameSizes
 pub mod Parts
 pub mod FrameLaws
 pub mod GateLaws

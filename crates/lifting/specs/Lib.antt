@@ -1,3 +1,1 @@
-pub mod Moves
-pub mod Expanded
 pub mod Gate

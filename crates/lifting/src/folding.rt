@@ -5,10 +5,10 @@ ghost use lib.ListN.{length};
 ghost use Rattle.integers.specs.Places.{places, at, Within};
 ghost use Rattle.tables.specs.Widths.{halfWidth};
 ghost use Rattle.steps.specs.Steps.{rotatedA, rotatedB, unrotatedA, unrotatedB};
-ghost use Rattle.lifting.specs.Expanded.{Tangents, Sines, Halves, Room, Width};
-use crate::expand;
-use crate::room;
-use crate::vectors;
+ghost use Rattle.stages.specs.Expanded.{Tangents, Sines, Halves, Room, Width};
+use stages::expand;
+use stages::room;
+use stages::vectors;
 
 // Each pair of a and b rotated at its place, or all rotated back; spare is room to work in.
 fn rotate(

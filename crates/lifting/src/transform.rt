@@ -6,11 +6,10 @@ ghost use lib.ListN.{length};
 ghost use Rattle.integers.specs.Places.{Within};
 ghost use Rattle.tables.specs.Widths.{halfWidth};
 ghost use Rattle.steps.specs.Steps.{stages, unstages};
-ghost use Rattle.lifting.specs.Expanded.{Halves, top4, bottom5, untop2, unbottom1, Width};
-use crate::expand;
-use crate::room;
-use crate::stages;
-use crate::vectors;
+ghost use Rattle.stages.specs.Expanded.{Halves, top4, bottom5, untop2, unbottom1, Width};
+use stages::expand;
+use stages::room;
+use stages::vectors;
 
 fn staged(undo: bool, width: usize, half: usize, top: &mut [i64], bottom: &mut [i64])
     requires { ⌜ Width width half ⌝ }
@@ -32,7 +31,7 @@ fn staged(undo: bool, width: usize, half: usize, top: &mut [i64], bottom: &mut [
     expand::tangents(width, &mut tangents[..half]);
     expand::sines(width, &mut sines[..half]);
     let root = expand::root_log(width);
-    stages::all(
+    stages::stages::all(
         undo,
         width,
         root,

@@ -11,7 +11,7 @@ use Rattle.integers.proofs.PlaceLaws.{length-places}
 use Rattle.tables.specs.Widths.{halfWidth}
 use Rattle.tables.proofs.ByWidth.{half-width-le}
 use Rattle.steps.specs.Steps.{sine, tangent}
-use Rattle.lifting.specs.Expanded.{Tangents, Sines}
+use Rattle.stages.specs.Expanded.{Tangents, Sines}
 use Rattle.steps.proofs.Undo.{width-half}
 use Rattle.lifting.proofs.Parts.{part-long, front, front-long, front-le}
 use Rattle.lifting.proofs.folding.rotated.Statement.{statement}

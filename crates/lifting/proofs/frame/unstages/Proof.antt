@@ -8,7 +8,7 @@ use lib.IntN.{ℤ}
 use lib.ListN.{length, take}
 use Rattle.tables.specs.Widths.{halfWidth}
 use Rattle.tables.proofs.ByWidth.{half-width-le}
-use Rattle.lifting.specs.Expanded.{Width}
+use Rattle.stages.specs.Expanded.{Width}
 use Rattle.lifting.specs.Gate.{Given, unstagesAsked, unstagesAlone}
 use Rattle.steps.proofs.Undo.{width-half}
 use Rattle.lifting.proofs.Parts.{part-long}
