@@ -8,8 +8,8 @@ use lib.ListN.{take, drop}
 use Rattle.integers.specs.Vectors.{plus, scale, sumAbs}
 use Rattle.integers.specs.Tests.{below}
 use Rattle.tables.specs.Boxes.{Box}
-use Rattle.lifting.specs.Places.{tab}
-use Rattle.lifting.specs.RowForm.{rev, onto, times, negative, alt, weave, Width}
+use Rattle.steps.specs.Places.{tab}
+use Rattle.steps.specs.RowForm.{rev, onto, times, negative, alt, weave, Width}
 use Rattle.distance.specs.Exact.{sineAngle, cosineAngle, denominator, rootM}
 use Rattle.distance.proofs.Transposed.{unit, zeros}
 use Rattle.distance.proofs.Columns.{cols, mulParts, mulSparse}

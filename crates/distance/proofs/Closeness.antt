@@ -10,8 +10,8 @@ use Rattle.integers.specs.Vectors.{dot, scale, plus}
 use Rattle.integers.proofs.Ring.{ring}
 use Rattle.integers.proofs.Order.{near-chain}
 use Rattle.integers.proofs.Lifts.{lift-known}
-use Rattle.lifting.specs.RowForm.{lift}
-use Rattle.lifting.proofs.Lists.{Len, len-scale, len-plus}
+use Rattle.steps.specs.RowForm.{lift}
+use Rattle.steps.proofs.Lists.{Len, len-scale, len-plus}
 use Rattle.distance.proofs.Carried.{Row, downA, downB}
 
 -- ---- a row that is close to c on the state (x, y)

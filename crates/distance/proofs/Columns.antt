@@ -10,7 +10,7 @@ use Rattle.integers.specs.Vectors.{dot, scale, plus, mulVec, vecMul, Rows}
 use Rattle.integers.proofs.Differences.{_⊖_, dif, zs, sub⊖}
 use Rattle.integers.proofs.Ring.{ring}
 use Rattle.integers.proofs.Products.{dot-mulVec, length-vecMul}
-use Rattle.lifting.proofs.Lists.{Len, len-mul}
+use Rattle.steps.proofs.Lists.{Len, len-mul}
 use Rattle.distance.proofs.Transposed.{zeros}
 
 -- ---- the columns of a list of rows

@@ -13,13 +13,13 @@ use Rattle.integers.proofs.Products.{all-append, all-mono}
 use Rattle.integers.proofs.Tested.{and-left, and-right}
 use Rattle.tables.specs.Widths.{byWidth, halfWidth}
 use Rattle.tables.proofs.ByWidth.{at-each}
-use Rattle.lifting.specs.Places.{at}
-use Rattle.lifting.specs.Limits.{readingLimit, rotatedLimit, coefficientLimit}
-use Rattle.lifting.specs.Steps.{lower, held, stages, frame}
-use Rattle.lifting.specs.RowForm.{weave, widthOf, high, rowFrame}
-use Rattle.lifting.proofs.Rotation.{lower-size, held-size}
-use Rattle.lifting.proofs.Undo.{length-lower, length-held, width-half}
-use Rattle.lifting.proofs.RowForms.{good, M-of, held-rows, stages-rows, frame-rows}
+use Rattle.steps.specs.Places.{at}
+use Rattle.steps.specs.Limits.{readingLimit, rotatedLimit, coefficientLimit}
+use Rattle.steps.specs.Steps.{lower, held, stages, frame}
+use Rattle.steps.specs.RowForm.{weave, widthOf, high, rowFrame}
+use Rattle.steps.proofs.Rotation.{lower-size, held-size}
+use Rattle.steps.proofs.Undo.{length-lower, length-held, width-half}
+use Rattle.steps.proofs.RowForms.{good, M-of, held-rows, stages-rows, frame-rows}
 use Rattle.distance.specs.Exact.{anySine, anyCosine, lesser, greater, total, least, greatest, rootM, denominator}
 use Rattle.distance.specs.Statement.{IsWidth, Block, coefficient, Near, DistanceAt, promised, Promised, shown, Shown, requested, Requested, gain, rounding, SizesAt, Sizes, Folded, FrameSizes}
 use Rattle.distance.proofs.Carried.{Row, rowOf, columns, currentRow, previousRow, nearBy, sizedBy, sineBoxes, cosineBoxes, passes}

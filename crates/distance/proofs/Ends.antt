@@ -13,7 +13,7 @@ use Rattle.integers.proofs.Ring.{ring}
 use Rattle.integers.proofs.Order.{natAbs-+ℤ, natAbs-*ℤ, natAbs-*ℤ-le}
 use Rattle.integers.proofs.PlaceLaws.{sum-ext, sum-front}
 use Rattle.tables.specs.Boxes.{Box}
-use Rattle.lifting.specs.Places.{tab, at, sum}
+use Rattle.steps.specs.Places.{tab, at, sum}
 use Rattle.distance.specs.Exact.{lesser, greater, term}
 use Rattle.distance.proofs.Carried.{far, fars}
 

@@ -9,9 +9,9 @@ use Rattle.integers.specs.Vectors.{dot}
 use Rattle.integers.proofs.Ring.{*ℤ-distribl}
 use Rattle.integers.proofs.Order.{near-add}
 use Rattle.integers.proofs.Products.{dot-zeros, dot-append}
-use Rattle.lifting.specs.RowForm.{rev, Width, rotA, rotB, low, high}
-use Rattle.lifting.proofs.Lists.{Len, len-rev, len-take, len-drop}
-use Rattle.lifting.proofs.RowForms.{Good, len-rotA, len-rotB}
+use Rattle.steps.specs.RowForm.{rev, Width, rotA, rotB, low, high}
+use Rattle.steps.proofs.Lists.{Len, len-rev, len-take, len-drop}
+use Rattle.steps.proofs.RowForms.{Good, len-rotA, len-rotB}
 use Rattle.distance.proofs.Transposed.{zeros, dot-rev, dot-halves, dot-joined}
 use Rattle.distance.proofs.Carried.{Row, downA, downB, rowA, rowB, rowRot, lowRow, highRow, currentRow, previousRow, flat}
 use Rattle.distance.proofs.Closeness.{Close, Fit, re-read, exact}

@@ -13,10 +13,10 @@ use Rattle.tables.specs.BoxEnds.{lows, highs}
 use Rattle.tables.specs.Numbers.{sines, halfTangents, halfTangents8, halfTangents32, halfTangents128, secants, secants8, secants32, secants128, cosineOf, sineOf, halfTangentOf, secantOf}
 use Rattle.tables.proofs.BoxTable.{boxAt, cosine-box-is}
 use Rattle.tables.proofs.Quadrants.{reflected-le}
-use Rattle.lifting.specs.Places.{tab}
-use Rattle.lifting.specs.Limits.{readingLimit}
-use Rattle.lifting.specs.Steps.{rootLog, tangent, sine, cosine, oddOf, secant}
-use Rattle.lifting.specs.RowForm.{Width, third, widthOf}
+use Rattle.steps.specs.Places.{tab}
+use Rattle.steps.specs.Limits.{readingLimit}
+use Rattle.steps.specs.Steps.{rootLog, tangent, sine, cosine, oddOf, secant}
+use Rattle.steps.specs.RowForm.{Width, third, widthOf}
 use Rattle.distance.specs.Exact.{signedBox, anyCosine}
 use Rattle.distance.specs.Statement.{shown, gain, rounding}
 use Rattle.distance.proofs.Carried.{Limits, columns, sineBoxes, passes, allFrom, tested}

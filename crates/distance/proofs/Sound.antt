@@ -13,10 +13,10 @@ use Rattle.integers.proofs.Products.{natAbs-dot, all-append}
 use Rattle.integers.proofs.PlaceLaws.{sum-ext}
 use Rattle.integers.proofs.Tested.{and-left, and-right}
 use Rattle.tables.specs.Boxes.{Box}
-use Rattle.lifting.specs.Places.{at, sum}
-use Rattle.lifting.specs.RowForm.{evens, odds, weave, Width, high, rowStages, rowFrame}
-use Rattle.lifting.proofs.Lists.{len-weave}
-use Rattle.lifting.proofs.RowForms.{Good}
+use Rattle.steps.specs.Places.{at, sum}
+use Rattle.steps.specs.RowForm.{evens, odds, weave, Width, high, rowStages, rowFrame}
+use Rattle.steps.proofs.Lists.{len-weave}
+use Rattle.steps.proofs.RowForms.{Good}
 use Rattle.distance.specs.Exact.{sineAngle, cosineAngle, denominator, term}
 use Rattle.distance.proofs.Transposed.{dot-weave}
 use Rattle.distance.proofs.Carried.{Row, Limits, rowOf, columns, currentRow, previousRow, flat, fars, nearBy, sizedBy, sineBoxes, cosineBoxes}

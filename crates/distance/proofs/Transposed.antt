@@ -9,8 +9,8 @@ use lib.IntN.{ℤ, pos, negℤ, _+ℤ_, _*ℤ_, +ℤ-idl, +ℤ-idr}
 use Rattle.integers.specs.Vectors.{dot}
 use Rattle.integers.proofs.Ring.{ring}
 use Rattle.integers.proofs.Products.{dot-zeros, dot-append}
-use Rattle.lifting.specs.RowForm.{onto, rev, times, negative, alt, evens, odds, weave}
-use Rattle.lifting.proofs.Lists.{Len, len-rev, len-take, rev-rev}
+use Rattle.steps.specs.RowForm.{onto, rev, times, negative, alt, evens, odds, weave}
+use Rattle.steps.proofs.Lists.{Len, len-rev, len-take, rev-rev}
 
 -- ---- reversed
 moved : (a d t : ℤ) → d +ℤ (a +ℤ t) ≡ a +ℤ d +ℤ t

@@ -6,9 +6,9 @@ use lib.IntN.{ℤ, pos}
 use lib.ListN.{replicate, length-replicate}
 use Rattle.integers.specs.Vectors.{AllAbs}
 use Rattle.tables.specs.Widths.{halfWidth}
-use Rattle.lifting.specs.Places.{at}
-use Rattle.lifting.specs.Steps.{frame}
-use Rattle.lifting.proofs.ZeroBlock.{held-zeros}
+use Rattle.steps.specs.Places.{at}
+use Rattle.steps.specs.Steps.{frame}
+use Rattle.steps.proofs.ZeroBlock.{held-zeros}
 use Rattle.distance.specs.Statement.{Block, coefficient}
 
 all-zeros : (R n : ℕ) → AllAbs R (replicate n (pos 0))

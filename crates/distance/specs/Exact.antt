@@ -7,7 +7,7 @@ use lib.Signed.{leZ}
 use Rattle.tables.specs.Widths.{byWidth}
 use Rattle.tables.specs.Angles.{reflected, minus}
 use Rattle.tables.specs.Boxes.{Box, negated, cosineBox}
-use Rattle.lifting.specs.Places.{at, sum}
+use Rattle.steps.specs.Places.{at, sum}
 
 -- ---- "An angle past the first quadrant has its box by the reflection above, negated and exchanged where the sign is minus."
 -- The box of the cosine at any multiple x of π/1024: the right angle has 512 of them.

@@ -6,7 +6,7 @@ use lib.ListN.{replicate}
 use Rattle.integers.specs.Floor.{above}
 use Rattle.tables.specs.Angles.{halfTurn, reflected, minus}
 use Rattle.tables.specs.Boxes.{only, negated, rootBy, root, rootUp, under, halved, atDouble, boxBy, cosineBox}
-use Rattle.lifting.specs.Places.{sum}
+use Rattle.steps.specs.Places.{sum}
 use Rattle.distance.specs.Exact.{signedBox, anyCosine, anySine, sineAngle, cosineAngle, lesser, greater, term, total, least, greatest}
 
 abbrev none : List ℤ

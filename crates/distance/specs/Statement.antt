@@ -6,9 +6,9 @@ use lib.IntN.{ℤ, pos, natAbs, _-ℤ_, _*ℤ_}
 use lib.ListN.{length}
 use Rattle.integers.specs.Vectors.{AllAbs}
 use Rattle.tables.specs.Widths.{byWidth, halfWidth}
-use Rattle.lifting.specs.Places.{at}
-use Rattle.lifting.specs.Limits.{readingLimit, rotatedLimit, coefficientLimit}
-use Rattle.lifting.specs.Steps.{lower, held, stages, frame}
+use Rattle.steps.specs.Places.{at}
+use Rattle.steps.specs.Limits.{readingLimit, rotatedLimit, coefficientLimit}
+use Rattle.steps.specs.Steps.{lower, held, stages, frame}
 use Rattle.distance.specs.Exact.{least, greatest, rootM, denominator}
 
 -- N is 8, 32 or 128: the half width of any other number is 0

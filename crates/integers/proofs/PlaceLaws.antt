@@ -93,6 +93,10 @@ sum-take (suc n) xs ys = dot-take-suc-l n xs ys ∙ ap (λ t. t +ℤ at xs n *�
 pub dot-sum : (n : ℕ) (xs ys : List ℤ) → length xs ≡ n → dot xs ys ≡ sum n (λ k. at xs k *ℤ at ys k)
 dot-sum n xs ys e = ap (λ l. dot l ys) (sym (take-all n xs (omega arith))) ∙ sum-take n xs ys
 
+-- a row times a list
+pub row-sum : (M : ℕ) (f : ℕ → ℤ) (x : List ℤ) → dot (places M f) x ≡ sum M (λ n. f n *ℤ at x n)
+row-sum M f x = dot-sum M (places M f) x (length-places M f) ∙ sum-ext M _ _ (λ n l. ap (λ z. z *ℤ at x n) (at-places M f n l))
+
 -- one more term, for a loop
 pub dot-next : (n : ℕ) (xs ys : List ℤ) → dot (take n xs) ys +ℤ at xs n *ℤ at ys n ≡ dot (take (n + 1) xs) ys
 dot-next n xs ys = rw add-one (sym (dot-take-suc-l n xs ys))

@@ -15,12 +15,12 @@ use Rattle.integers.proofs.Order.{natAbs-*ℤ-le}
 use Rattle.integers.proofs.Rounding.{round-within}
 use Rattle.integers.proofs.PlaceLaws.{length-places, at-places, by-places, places-ext, within-places}
 use Rattle.tables.specs.Widths.{halfWidth}
-use Rattle.lifting.specs.Steps.{sineAmount, tangentAmount, rotatedA, rotatedB, unrotatedA, unrotatedB, lower, held, unfolded}
-use Rattle.lifting.specs.Moves.{moved, Moves}
-use Rattle.lifting.specs.Expanded.{Tangents, Sines}
-use Rattle.lifting.proofs.StageLaws.{lifted, respoken, stride-reverse}
-use Rattle.lifting.proofs.ListPlaces.{at-append}
-use Rattle.lifting.proofs.StageSizes.{moved-size, moves-wide}
+use Rattle.steps.specs.Steps.{sineAmount, tangentAmount, rotatedA, rotatedB, unrotatedA, unrotatedB, lower, held, unfolded}
+use Rattle.stages.specs.Moves.{moved, Moves}
+use Rattle.stages.specs.Expanded.{Tangents, Sines}
+use Rattle.stages.proofs.StageLaws.{lifted, respoken, stride-reverse}
+use Rattle.steps.proofs.ListPlaces.{at-append}
+use Rattle.stages.proofs.StageSizes.{moved-size, moves-wide}
 
 -- ---- one lift of a rotation: y takes the rounded products of a table and x
 abbrev pub amounts : ℕ → List ℤ → List ℤ → List ℤ

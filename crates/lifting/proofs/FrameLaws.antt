@@ -10,10 +10,10 @@ use lib.Seq.{length-take-le, getD-take, getD-drop}
 use Rattle.integers.specs.Places.{places, at, Within}
 use Rattle.integers.proofs.PlaceLaws.{by-places, places-ext, within-places, within-up}
 use Rattle.tables.specs.Widths.{halfWidth}
-use Rattle.lifting.specs.Steps.{topOf, bottomOf, stages, unstages, interleaved}
-use Rattle.lifting.specs.Moves.{wovenAt}
-use Rattle.lifting.proofs.FrameSizes.{within4, within5}
-use Rattle.lifting.specs.Expanded.{bottom1, top2, bottom3, top4, bottom5, unbottom5, untop4, unbottom3, untop2, unbottom1}
+use Rattle.steps.specs.Steps.{topOf, bottomOf, stages, unstages, interleaved}
+use Rattle.stages.specs.Moves.{wovenAt}
+use Rattle.stages.proofs.FrameSizes.{within4, within5}
+use Rattle.stages.specs.Expanded.{bottom1, top2, bottom3, top4, bottom5, unbottom5, untop4, unbottom3, untop2, unbottom1}
 
 module _ (N : ℕ) (f : List ℤ) (long : length f ≡ N) (half : halfWidth N + halfWidth N ≡ N) where
   abbrev M : ℕ

@@ -13,7 +13,7 @@ use lib.Seq.{drop-cons, drop-length}
 use lib.Signed.{ltZ, _≤ℤ_}
 use Rattle.integers.specs.Places.{at, Within}
 use Rattle.tables.specs.Widths.{halfWidth}
-use Rattle.lifting.specs.Steps.{stages, unstages}
+use Rattle.steps.specs.Steps.{stages, unstages}
 use Rattle.lifting.specs.Gate.{told, beyond, first, firstBeyond, Given, refusedAt, shaped, stagesAsked, unstagesAsked}
 use Rattle.lifting.specs.declared.gate.Answer.the-variants.{Done, Width, InputLength, OutputLength, Range, Folded}
 use Rattle.lifting.specs.declared.gate.Found.{Found}

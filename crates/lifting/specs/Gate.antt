@@ -6,7 +6,7 @@ use lib.Dec.{eqb, ltb}
 use lib.IntN.{ℤ, pos, natAbs}
 use lib.ListN.{length}
 use Rattle.tables.specs.Widths.{halfWidth}
-use Rattle.lifting.specs.Steps.{stages, unstages}
+use Rattle.steps.specs.Steps.{stages, unstages}
 use Rattle.lifting.specs.declared.gate.Answer.{Answer}
 use Rattle.lifting.specs.declared.gate.Answer.the-variants.{Done, Width, Record, Closed, Full, Empty, InputLength, OutputLength, DeadMark, Range, Folded, Halves, Unfolded}
 use Rattle.lifting.specs.declared.gate.Found.{Found}

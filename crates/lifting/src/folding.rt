@@ -4,11 +4,11 @@ ghost use mathlib.Core.Path.{_≡_};
 ghost use lib.ListN.{length};
 ghost use Rattle.integers.specs.Places.{places, at, Within};
 ghost use Rattle.tables.specs.Widths.{halfWidth};
-ghost use Rattle.lifting.specs.Steps.{rotatedA, rotatedB, unrotatedA, unrotatedB};
-ghost use Rattle.lifting.specs.Expanded.{Tangents, Sines, Halves, Room, Width};
-use crate::expand;
-use crate::room;
-use crate::vectors;
+ghost use Rattle.steps.specs.Steps.{rotatedA, rotatedB, unrotatedA, unrotatedB};
+ghost use Rattle.stages.specs.Expanded.{Tangents, Sines, Halves, Room, Width};
+use stages::expand;
+use stages::room;
+use stages::vectors;
 
 // Each pair of a and b rotated at its place, or all rotated back; spare is room to work in.
 fn rotate(
@@ -71,7 +71,7 @@ fn folded(
     requires { ⌜ length (now block) ≡ width ⌝ }
     requires { ⌜ (length (now a) ≡ halfWidth width) × (length (now lower) ≡ halfWidth width) × (length (now held) ≡ halfWidth width) ⌝ }
     requires { ⌜ Within 50000 (now block) ⌝ }
-    ensures { λ _. ⌜ (now (lower .exit) ≡ Rattle.lifting.specs.Steps.lower width (now (block .entry))) × (now (held .exit) ≡ Rattle.lifting.specs.Steps.held width (now (block .entry))) ⌝ }
+    ensures { λ _. ⌜ (now (lower .exit) ≡ Rattle.steps.specs.Steps.lower width (now (block .entry))) × (now (held .exit) ≡ Rattle.steps.specs.Steps.held width (now (block .entry))) ⌝ }
 {
     vectors::strided(block, 0, 1, a);
     vectors::strided(block, width - 1, width - 1, held);
@@ -85,7 +85,7 @@ pub fn fold(width: usize, half: usize, block: &[i64], lower: &mut [i64], held: &
     requires { ⌜ length (now block) ≡ width ⌝ }
     requires { ⌜ (length (now lower) ≡ halfWidth width) × (length (now held) ≡ halfWidth width) ⌝ }
     requires { ⌜ Within 50000 (now block) ⌝ }
-    ensures { λ _. ⌜ (now (lower .exit) ≡ Rattle.lifting.specs.Steps.lower width (now (block .entry))) × (now (held .exit) ≡ Rattle.lifting.specs.Steps.held width (now (block .entry))) ⌝ }
+    ensures { λ _. ⌜ (now (lower .exit) ≡ Rattle.steps.specs.Steps.lower width (now (block .entry))) × (now (held .exit) ≡ Rattle.steps.specs.Steps.held width (now (block .entry))) ⌝ }
 {
     let mut a = room::of_64();
     folded(width, half, block, &mut a[..half], lower, held);
@@ -107,7 +107,7 @@ fn unfolded(
     requires { ⌜ length (now block) ≡ width ⌝ }
     requires { ⌜ Within 50000 (now lower) ⌝ }
     requires { ⌜ Within 50000 (now held) ⌝ }
-    ensures { λ _. ⌜ now (block .exit) ≡ Rattle.lifting.specs.Steps.unfolded width (now (lower .entry)) (now (held .entry)) ⌝ }
+    ensures { λ _. ⌜ now (block .exit) ≡ Rattle.steps.specs.Steps.unfolded width (now (lower .entry)) (now (held .entry)) ⌝ }
 {
     vectors::strided(lower, half - 1, half - 1, a);
     vectors::strided(held, 0, 1, b);
@@ -123,7 +123,7 @@ pub fn unfold(width: usize, half: usize, lower: &[i64], held: &[i64], block: &mu
     requires { ⌜ length (now block) ≡ width ⌝ }
     requires { ⌜ Within 50000 (now lower) ⌝ }
     requires { ⌜ Within 50000 (now held) ⌝ }
-    ensures { λ _. ⌜ now (block .exit) ≡ Rattle.lifting.specs.Steps.unfolded width (now (lower .entry)) (now (held .entry)) ⌝ }
+    ensures { λ _. ⌜ now (block .exit) ≡ Rattle.steps.specs.Steps.unfolded width (now (lower .entry)) (now (held .entry)) ⌝ }
 {
     let mut a = room::of_64();
     let mut b = room::of_64();

@@ -1,14 +1,14 @@
 // The five stages alone, both ways, for any caller.
 ghost use mathlib.Core.Path.{_≡_};
 ghost use lib.ListN.{length};
-ghost use Rattle.lifting.specs.Expanded.{Width};
+ghost use Rattle.stages.specs.Expanded.{Width};
 ghost use Rattle.lifting.specs.Gate.{told, stagesAsked, unstagesAsked, stagesAlone, unstagesAlone};
 use crate::gate;
 use crate::gate::Answer;
 use crate::gate::Found;
-use crate::room;
 use crate::transform;
-use crate::vectors;
+use stages::room;
+use stages::vectors;
 use tables::widths;
 
 fn staged(width: usize, half: usize, folded: &[i32], work: &mut [i64], frame: &mut [i32]) -> Answer

@@ -1,10 +1,5 @@
 // The lapped transform of one frame, by lifting. `frame` is for any caller; the other modules require what they say.
-mod expand;
 pub mod folding;
 pub mod frame;
 pub mod gate;
-pub mod room;
-mod stages;
-mod sums;
 pub mod transform;
-pub mod vectors;

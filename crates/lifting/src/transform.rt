@@ -5,12 +5,11 @@ ghost use Prim.Native.Nat.{_+_, _<_};
 ghost use lib.ListN.{length};
 ghost use Rattle.integers.specs.Places.{Within};
 ghost use Rattle.tables.specs.Widths.{halfWidth};
-ghost use Rattle.lifting.specs.Steps.{stages, unstages};
-ghost use Rattle.lifting.specs.Expanded.{Halves, top4, bottom5, untop2, unbottom1, Width};
-use crate::expand;
-use crate::room;
-use crate::stages;
-use crate::vectors;
+ghost use Rattle.steps.specs.Steps.{stages, unstages};
+ghost use Rattle.stages.specs.Expanded.{Halves, top4, bottom5, untop2, unbottom1, Width};
+use stages::expand;
+use stages::room;
+use stages::vectors;
 
 fn staged(undo: bool, width: usize, half: usize, top: &mut [i64], bottom: &mut [i64])
     requires { ⌜ Width width half ⌝ }
@@ -32,7 +31,7 @@ fn staged(undo: bool, width: usize, half: usize, top: &mut [i64], bottom: &mut [
     expand::tangents(width, &mut tangents[..half]);
     expand::sines(width, &mut sines[..half]);
     let root = expand::root_log(width);
-    stages::all(
+    stages::stages::all(
         undo,
         width,
         root,
@@ -54,7 +53,7 @@ fn framed(width: usize, half: usize, work: &mut [i64], top: &mut [i64], bottom: 
     requires { ⌜ Halves width (now top) (now bottom) ⌝ }
     requires { ⌜ length (now work) ≡ width ⌝ }
     requires { ⌜ Within 50000 (now work) ⌝ }
-    ensures { λ _. ⌜ now (work .exit) ≡ Rattle.lifting.specs.Steps.stages width (now (work .entry)) ⌝ }
+    ensures { λ _. ⌜ now (work .exit) ≡ Rattle.steps.specs.Steps.stages width (now (work .entry)) ⌝ }
 {
     vectors::strided(work, 0, 2, top);
     vectors::strided(work, 1, 2, bottom);
@@ -68,7 +67,7 @@ fn unframed(width: usize, half: usize, work: &mut [i64], top: &mut [i64], bottom
     requires { ⌜ Halves width (now top) (now bottom) ⌝ }
     requires { ⌜ length (now work) ≡ width ⌝ }
     requires { ⌜ Within 1048576 (now work) ⌝ }
-    ensures { λ _. ⌜ now (work .exit) ≡ Rattle.lifting.specs.Steps.unstages width (now (work .entry)) ⌝ }
+    ensures { λ _. ⌜ now (work .exit) ≡ Rattle.steps.specs.Steps.unstages width (now (work .entry)) ⌝ }
 {
     vectors::strided(work, 0, 1, top);
     vectors::strided(work, half, 1, bottom);
@@ -81,7 +80,7 @@ pub fn stages(width: usize, half: usize, work: &mut [i64])
     requires { ⌜ Width width half ⌝ }
     requires { ⌜ length (now work) ≡ width ⌝ }
     requires { ⌜ Within 50000 (now work) ⌝ }
-    ensures { λ _. ⌜ now (work .exit) ≡ Rattle.lifting.specs.Steps.stages width (now (work .entry)) ⌝ }
+    ensures { λ _. ⌜ now (work .exit) ≡ Rattle.steps.specs.Steps.stages width (now (work .entry)) ⌝ }
 {
     let mut top = room::of_64();
     let mut bottom = room::of_64();
@@ -93,7 +92,7 @@ pub fn unstages(width: usize, half: usize, work: &mut [i64])
     requires { ⌜ Width width half ⌝ }
     requires { ⌜ length (now work) ≡ width ⌝ }
     requires { ⌜ Within 1048576 (now work) ⌝ }
-    ensures { λ _. ⌜ now (work .exit) ≡ Rattle.lifting.specs.Steps.unstages width (now (work .entry)) ⌝ }
+    ensures { λ _. ⌜ now (work .exit) ≡ Rattle.steps.specs.Steps.unstages width (now (work .entry)) ⌝ }
 {
     let mut top = room::of_64();
     let mut bottom = room::of_64();

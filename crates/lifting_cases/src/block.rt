@@ -2,14 +2,14 @@
 ghost use mathlib.Core.Path.{_≡_};
 ghost use lib.ListN.{length};
 ghost use Rattle.tables.specs.Widths.{halfWidth};
-ghost use Rattle.lifting.specs.Expanded.{Width};
+ghost use Rattle.stages.specs.Expanded.{Width};
 use crate::line;
 use lifting::folding;
 use lifting::frame;
 use lifting::gate;
 use lifting::gate::Found;
-use lifting::room;
-use lifting::vectors;
+use stages::room;
+use stages::vectors;
 use tables::widths;
 
 // In i32 where every number is within the gate's 50,000; else nothing.

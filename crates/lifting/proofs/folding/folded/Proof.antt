@@ -10,9 +10,9 @@ use Rattle.integers.specs.Places.{places, at, Within}
 use Rattle.integers.proofs.PlaceLaws.{length-places, within-places}
 use Rattle.tables.specs.Widths.{halfWidth}
 use Rattle.tables.proofs.ByWidth.{half-width-le, half-width-ge}
-use Rattle.lifting.specs.Steps.{rotatedA, rotatedB}
-use Rattle.lifting.proofs.Undo.{width-half}
-use Rattle.lifting.proofs.StageLaws.{stride-reverse}
+use Rattle.steps.specs.Steps.{rotatedA, rotatedB}
+use Rattle.steps.proofs.Undo.{width-half}
+use Rattle.stages.proofs.StageLaws.{stride-reverse}
 use Rattle.lifting.proofs.FoldLaws.{starts, ends, read-starts, read-ends, foldedA, foldedB, lower-is, held-is}
 use Rattle.lifting.proofs.folding.folded.Statement.{statement}
 use Rattle.lifting.proofs.folding.folded.Tie as tie

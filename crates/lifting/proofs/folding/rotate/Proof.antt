@@ -10,9 +10,9 @@ use lib.ListN.{length}
 use Rattle.integers.specs.Places.{Within}
 use Rattle.integers.proofs.PlaceLaws.{length-places, within-up}
 use Rattle.tables.specs.Widths.{halfWidth}
-use Rattle.lifting.specs.Moves.{Moves}
-use Rattle.lifting.proofs.StageLaws.{lifted}
-use Rattle.lifting.proofs.TableSizes.{tangents-within, tangents-long, sines-within, sines-long}
+use Rattle.stages.specs.Moves.{Moves}
+use Rattle.stages.proofs.StageLaws.{lifted}
+use Rattle.stages.proofs.TableSizes.{tangents-within, tangents-long, sines-within, sines-long}
 use Rattle.lifting.proofs.FoldLaws.{amounts, lift-is, taken-within, amounts-move, a-rotated, b-rotated}
 use Rattle.lifting.proofs.FoldLaws as laws
 use Rattle.lifting.proofs.folding.rotate.Statement.{statement}

@@ -10,9 +10,9 @@ use Rattle.integers.specs.Places.{places}
 use Rattle.integers.proofs.PlaceLaws.{length-places}
 use Rattle.tables.specs.Widths.{halfWidth}
 use Rattle.tables.proofs.ByWidth.{half-width-le}
-use Rattle.lifting.specs.Steps.{sine, tangent}
-use Rattle.lifting.specs.Expanded.{Tangents, Sines}
-use Rattle.lifting.proofs.Undo.{width-half}
+use Rattle.steps.specs.Steps.{sine, tangent}
+use Rattle.stages.specs.Expanded.{Tangents, Sines}
+use Rattle.steps.proofs.Undo.{width-half}
 use Rattle.lifting.proofs.Parts.{part-long, front, front-long, front-le}
 use Rattle.lifting.proofs.folding.rotated.Statement.{statement}
 use Rattle.lifting.proofs.folding.rotated.Tie as tie

@@ -10,9 +10,9 @@ use Rattle.integers.specs.Places.{places, at, Within}
 use Rattle.integers.proofs.PlaceLaws.{length-places, within-places}
 use Rattle.tables.specs.Widths.{halfWidth}
 use Rattle.tables.proofs.ByWidth.{half-width-le, half-width-ge}
-use Rattle.lifting.specs.Steps.{unrotatedA, unrotatedB}
-use Rattle.lifting.proofs.Undo.{width-half}
-use Rattle.lifting.proofs.StageLaws.{stride-copy, stride-reverse}
+use Rattle.steps.specs.Steps.{unrotatedA, unrotatedB}
+use Rattle.steps.proofs.Undo.{width-half}
+use Rattle.stages.proofs.StageLaws.{stride-copy, stride-reverse}
 use Rattle.lifting.proofs.FoldLaws.{reversed, unfoldedA, unfoldedB, block-is}
 use Rattle.lifting.proofs.folding.unfolded.Statement.{statement}
 use Rattle.lifting.proofs.folding.unfolded.Tie as tie

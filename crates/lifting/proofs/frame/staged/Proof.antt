@@ -6,11 +6,11 @@ use Prim.Native.Nat.{ℕ, _^_}
 use lib.IntN.{ℤ, pos}
 use lib.ListN.{length}
 use Rattle.integers.specs.Places.{Within}
-use Rattle.lifting.specs.Steps.{stages}
+use Rattle.steps.specs.Steps.{stages}
 use Rattle.lifting.specs.Gate.{told, firstBeyond}
 use Rattle.lifting.specs.declared.gate.Answer.the-variants.{Done}
 use Rattle.lifting.specs.declared.gate.Found.the-variants.{Nothing}
-use Rattle.lifting.proofs.Undo.{width-half, length-stages}
+use Rattle.steps.proofs.Undo.{width-half, length-stages}
 use Rattle.lifting.proofs.FrameLaws.{stages-within}
 use Rattle.lifting.proofs.GateLaws.{none-within, stages-refused, stages-done}
 use Rattle.lifting.proofs.frame.staged.Statement.{statement}

@@ -8,11 +8,11 @@ use lib.IntN.{ℤ, pos}
 use lib.ListN.{length}
 use Rattle.integers.specs.Places.{Within}
 use Rattle.integers.proofs.PlaceLaws.{within-up}
-use Rattle.lifting.specs.Steps.{unstages}
+use Rattle.steps.specs.Steps.{unstages}
 use Rattle.lifting.specs.Gate.{told, firstBeyond}
 use Rattle.lifting.specs.declared.gate.Answer.the-variants.{Done}
 use Rattle.lifting.specs.declared.gate.Found.the-variants.{Nothing}
-use Rattle.lifting.proofs.Undo.{length-unstages}
+use Rattle.steps.proofs.Undo.{length-unstages}
 use Rattle.lifting.proofs.GateLaws.{none-within, unstages-refused, unstaged-refused, unstages-done}
 use Rattle.lifting.proofs.frame.unstaged.Statement.{statement}
 use Rattle.lifting.proofs.frame.unstaged.Tie as tie

@@ -9,10 +9,10 @@ use lib.ListN.{length}
 use Rattle.integers.specs.Places.{places, at, Within}
 use Rattle.tables.specs.Widths.{halfWidth}
 use Rattle.tables.proofs.ByWidth.{half-width-le, half-width-ge}
-use Rattle.lifting.specs.Steps.{topOf, bottomOf}
-use Rattle.lifting.specs.Expanded.{top4, bottom5}
-use Rattle.lifting.proofs.Undo.{width-half, length-top, length-bottom}
-use Rattle.lifting.proofs.FrameSizes.{long4, long5}
+use Rattle.steps.specs.Steps.{topOf, bottomOf}
+use Rattle.stages.specs.Expanded.{top4, bottom5}
+use Rattle.steps.proofs.Undo.{width-half, length-top, length-bottom}
+use Rattle.stages.proofs.FrameSizes.{long4, long5}
 use Rattle.lifting.proofs.FrameLaws.{read-evens, read-odds, stages-halves, top-within, bottom-within}
 use Rattle.lifting.proofs.transform.framed.Statement.{statement}
 use Rattle.lifting.proofs.transform.framed.Tie as tie

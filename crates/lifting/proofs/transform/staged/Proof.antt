@@ -11,8 +11,8 @@ use Rattle.integers.proofs.PlaceLaws.{length-places}
 use Rattle.tables.specs.Widths.{halfWidth}
 use Rattle.tables.specs.Numbers.{cosineOf, secantOf}
 use Rattle.tables.proofs.ByWidth.{half-width-le}
-use Rattle.lifting.specs.Steps.{sine, tangent}
-use Rattle.lifting.proofs.Undo.{width-half}
+use Rattle.steps.specs.Steps.{sine, tangent}
+use Rattle.steps.proofs.Undo.{width-half}
 use Rattle.lifting.proofs.Parts.{part-long, front, front-long, front-le}
 use Rattle.lifting.proofs.transform.staged.Statement.{statement}
 use Rattle.lifting.proofs.transform.staged.Tie as tie

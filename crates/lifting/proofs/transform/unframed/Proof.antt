@@ -9,10 +9,10 @@ use lib.ListN.{length, take, drop}
 use Rattle.integers.specs.Places.{places, at, Within}
 use Rattle.tables.specs.Widths.{halfWidth}
 use Rattle.tables.proofs.ByWidth.{half-width-le, half-width-ge}
-use Rattle.lifting.specs.Moves.{wovenAt}
-use Rattle.lifting.specs.Expanded.{untop2, unbottom1}
-use Rattle.lifting.proofs.Undo.{width-half}
-use Rattle.lifting.proofs.FrameSizes.{unlong2, unlong1}
+use Rattle.stages.specs.Moves.{wovenAt}
+use Rattle.stages.specs.Expanded.{untop2, unbottom1}
+use Rattle.steps.proofs.Undo.{width-half}
+use Rattle.stages.proofs.FrameSizes.{unlong2, unlong1}
 use Rattle.lifting.proofs.FrameLaws.{read-front, read-back, unstages-halves, take-within, drop-within}
 use Rattle.lifting.proofs.transform.unframed.Statement.{statement}
 use Rattle.lifting.proofs.transform.unframed.Tie as tie

@@ -8,7 +8,7 @@ use lib.IntN.{ℤ}
 use lib.ListN.{length, drop}
 use Rattle.integers.proofs.PlaceLaws.{within-up}
 use Rattle.tables.proofs.ByWidth.{half-width-le}
-use Rattle.lifting.proofs.Undo.{width-half, length-lower, length-held}
+use Rattle.steps.proofs.Undo.{width-half, length-lower, length-held}
 use Rattle.lifting.proofs.Parts.{part-long, front-long, front-le}
 use Rattle.lifting.proofs.GateLaws.{none-within}
 use Rattle.lifting_cases.proofs.block.fold_wide.Statement.{statement}

@@ -5,8 +5,8 @@ use mathlib.Core.Path.{_≡_, sym, _∙_}
 use Prim.Native.Nat.{_≤_}
 use Rattle.tables.specs.Widths.{halfWidth}
 use Rattle.tables.proofs.ByWidth.{half-width-le}
-use Rattle.lifting.specs.Expanded.{Width}
-use Rattle.lifting.proofs.Undo.{width-half}
+use Rattle.stages.specs.Expanded.{Width}
+use Rattle.steps.proofs.Undo.{width-half}
 use Rattle.lifting.proofs.Parts.{part-long}
 use Rattle.lifting_cases.proofs.block.show.Statement.{statement}
 use Rattle.lifting_cases.proofs.block.show.Tie as tie

@@ -6,7 +6,7 @@ use mathlib.Core.List.{List}
 use Prim.Native.Nat.{_+_, _≤_}
 use lib.IntN.{ℤ}
 use lib.ListN.{length, take, drop, length-append}
-use Rattle.lifting.proofs.Undo.{width-half}
+use Rattle.steps.proofs.Undo.{width-half}
 use Rattle.lifting.proofs.Parts.{part-long}
 use Rattle.lifting_cases.proofs.block.there_and_back.Statement.{statement}
 use Rattle.lifting_cases.proofs.block.there_and_back.Tie as tie

@@ -7,7 +7,7 @@ use Prim.Native.Nat.{_≤_}
 use lib.IntN.{ℤ}
 use lib.ListN.{length, drop}
 use Rattle.tables.proofs.ByWidth.{half-width-le}
-use Rattle.lifting.proofs.Undo.{width-half, length-unfolded}
+use Rattle.steps.proofs.Undo.{width-half, length-unfolded}
 use Rattle.lifting.proofs.Parts.{part-long, front-long, front-le}
 use Rattle.lifting.proofs.GateLaws.{none-within}
 use Rattle.lifting_cases.proofs.block.unfold_wide.Statement.{statement}

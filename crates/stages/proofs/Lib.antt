@@ -1,0 +1,7 @@
+pub mod MoveLaws
+pub mod SecantRows
+pub mod SumLaws
+pub mod StageLaws
+pub mod StageSizes
+pub mod TableSizes
+pub mod FrameSizes

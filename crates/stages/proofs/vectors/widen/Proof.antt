@@ -1,0 +1,76 @@
+-- `stages::vectors::widen` meets its contract.
+use borrow.Author.Needs.{needs}
+use native.Mathlib.Omega.{arith}
+use mathlib.Core.Path.{_∙_}
+use Prim.Native.Nat.{_-_, _≤_}
+use lib.IntN.{ℤ}
+use lib.ListN.{length}
+use Rattle.integers.proofs.Held.{asks-wide, h-wide}
+use Rattle.integers.specs.Places.{at}
+use Rattle.integers.proofs.PlaceLaws.{places-at}
+use Rattle.integers.proofs.Fills.{Filling, filling-none, filling-next, filling-all}
+use Rattle.stages.proofs.vectors.widen.Statement.{statement}
+use Rattle.stages.proofs.vectors.widen.Tie as tie
+
+abbrev Inv-loop : tie.InvT-loop
+Inv-loop x out₀ i₀ out i = (i ≤ length out₀) × Filling (at x) out₀ i out
+
+abbrev μ-loop : tie.MeasureT-loop
+μ-loop x out₀ i₀ out i = length out₀ - i
+
+-- the number of a turn
+abbrev value : tie.After-out Inv-loop μ-loop → ℤ
+value c = at (c .before .before .before .args .x .now) (c .before .before .loop .i)
+
+loop-holds : tie.Need-loop-holds Inv-loop μ-loop
+loop-holds c = (omega arith, filling-none _ _)
+
+mul-out : tie.Need-mul-out Inv-loop μ-loop
+mul-out c = search needs
+
+shared-slice-copy-out-out : tie.Need-shared-slice-copy-out-out Inv-loop μ-loop
+shared-slice-copy-out-out c = omega (arith, c .before .before .pre)
+
+cast-out : tie.Need-cast-out Inv-loop μ-loop
+cast-out c = asks-wide (value c) (c .out .given)
+
+mul-t9 : tie.Need-mul-t9 Inv-loop μ-loop
+mul-t9 c = search needs
+
+slice-set-from-out : tie.Need-slice-set-from-out Inv-loop μ-loop
+slice-set-from-out c = omega (arith, c .before .before .before .pre)
+
+add-i : tie.Need-add-i Inv-loop μ-loop
+add-i c = omega arith
+
+loop-less : tie.Need-loop-less Inv-loop μ-loop
+loop-less c = omega (arith, c .before .before .before .pre)
+
+loop-again : tie.Need-loop-again Inv-loop μ-loop
+loop-again c = (omega (arith, c .before .before .before .pre), filling-next (c .before .before .loop .inv .1) (h-wide (value c) (c .out .given) .is))
+
+same-length : tie.Need-same-length Inv-loop μ-loop
+same-length c = omega arith
+
+returns : tie.Need-returns Inv-loop μ-loop
+returns c =
+    let s = c .before .before in
+    filling-all (c .before .loop .inv .1) (omega (arith, s .pre)) ∙ places-at _ (s .args .x .now) (s .pre)
+
+pub widen-spec : {M : Type 1} → statement M
+widen-spec =
+    tie.close
+    (tie.spec
+    Inv-loop
+    μ-loop
+    loop-holds
+    mul-out
+    shared-slice-copy-out-out
+    cast-out
+    mul-t9
+    slice-set-from-out
+    add-i
+    loop-less
+    loop-again
+    same-length
+    returns)

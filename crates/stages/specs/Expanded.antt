@@ -1,0 +1,92 @@
+-- The tables of a width expanded into lists, and the row sums of the stages.
+use mathlib.Core.Path.{_≡_}
+use mathlib.Core.List.{List}
+use Prim.Native.Nat.{ℕ, _+_, _-_, _*_, _/_, _^_, _<_}
+use lib.IntN.{ℤ, pos, negℤ, _+ℤ_, _-ℤ_, _*ℤ_}
+use lib.ListN.{length}
+use Rattle.integers.specs.Places.{places, at, sum}
+use Rattle.tables.specs.Widths.{halfWidth}
+use Rattle.tables.specs.Numbers.{cosineOf, secantOf}
+use Rattle.steps.specs.Steps.{rootLog, cosine, secant, tangent, sine, stage1, stage2, stage3, stage4, stage5, unstage1, unstage2, unstage3, unstage4, unstage5}
+
+unfoldable pub cosineSums : ℕ → List ℤ → List ℤ
+cosineSums N x = places (halfWidth N) (λ m. sum (halfWidth N) (λ n. cosine N m n *ℤ at x n))
+
+unfoldable pub secantSums : ℕ → List ℤ → List ℤ
+secantSums N x = places (halfWidth N) (λ m. sum (halfWidth N) (λ n. secant N m n *ℤ at x n))
+
+-- the cosines of a whole turn, in parts of π/(4M)
+pub record Turn (N : ℕ) (xs : List ℤ) : Type 0 where
+  pub is : xs ≡ places (8 * halfWidth N) (λ e. cosineOf (e * (128 / halfWidth N)))
+
+-- the secants for r from 0 below N
+pub record Secants (N : ℕ) (xs : List ℤ) : Type 0 where
+  pub is : xs ≡ places N (λ r. secantOf N (pos r))
+
+-- −t(m) and s(m)
+pub record Tangents (N : ℕ) (xs : List ℤ) : Type 0 where
+  pub is : xs ≡ places (halfWidth N) (λ m. negℤ (tangent N m))
+
+pub record Sines (N : ℕ) (xs : List ℤ) : Type 0 where
+  pub is : xs ≡ places (halfWidth N) (sine N)
+
+-- the halves of a frame
+pub record Halves (N : ℕ) (top bottom : List ℤ) : Type 0 where
+  pub top-long : length top ≡ halfWidth N
+  pub bottom-long : length bottom ≡ halfWidth N
+
+-- what stage 3 adds at a place, from the secant sum, the cosine sum and −t·top; M is 2^(2l)
+unfoldable pub third : ℕ → ℤ → ℤ → ℤ → ℤ
+third l secants cosines tangent = negℤ secants -ℤ pos (2 ^ (l + 1)) *ℤ cosines +ℤ pos (2 ^ (2 * l)) *ℤ tangent
+
+-- the tables of a width, expanded; √M is 2^root
+pub record Tables (N root : ℕ) (turn secants tangents sines : List ℤ) : Type 0 where
+  pub turn-is : Turn N turn
+  pub secants-are : Secants N secants
+  pub tangents-are : Tangents N tangents
+  pub sines-are : Sines N sines
+  pub root-is : root ≡ rootLog N
+  pub wide : 0 < halfWidth N
+
+-- room to work in
+pub record Room (N : ℕ) (a b row : List ℤ) : Type 0 where
+  pub a-long : length a ≡ halfWidth N
+  pub b-long : length b ≡ halfWidth N
+  pub row-long : length row ≡ halfWidth N
+
+-- ---- the halves through all stages: after stages 1, 2 and 3, and the halves of the frame
+unfoldable pub bottom1 : ℕ → List ℤ → List ℤ → List ℤ
+bottom1 N top bottom = stage1 N top bottom
+
+unfoldable pub top2 : ℕ → List ℤ → List ℤ → List ℤ
+top2 N top bottom = stage2 N top (bottom1 N top bottom)
+
+unfoldable pub bottom3 : ℕ → List ℤ → List ℤ → List ℤ
+bottom3 N top bottom = stage3 N (top2 N top bottom) (bottom1 N top bottom)
+
+unfoldable pub top4 : ℕ → List ℤ → List ℤ → List ℤ
+top4 N top bottom = stage4 N (top2 N top bottom) (bottom3 N top bottom)
+
+unfoldable pub bottom5 : ℕ → List ℤ → List ℤ → List ℤ
+bottom5 N top bottom = stage5 N (top4 N top bottom) (bottom3 N top bottom)
+
+-- and back
+unfoldable pub unbottom5 : ℕ → List ℤ → List ℤ → List ℤ
+unbottom5 N top bottom = unstage5 N top bottom
+
+unfoldable pub untop4 : ℕ → List ℤ → List ℤ → List ℤ
+untop4 N top bottom = unstage4 N top (unbottom5 N top bottom)
+
+unfoldable pub unbottom3 : ℕ → List ℤ → List ℤ → List ℤ
+unbottom3 N top bottom = unstage3 N (untop4 N top bottom) (unbottom5 N top bottom)
+
+unfoldable pub untop2 : ℕ → List ℤ → List ℤ → List ℤ
+untop2 N top bottom = unstage2 N (untop4 N top bottom) (unbottom3 N top bottom)
+
+unfoldable pub unbottom1 : ℕ → List ℤ → List ℤ → List ℤ
+unbottom1 N top bottom = unstage1 N (untop2 N top bottom) (unbottom3 N top bottom)
+
+-- a good width and its half
+pub record Width (N half : ℕ) : Type 0 where
+  pub half-is : half ≡ halfWidth N
+  pub wide : 0 < halfWidth N

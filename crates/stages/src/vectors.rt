@@ -1,0 +1,184 @@
+// Work on lists of 64-bit numbers, place by place.
+ghost use mathlib.Core.Path.{_≡_};
+ghost use mathlib.Core.List.{_++_};
+ghost use Prim.Native.Nat.{_+_, _-_, _*_, _/_, _%_, _^_, _≤_, _<_};
+ghost use lib.IntN.{natAbs, _*ℤ_};
+ghost use lib.ListN.{length};
+ghost use Rattle.integers.specs.Floor.{round};
+ghost use Rattle.integers.specs.Places.{places, at, Within, sumProducts};
+ghost use Rattle.integers.specs.Vectors.{dot};
+ghost use Rattle.stages.specs.Moves.{moved, flipped, wovenAt, Moves};
+
+// A place past the end of a list of len counts from its start again.
+fn wrapped(place: usize, len: usize) -> usize
+    requires { ⌜ place < len + len ⌝ }
+    ensures { λ r. ⌜ r ≡ place % len ⌝ }
+{
+    if place < len {
+        return place;
+    }
+    place - len
+}
+
+// Every step-th number of x from first on, around its end, one to each place of out.
+pub fn strided(x: &[i64], first: usize, step: usize, out: &mut [i64])
+    requires { ⌜ (first < length (now x)) × (step < length (now x)) × (length (now x) ≤ 1024) ⌝ }
+    ensures { λ _. ⌜ now (out .exit) ≡ places (length (now (out .entry))) (λ i. at (now (x .entry)) ((first + i * step) % length (now (x .entry)))) ⌝ }
+{
+    let mut from = first;
+    let mut i = 0;
+    while i < out.len() {
+        out[i] = x[from];
+        from = wrapped(from + step, x.len());
+        i += 1;
+    }
+}
+
+// The inner product.
+pub fn inner_product(row: &[i64], x: &[i64]) -> i64
+    requires { ⌜ (length (now row) ≡ length (now x)) × (sumProducts (now row) (now x) < 2 ^ 63) ⌝ }
+    ensures { λ r. ⌜ r ≡ dot (now (row .entry)) (now (x .entry)) ⌝ }
+{
+    let mut sum: i64 = 0;
+    let mut i = 0;
+    while i < row.len() {
+        sum += row[i] * x[i];
+        i += 1;
+    }
+    sum
+}
+
+// The products, place by place.
+pub fn products(c: &[i64], x: &[i64], out: &mut [i64])
+    requires { ⌜ (length (now c) ≡ length (now out)) × (length (now x) ≡ length (now out)) ⌝ }
+    requires { ⌜ Within (2 ^ 28) (now c) ⌝ }
+    requires { ⌜ Within (2 ^ 34) (now x) ⌝ }
+    ensures { λ _. ⌜ now (out .exit) ≡ places (length (now (out .entry))) (λ i. at (now (c .entry)) i *ℤ at (now (x .entry)) i) ⌝ }
+{
+    let mut i = 0;
+    while i < out.len() {
+        out[i] = c[i] * x[i];
+        i += 1;
+    }
+}
+
+fn moved(undo: bool, y: i64, amount: i64) -> i64
+    requires { ⌜ (natAbs y ≤ 2 ^ 61) × (natAbs amount ≤ 2 ^ 61) ⌝ }
+    ensures { λ r. ⌜ r ≡ Rattle.stages.specs.Moves.moved undo y amount ⌝ }
+{
+    if undo {
+        return y - amount;
+    }
+    y + amount
+}
+
+// y takes the amounts / 2^k, rounded, or gives them back.
+pub fn lift(undo: bool, k: u32, amounts: &[i64], y: &mut [i64])
+    requires { ⌜ length (now amounts) ≡ length (now y) ⌝ }
+    requires { ⌜ Moves k (now amounts) ⌝ }
+    requires { ⌜ Within (2 ^ 61) (now y) ⌝ }
+    ensures { λ _. ⌜ now (y .exit) ≡ places (length (now (y .entry))) (λ i. Rattle.stages.specs.Moves.moved undo (at (now (y .entry)) i) (round k (at (now (amounts .entry)) i))) ⌝ }
+{
+    let mut i = 0;
+    while i < y.len() {
+        y[i] = moved(undo, y[i], integers::rounded(amounts[i], k));
+        i += 1;
+    }
+}
+
+fn flipped(even: bool, i: usize, x: i64) -> i64
+    requires { ⌜ natAbs x ≤ 2 ^ 61 ⌝ }
+    ensures { λ r. ⌜ r ≡ Rattle.stages.specs.Moves.flipped even i x ⌝ }
+{
+    if i % 2 == 1 {
+        if even {
+            return x;
+        }
+        return 0 - x;
+    }
+    if even {
+        return 0 - x;
+    }
+    x
+}
+
+// The sign changed at the even places, or else at the odd ones.
+pub fn alternate(even: bool, y: &mut [i64])
+    requires { ⌜ Within (2 ^ 61) (now y) ⌝ }
+    ensures { λ _. ⌜ now (y .exit) ≡ places (length (now (y .entry))) (λ i. Rattle.stages.specs.Moves.flipped even i (at (now (y .entry)) i)) ⌝ }
+{
+    let mut i = 0;
+    while i < y.len() {
+        y[i] = flipped(even, i, y[i]);
+        i += 1;
+    }
+}
+
+fn woven(top: &[i64], bottom: &[i64], i: usize) -> i64
+    requires { ⌜ (length (now top) ≡ length (now bottom)) × (i < length (now top) + length (now top)) ⌝ }
+    ensures { λ r. ⌜ r ≡ wovenAt (now (top .entry)) (now (bottom .entry)) i ⌝ }
+{
+    if i % 2 == 0 {
+        return top[i / 2];
+    }
+    bottom[i / 2]
+}
+
+// top at the even places, bottom at the odd ones.
+pub fn interleave(top: &[i64], bottom: &[i64], out: &mut [i64])
+    requires { ⌜ (length (now top) ≡ length (now bottom)) × (length (now out) ≡ length (now top) + length (now top)) ⌝ }
+    ensures { λ _. ⌜ now (out .exit) ≡ places (length (now (out .entry))) (wovenAt (now (top .entry)) (now (bottom .entry))) ⌝ }
+{
+    let mut i = 0;
+    while i < out.len() {
+        out[i] = woven(top, bottom, i);
+        i += 1;
+    }
+}
+
+fn joined(front: &[i64], rest: &[i64], i: usize) -> i64
+    requires { ⌜ i < length (now front) + length (now rest) ⌝ }
+    ensures { λ r. ⌜ r ≡ at (now (front .entry) ++ now (rest .entry)) i ⌝ }
+{
+    if i < front.len() {
+        return front[i];
+    }
+    rest[i - front.len()]
+}
+
+// One list, then the other.
+pub fn join(front: &[i64], rest: &[i64], out: &mut [i64])
+    requires { ⌜ length (now out) ≡ length (now front) + length (now rest) ⌝ }
+    ensures { λ _. ⌜ now (out .exit) ≡ now (front .entry) ++ now (rest .entry) ⌝ }
+{
+    let mut i = 0;
+    while i < out.len() {
+        out[i] = joined(front, rest, i);
+        i += 1;
+    }
+}
+
+// The numbers, each as an i64.
+pub fn widen(x: &[i32], out: &mut [i64])
+    requires { ⌜ length (now x) ≡ length (now out) ⌝ }
+    ensures { λ _. ⌜ now (out .exit) ≡ now (x .entry) ⌝ }
+{
+    let mut i = 0;
+    while i < x.len() {
+        out[i] = x[i] as i64;
+        i += 1;
+    }
+}
+
+// The numbers, each as an i32.
+pub fn narrow(x: &[i64], out: &mut [i32])
+    requires { ⌜ length (now x) ≡ length (now out) ⌝ }
+    requires { ⌜ Within (2 ^ 30) (now x) ⌝ }
+    ensures { λ _. ⌜ now (out .exit) ≡ now (x .entry) ⌝ }
+{
+    let mut i = 0;
+    while i < out.len() {
+        out[i] = x[i] as i32;
+        i += 1;
+    }
+}
