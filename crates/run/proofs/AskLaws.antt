@@ -1,0 +1,155 @@
+-- What the gate says to a fresh start, to a block and to a finish, question by question; and a block's fault.
+use mathlib.Core.Path.{_≡_, refl, sym, ap, _∙_}
+use mathlib.Core.Bool.{Bool, true, false, false≢true}
+use mathlib.Core.List.{List, []}
+use Prim.Native.Nat.{ℕ, _≤_}
+use native.Mathlib.Omega.{arith}
+use borrow.Author.Tests.{lt-ltb, le-ltb, leb-true, eq-eqb, ne-eqb}
+use lib.IntN.{ℤ}
+use lib.ListN.{length}
+use Rattle.integers.specs.Places.{Within}
+use Rattle.tables.specs.Widths.{halfWidth}
+use Rattle.lifting.specs.Gate.{told}
+use Rattle.lifting.specs.declared.gate.Answer.the-variants.{Done, Width, Record, Closed, Full, InputLength, OutputLength, DeadMark, Range}
+use Rattle.lifting.specs.declared.gate.Found.{Found}
+use Rattle.lifting.specs.declared.gate.Found.the-variants.{At, Nothing}
+use Rattle.lifting.proofs.GateLaws.{none-within}
+use Rattle.run.specs.declared.record.Run.{Run}
+use Rattle.run.specs.declared.gate.Fault.{Fault}
+use Rattle.run.specs.declared.gate.Fault.the-variants.{Dead, Beyond, Clear}
+use Rattle.run.specs.Record.{blockLimit, zeros, filled, opened, advanced, closed}
+use Rattle.run.specs.Gate.{Given, ask, askEach, sound, firstDead, firstOut}
+use Rattle.run.specs.Forward.{started, frameOn, takenIn, taken, ended}
+use Rattle.run.specs.Faults.{faultBy, faultOf}
+use Rattle.run.proofs.CallLaws.{every-answer}
+
+-- ---- a fresh start
+module _ (N : ℕ) (held : List ℤ) (h : held ≡ zeros 64) where
+  abbrev fresh : ℕ → Run
+  fresh n = record { width = n; count = 0; held = held; finished = false }
+
+  fresh-is : (n : ℕ) → fresh n ≡ opened n 0 []
+  unfolding opened filled
+  fresh-is n = ap (λ xs. record { width = n; count = 0; held = xs; finished = false }) h
+
+  pub start-refused : halfWidth N ≡ 0 → (told Width, fresh 0) ≡ started N
+  unfolding told started
+  start-refused e = rw (eq-eqb _ _ e) (ap (λ r. ((1, 0), r)) (fresh-is 0))
+
+  pub start-done : (halfWidth N ≡ 0 → ⊥) → (told Done, fresh N) ≡ started N
+  unfolding told started
+  start-done e = rw (ne-eqb _ _ e) (ap (λ r. ((0, 0), r)) (fresh-is N))
+
+-- ---- a block's fault
+module _ (block : List ℤ) where
+  pub dead-found : (place : ℕ) → firstDead block 0 ≡ At place → Dead place ≡ faultOf block
+  unfolding faultOf faultBy
+  dead-found place e = rw e
+
+  module _ (d : firstDead block 0 ≡ Nothing) where
+    pub beyond-found : (place : ℕ) → firstOut block 0 ≡ At place → Beyond place ≡ faultOf block
+    unfolding faultOf faultBy
+    beyond-found place e = rw (d, e)
+
+    pub none-found : firstOut block 0 ≡ Nothing → Clear ≡ faultOf block
+    unfolding faultOf faultBy
+    none-found e = rw (d, e)
+
+isClear : Fault → Bool
+isClear (Dead place) = false
+isClear (Beyond place) = false
+isClear Clear = true
+
+clear-inside : (f g : Found) → faultBy f g ≡ Clear → g ≡ Nothing
+unfolding faultBy isClear
+clear-inside (At place) g e = absurd (false≢true (ap isClear e))
+clear-inside Nothing (At place) e = absurd (false≢true (ap isClear e))
+clear-inside Nothing Nothing e = refl
+
+pub clear-within : (block : List ℤ) → faultOf block ≡ Clear → Within 32767 block
+unfolding faultOf
+clear-within block e = none-within 32767 block (clear-inside (firstDead block 0) (firstOut block 0) e)
+
+-- ---- questions 2 to 9 to a block
+module _ (run : Run) (block out : List ℤ) where
+  byFault : Fault → Given
+  byFault (Dead place) = ((8, place), run, out)
+  byFault (Beyond place) = ((9, place), run, out)
+  byFault Clear = ((0, 0), advanced run block, frameOn run block)
+
+  fault-decides : byFault (faultOf block) ≡ takenIn run block out
+  unfolding byFault faultOf faultBy takenIn askEach
+  fault-decides = by (firstDead block 0) (firstOut block 0)
+    where
+      by : (f g : Found) → byFault (faultBy f g) ≡ askEach 8 f run out (askEach 9 g run out ((0, 0), advanced run block, frameOn run block))
+      by (At place) g = refl
+      by Nothing (At place) = refl
+      by Nothing Nothing = refl
+
+  pub record-refused : sound blockLimit run ≡ false → (told Record, run, out) ≡ taken run block out
+  unfolding told taken ask
+  record-refused e = rw e
+
+  module _ (s : sound blockLimit run ≡ true) where
+    pub closed-refused : run .finished ≡ true → (told Closed, run, out) ≡ taken run block out
+    unfolding told taken ask
+    closed-refused e = rw (s, e)
+
+    module _ (o : run .finished ≡ false) where
+      pub full-refused : run .count ≡ blockLimit → (told Full, run, out) ≡ taken run block out
+      unfolding told taken ask
+      full-refused e = rw (s, o, le-ltb (run .count) blockLimit (omega (arith, e)))
+
+      module _ (n : run .count ≡ blockLimit → ⊥) where
+        counted : run .count ≤ blockLimit
+        unfolding sound
+        counted = leb-true _ _ (every-answer _ s 1)
+
+        pub input-refused : (length block ≡ run .width → ⊥) → (told InputLength, run, out) ≡ taken run block out
+        unfolding told taken ask
+        input-refused e = rw (s, o, lt-ltb (run .count) blockLimit (omega (arith, n, counted)), ne-eqb _ _ e)
+
+        module _ (l : length block ≡ run .width) where
+          pub output-refused : (length out ≡ run .width → ⊥) → (told OutputLength, run, out) ≡ taken run block out
+          unfolding told taken ask
+          output-refused e = rw (s, o, lt-ltb (run .count) blockLimit (omega (arith, n, counted)), eq-eqb _ _ l, ne-eqb _ _ e)
+
+          module _ (m : length out ≡ run .width) where
+            lengths-passed : takenIn run block out ≡ taken run block out
+            unfolding taken ask
+            lengths-passed = rw (s, o, lt-ltb (run .count) blockLimit (omega (arith, n, counted)), eq-eqb _ _ l, eq-eqb _ _ m)
+
+            by-fault : (f : Fault) → faultOf block ≡ f → byFault f ≡ taken run block out
+            by-fault f e = ap byFault (sym e) ∙ fault-decides ∙ lengths-passed
+
+            pub dead-refused : (place : ℕ) → faultOf block ≡ Dead place → (told (DeadMark place), run, out) ≡ taken run block out
+            unfolding told byFault
+            dead-refused place e = by-fault (Dead place) e
+
+            pub range-refused : (place : ℕ) → faultOf block ≡ Beyond place → (told (Range place), run, out) ≡ taken run block out
+            unfolding told byFault
+            range-refused place e = by-fault (Beyond place) e
+
+            pub taken-done : faultOf block ≡ Clear → (told Done, advanced run block, frameOn run block) ≡ taken run block out
+            unfolding told byFault
+            taken-done e = by-fault Clear e
+
+-- ---- questions 2, 3 and 7 to a finish
+module _ (run : Run) (out : List ℤ) where
+  pub end-record-refused : sound blockLimit run ≡ false → (told Record, run, out) ≡ ended run out
+  unfolding told ended ask
+  end-record-refused e = rw e
+
+  module _ (s : sound blockLimit run ≡ true) where
+    pub end-closed-refused : run .finished ≡ true → (told Closed, run, out) ≡ ended run out
+    unfolding told ended ask
+    end-closed-refused e = rw (s, e)
+
+    module _ (o : run .finished ≡ false) where
+      pub end-output-refused : (length out ≡ run .width → ⊥) → (told OutputLength, run, out) ≡ ended run out
+      unfolding told ended ask
+      end-output-refused e = rw (s, o, ne-eqb _ _ e)
+
+      pub ended-done : length out ≡ run .width → (told Done, closed run, frameOn run (zeros (run .width))) ≡ ended run out
+      unfolding told ended ask
+      ended-done e = rw (s, o, eq-eqb _ _ e)

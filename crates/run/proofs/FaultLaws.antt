@@ -1,0 +1,118 @@
+-- The first fault of the blocks of a whole run, block by block; and parts of the readings that are blocks.
+use mathlib.Core.Path.{_≡_, refl, sym, ap, _∙_}
+use mathlib.Core.Bool.{Bool, true, false, cond}
+use mathlib.Core.List.{List, [], _∷_}
+use Prim.Native.Nat.{ℕ, zero, suc, _+_, _-_, _*_, _/_, _≤_, _<_}
+use native.Mathlib.Nat.{mul-le-mul-right}
+use native.Mathlib.Omega.{arith}
+use lib.IntN.{ℤ}
+use lib.ListN.{length, take, drop, length-drop}
+use lib.Seq.{length-take-le, drop-drop}
+use Rattle.tables.specs.Widths.{halfWidth}
+use Rattle.tables.proofs.ByWidth.{half-width-le}
+use Rattle.lifting.specs.Gate.{first}
+use Rattle.lifting.specs.declared.gate.Found.{Found}
+use Rattle.lifting.specs.declared.gate.Found.the-variants.{At, Nothing}
+use Rattle.steps.proofs.Undo.{width-half}
+use Rattle.run.specs.declared.gate.Fault.{Fault}
+use Rattle.run.specs.declared.gate.Fault.the-variants.{Dead, Beyond, Clear}
+use Rattle.run.specs.Gate.{dead, firstDead, firstOut}
+use Rattle.run.specs.Faults.{faultBy, faultOf, faultFrom, firstFault}
+use Rattle.run.specs.Ready.{Blocks}
+
+-- ---- a fault's place is in its block
+placeFound : Found → ℕ
+placeFound (At place) = place
+placeFound Nothing = 0
+
+placeOf : Fault → ℕ
+placeOf (Dead place) = place
+placeOf (Beyond place) = place
+placeOf Clear = 0
+
+found-place : (test : ℤ → Bool) (xs : List ℤ) (k : ℕ) → placeFound (first test xs k) ≤ k + length xs
+unfolding first placeFound
+found-place test [] k = omega arith
+found-place test (x ∷ xs) k = by (test x) (found-place test xs (suc k))
+  where
+    by : (b : Bool) → placeFound (first test xs (suc k)) ≤ suc k + length xs → placeFound (cond b (At k) (first test xs (suc k))) ≤ k + suc (length xs)
+    by true h = omega arith
+    by false h = omega arith
+
+fault-place : (xs : List ℤ) → placeOf (faultOf xs) ≤ length xs
+unfolding faultOf faultBy placeOf placeFound
+fault-place xs = by (firstDead xs 0) (firstOut xs 0) (found-place _ xs 0) (found-place _ xs 0)
+  where
+    by : (f g : Found) → placeFound f ≤ 0 + length xs → placeFound g ≤ 0 + length xs → placeOf (faultBy f g) ≤ length xs
+    by (At place) g h k = omega arith
+    by Nothing (At place) h k = omega arith
+    by Nothing Nothing h k = omega arith
+
+pub dead-place : (xs : List ℤ) (place : ℕ) → faultOf xs ≡ Dead place → place ≤ length xs
+unfolding placeOf
+dead-place xs place e = omega (arith, fault-place xs, ap placeOf e)
+
+pub beyond-place : (xs : List ℤ) (place : ℕ) → faultOf xs ≡ Beyond place → place ≤ length xs
+unfolding placeOf
+beyond-place xs place e = omega (arith, fault-place xs, ap placeOf e)
+
+-- ---- blocks of readings
+pub width-le : (N : ℕ) → 0 < halfWidth N → N ≤ 128
+width-le N w = omega (arith, width-half N w, half-width-le N)
+
+pub width-pos : (N : ℕ) → 0 < halfWidth N → 0 < N
+width-pos N w = omega (arith, width-half N w)
+
+pub few-readings : (N : ℕ) (xs : List ℤ) → Blocks N xs → length xs ≤ 8388608
+few-readings N xs h = omega (arith, h .whole, mul-le-mul-right N (h .some), width-le N (h .wide))
+
+-- one block of those left
+module _ (place left N all : ℕ) (e : place + left * N ≡ all) (h : 0 < left) where
+  pub block-next : place + N + (left - 1) * N ≡ all
+  block-next = by left e h
+    where
+      by : (l : ℕ) → place + l * N ≡ all → 0 < l → place + N + (l - 1) * N ≡ all
+      by zero e h = absurd (omega arith)
+      by (suc l) e h = let d : suc l - 1 ≡ l = omega arith in rw d (omega arith)
+
+  pub block-in : place + N ≤ all
+  block-in = omega (arith, block-next)
+
+-- the part that the code lends
+pub part-is : (place N : ℕ) (xs : List ℤ) → take (place + N - place) (drop place xs) ≡ take N (drop place xs)
+part-is place N xs = let e : place + N - place ≡ N = omega arith in ap (λ n. take n (drop place xs)) e
+
+pub block-long : (place N : ℕ) (xs : List ℤ) → place + N ≤ length xs → length (take N (drop place xs)) ≡ N
+block-long place N xs h = length-take-le N (drop place xs) (omega (arith, length-drop place xs))
+
+-- ---- the first fault of the blocks left: of the next one, or of those after it
+module _ (N before left b : ℕ) (readings : List ℤ) (h : 0 < left) (e : firstFault N 0 b readings ≡ firstFault N before left (drop before readings)) where
+  abbrev later : Fault
+  later = firstFault N (before + N) (left - 1) (drop (before + N) readings)
+
+  fault-next : firstFault N before left (drop before readings) ≡ faultFrom before (faultOf (take N (drop before readings))) later
+  unfolding firstFault
+  fault-next = by left h
+    where
+      by : (l : ℕ) → 0 < l → firstFault N before l (drop before readings) ≡ faultFrom before (faultOf (take N (drop before readings))) (firstFault N (before + N) (l - 1) (drop (before + N) readings))
+      by zero h = absurd (omega arith)
+      by (suc l) h = let d : suc l - 1 ≡ l = omega arith in rw (d, ← drop-drop N before readings)
+
+  fault-here : (f : Fault) → faultOf (take N (drop before readings)) ≡ f → firstFault N 0 b readings ≡ faultFrom before f later
+  fault-here f d = e ∙ fault-next ∙ ap (λ g. faultFrom before g later) d
+
+  pub dead-here : (place : ℕ) → faultOf (take N (drop before readings)) ≡ Dead place → Dead (before + place) ≡ firstFault N 0 b readings
+  unfolding faultFrom
+  dead-here place d = sym (fault-here (Dead place) d)
+
+  pub beyond-here : (place : ℕ) → faultOf (take N (drop before readings)) ≡ Beyond place → Beyond (before + place) ≡ firstFault N 0 b readings
+  unfolding faultFrom
+  beyond-here place d = sym (fault-here (Beyond place) d)
+
+  pub clear-here : faultOf (take N (drop before readings)) ≡ Clear → firstFault N 0 b readings ≡ later
+  unfolding faultFrom
+  clear-here d = fault-here Clear d
+
+pub none-left : (N before left : ℕ) (xs : List ℤ) → left ≡ 0 → Clear ≡ firstFault N before left xs
+unfolding firstFault
+none-left N before left xs e = rw e

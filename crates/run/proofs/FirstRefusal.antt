@@ -1,0 +1,70 @@
+-- The first refusal among the calls of a whole run is told from its readings: it is that of their first fault.
+use mathlib.Core.Path.{_≡_, refl, _∙_}
+use mathlib.Core.Bool.{true, false}
+use mathlib.Core.List.{List, [], _∷_}
+use Prim.Native.Nat.{ℕ, zero, suc, _+_, _*_, _≤_, _<_}
+use native.Mathlib.Omega.{arith}
+use borrow.Author.Tests.{lt-ltb, eq-eqb}
+use lib.Dec.{eqb·suc-zero}
+use lib.IntN.{ℤ}
+use lib.ListN.{length, take, drop, length-drop}
+use lib.Seq.{length-take-le}
+use Rattle.steps.specs.Steps.{held}
+use Rattle.lifting.specs.declared.gate.Found.{Found}
+use Rattle.lifting.specs.declared.gate.Found.the-variants.{At, Nothing}
+use Rattle.run.specs.declared.record.Run.{Run}
+use Rattle.run.specs.declared.gate.Fault.{Fault}
+use Rattle.run.specs.Record.{blockLimit, opened}
+use Rattle.run.specs.Gate.{askEach, nothing, every, firstDead, firstOut}
+use Rattle.run.specs.Forward.{takenIn}
+use Rattle.run.specs.Calls.{Call, block, finish, give, made, works, accepted}
+use Rattle.run.specs.Whole.{callsOf, firstRefusal}
+use Rattle.run.specs.Faults.{toldFault, faultBy, faultOf, faultFrom, firstFault}
+use Rattle.run.proofs.RecordLaws.{Reached, reached-next}
+use Rattle.run.proofs.CallLaws.{accepted-block, taken-decided, ended-decided, taken-in}
+
+-- ---- the first refusal: of the first call, or of those after it
+module _ (N before : ℕ) (run : Run) (c : Call) (calls : List Call) where
+  refusal-here : (n place : ℕ) (after : Run) (out : List ℤ) → give run c ≡ ((suc n, place), after, out) → firstRefusal N before (made run (c ∷ calls)) ≡ (suc n, before + place)
+  unfolding made works firstRefusal
+  refusal-here n place after out e = rw (e, eqb·suc-zero n)
+
+  refusal-later : (after : Run) (out : List ℤ) → give run c ≡ ((0, 0), after, out) → firstRefusal N before (made run (c ∷ calls)) ≡ firstRefusal N (before + N) (made after calls)
+  unfolding made works firstRefusal
+  refusal-later after out e = rw e
+
+-- the first call takes a block of N readings, behind b blocks
+module _ (N b : ℕ) (previous : List ℤ) (r : Reached N b previous) (xs out : List ℤ) (l : length xs ≡ N) (m : length out ≡ N) (h : b < blockLimit) where
+  abbrev run : Run
+  run = opened N b (held N previous)
+
+  clear : firstDead xs 0 ≡ Nothing → firstOut xs 0 ≡ Nothing → accepted N b false (block xs out) ≡ true
+  unfolding accepted every nothing
+  clear d e = rw (lt-ltb b blockLimit h, eq-eqb (length xs) N l, eq-eqb (length out) N m, d, e)
+
+  block-refusal : (before : ℕ) (calls : List Call) (rest : Fault)
+      → (Reached N (suc b) xs → firstRefusal N (before + N) (made (opened N (suc b) (held N xs)) calls) ≡ toldFault rest)
+      → firstRefusal N before (made run (block xs out ∷ calls)) ≡ toldFault (faultFrom before (faultOf xs) rest)
+  unfolding toldFault faultFrom faultOf faultBy give takenIn askEach
+  block-refusal before calls rest later = by (firstDead xs 0) (firstOut xs 0) refl refl
+    where
+      by : (f g : Found) → firstDead xs 0 ≡ f → firstOut xs 0 ≡ g → firstRefusal N before (made run (block xs out ∷ calls)) ≡ toldFault (faultFrom before (faultBy f g) rest)
+      by (At place) g d e = refusal-here N before run (block xs out) calls 7 place run out (taken-in N b previous r xs out l m h ∙ rw d)
+      by Nothing (At place) d e = refusal-here N before run (block xs out) calls 8 place run out (taken-in N b previous r xs out l m h ∙ rw (d, e))
+      by Nothing Nothing d e =
+          let a = clear d e in
+          refusal-later N before run (block xs out) calls _ _ (taken-decided N b previous r xs out .when-yes a)
+          ∙ later (reached-next N b previous xs r h (accepted-block N b false xs out a))
+
+finish-refusal : (N b before : ℕ) (previous out : List ℤ) → Reached N b previous → length out ≡ N → firstRefusal N before (made (opened N b (held N previous)) (finish out ∷ [])) ≡ (0, 0)
+unfolding accepted every give made firstRefusal
+finish-refusal N b before previous out r m = refusal-later N before (opened N b (held N previous)) (finish out) [] _ _ (ended-decided N b previous r out .when-yes (rw (eq-eqb (length out) N m)))
+
+pub first-refusal : (N b count before : ℕ) (previous readings out : List ℤ) → Reached N count previous → count + b ≤ blockLimit
+    → length readings ≡ b * N → length out ≡ b * N + N
+    → firstRefusal N before (made (opened N count (held N previous)) (callsOf N b readings out)) ≡ toldFault (firstFault N before b readings)
+unfolding callsOf firstFault toldFault
+first-refusal N zero count before previous readings out r h l m = finish-refusal N count before previous out r (omega arith)
+first-refusal N (suc b) count before previous readings out r h l m =
+    block-refusal N count previous r (take N readings) (take N out) (length-take-le N readings (omega arith)) (length-take-le N out (omega arith)) (omega arith) before _ _
+    (λ s. first-refusal N b (suc count) (before + N) (take N readings) (drop N readings) (drop N out) s (omega arith) (simp length-drop (omega arith)) (simp length-drop (omega arith)))

@@ -1,0 +1,13 @@
+pub mod GateLaws
+pub mod StepLaws
+pub mod Searches
+pub mod RecordLaws
+pub mod CallLaws
+pub mod EveryList
+pub mod FirstRefusal
+pub mod WholeLaws
+pub mod Cases
+pub mod ReadyLaws
+pub mod AskLaws
+pub mod FaultLaws
+pub mod PartLaws

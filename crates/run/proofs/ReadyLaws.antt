@@ -1,0 +1,64 @@
+-- A record that the gate has passed: what the steps can rely on, and the record that they leave.
+use mathlib.Core.Path.{_≡_, refl, sym, ap, ap₂, _∙_}
+use mathlib.Core.Bool.{true, false}
+use mathlib.Core.List.{List, [], _∷_, _++_}
+use Prim.Native.Nat.{ℕ, zero, suc, _+_, _-_, _≤_}
+use native.Mathlib.Omega.{arith}
+use borrow.Author.Tests.{ltb-true, leb-true}
+use lib.IntN.{ℤ, pos, negsuc, natAbs}
+use lib.ListN.{length, take, drop, length-drop}
+use Rattle.integers.specs.Vectors.{AllAbs}
+use Rattle.integers.proofs.PlaceLaws.{within-all}
+use Rattle.tables.specs.Widths.{halfWidth}
+use Rattle.steps.specs.Steps.{held, frame}
+use Rattle.steps.proofs.Undo.{length-held}
+use Rattle.run.specs.declared.record.Run.{Run}
+use Rattle.run.specs.Record.{blockLimit, zeros, filled, opened, advanced}
+use Rattle.run.specs.Gate.{inside, sound}
+use Rattle.run.specs.Forward.{frameOn}
+use Rattle.run.specs.Ready.{Ready}
+use Rattle.run.proofs.Searches.{all-inside}
+use Rattle.run.proofs.CallLaws.{every-answer}
+
+zero-size : (x : ℤ) → natAbs x ≤ 0 → x ≡ pos 0
+zero-size (pos zero) h = refl
+zero-size (pos (suc n)) h = absurd (omega arith)
+zero-size (negsuc n) h = absurd (omega arith)
+
+zeros-are : (xs : List ℤ) → AllAbs 0 xs → xs ≡ zeros (length xs)
+zeros-are [] h = refl
+zeros-are (x ∷ xs) h = ap₂ (λ (y : ℤ) (ys : List ℤ). y ∷ ys) (zero-size x (h .0)) (zeros-are xs (h .1))
+
+-- zeros in front of zeros
+pub zeros-part : (n m : ℕ) → n ≤ m → take n (zeros m) ≡ zeros n
+zeros-part zero m h = refl
+zeros-part (suc n) zero h = absurd (omega arith)
+zeros-part (suc n) (suc m) h = ap (λ (l : List ℤ). pos 0 ∷ l) (zeros-part n m (omega arith))
+
+pub passed : (run : Run) (half : ℕ) → sound blockLimit run ≡ true → half ≡ halfWidth (run .width) → length (run .held) ≡ 64 → Ready run half
+unfolding sound inside
+passed run half e h l = record {
+  good = record { half-is = h; wide = ltb-true _ _ (every-answer _ e 0) };
+  below = leb-true _ _ (every-answer _ e 1);
+  within = within-all 50000 (run .held) (all-inside 50000 (run .held) (every-answer _ e 2));
+  rest =
+      zeros-are (drop (halfWidth (run .width)) (run .held)) (all-inside 0 _ (every-answer _ e 3))
+      ∙ ap zeros (length-drop (halfWidth (run .width)) (run .held) ∙ ap (λ n. n - halfWidth (run .width)) l);
+}
+
+module _ (run : Run) (half : ℕ) (ready : Ready run half) (block : List ℤ) where
+  abbrev N : ℕ
+  N = run .width
+
+  -- the rest of the held values is zero, as it was
+  pub stored-is : held N block ++ drop half (run .held) ≡ filled (held N block)
+  unfolding filled
+  stored-is = ap (λ xs. held N block ++ xs) (ap (λ n. drop n (run .held)) (ready .good .half-is) ∙ ready .rest ∙ ap (λ n. zeros (64 - n)) (sym (length-held N block)))
+
+  pub advanced-is : (xs : List ℤ) → xs ≡ held N block ++ drop half (run .held) → record { width = N; count = run .count + 1; held = xs; finished = false } ≡ advanced run block
+  unfolding advanced opened
+  advanced-is xs e = ap₂ (λ (c : ℕ) (h : List ℤ). record { width = N; count = c; held = h; finished = false }) (omega arith) (e ∙ stored-is)
+
+  pub frame-on : frame N (take half (run .held)) block ≡ frameOn run block
+  unfolding frameOn
+  frame-on = ap (λ n. frame N (take n (run .held)) block) (ready .good .half-is)

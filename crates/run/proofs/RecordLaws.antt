@@ -1,0 +1,97 @@
+-- The record of a run that is open after b blocks, the last of them `previous`, and of the same run finished: the gate calls both sound.
+use mathlib.Core.Path.{_≡_, refl, sym, ap, _∙_}
+use mathlib.Core.Bool.{Bool, true, false, not, _||_, or-false}
+use mathlib.Core.List.{List, []}
+use Prim.Native.Nat.{ℕ, suc, _+_, _-_, _≤_, _<_, zero-le}
+use native.Mathlib.Omega.{arith}
+use borrow.Author.Tests.{lt-ltb, le-leb, eqb-true}
+use lib.Dec.{eqb, lit≤}
+use lib.IntN.{ℤ, pos}
+use lib.ListN.{length, take, drop, length-replicate, replicate-append-replicate}
+use lib.Seq.{take-at, drop-at, getD-drop}
+use Rattle.integers.specs.Vectors.{AllAbs}
+use Rattle.integers.proofs.Products.{all-append, all-getD, getD-all}
+use Rattle.tables.specs.Widths.{halfWidth}
+use Rattle.tables.proofs.ByWidth.{half-width-le}
+use Rattle.steps.specs.Limits.{readingLimit}
+use Rattle.steps.specs.Steps.{held}
+use Rattle.steps.proofs.Undo.{length-held}
+use Rattle.steps.proofs.Rotation.{held-gate}
+use Rattle.steps.proofs.ZeroBlock.{held-zeros}
+use Rattle.distance.specs.Statement.{IsWidth, Block}
+use Rattle.distance.proofs.ZeroBlock.{zero-block}
+use Rattle.run.specs.declared.record.Run.{Run}
+use Rattle.run.specs.Record.{blockLimit, zeros, filled, opened, closed}
+use Rattle.run.specs.Gate.{every, sound}
+use Rattle.run.proofs.Searches.{inside-all}
+
+-- ---- held values, with zeros up to 64
+pub take-filled : (N : ℕ) (x : List ℤ) → take (halfWidth N) (filled (held N x)) ≡ held N x
+unfolding filled
+take-filled N x = take-at (held N x) _ (halfWidth N) (length-held N x)
+
+pub drop-filled : (N : ℕ) (x : List ℤ) → drop (halfWidth N) (filled (held N x)) ≡ zeros (64 - halfWidth N)
+unfolding filled
+drop-filled N x = rw (drop-at (held N x) _ (halfWidth N) (length-held N x), length-held)
+
+filled-zeros : (n : ℕ) → n ≤ 64 → filled (zeros n) ≡ zeros 64
+unfolding filled
+filled-zeros n h =
+    let e : n + (64 - n) ≡ 64 = omega arith in
+    rw (length-replicate n (pos 0), replicate-append-replicate, e)
+
+filled-held-zeros : (N : ℕ) → filled (held N (zeros N)) ≡ zeros 64
+filled-held-zeros N = rw held-zeros (filled-zeros (halfWidth N) (half-width-le N))
+
+-- before the first block the held values are zeros, as those of a block of zeros are
+pub opened-zeros : (N : ℕ) → opened N 0 [] ≡ opened N 0 (held N (zeros N))
+unfolding opened
+opened-zeros N = ap (λ xs. record { width = N; count = 0; held = xs; finished = false }) (filled-zeros 0 (lit≤ tt) ∙ sym (filled-held-zeros N))
+
+-- ---- what question 2 asks
+all-zeros : (l n : ℕ) → AllAbs l (zeros n)
+all-zeros l n = zero-block n l .within
+
+all-filled : (l : ℕ) (xs : List ℤ) → AllAbs l xs → AllAbs l (filled xs)
+unfolding filled
+all-filled l xs h = all-append l xs (zeros (64 - length xs)) h (all-zeros l (64 - length xs))
+
+all-drop : (l n : ℕ) (xs : List ℤ) → AllAbs l xs → AllAbs l (drop n xs)
+all-drop l n xs h = all-getD l (drop n xs) (λ i _. rw getD-drop (getD-all l xs h (n + i)))
+
+unless : (a b : Bool) → (a ≡ true → b ≡ true) → (not a || b) ≡ true
+unless true b h = h refl
+unless false b h = refl
+
+pub sound-run : (top : ℕ) (run : Run) → 0 < halfWidth (run .width) → run .count ≤ top → AllAbs 50000 (run .held) → AllAbs 0 (drop (halfWidth (run .width)) (run .held))
+    → ((eqb (run .count) 0 || run .finished) ≡ true → AllAbs 0 (run .held)) → sound top run ≡ true
+unfolding sound every
+sound-run top run w c h d z = rw (lt-ltb _ _ w, le-leb _ _ c, inside-all 50000 (run .held) h, inside-all 0 (drop (halfWidth (run .width)) (run .held)) d, unless _ _ (λ e. inside-all _ _ (z e)))
+
+-- ---- what a run comes to: `previous` is the last of b blocks, or zeros before the first
+pub record Reached (N b : ℕ) (previous : List ℤ) : Type 0 where
+  pub wide : IsWidth N
+  pub counted : b ≤ blockLimit
+  pub readings : Block N readingLimit previous
+  pub fresh : b ≡ 0 → previous ≡ zeros N
+
+pub reached-first : (N : ℕ) → IsWidth N → Reached N 0 (zeros N)
+reached-first N w = record { wide = w; counted = zero-le; readings = zero-block N readingLimit; fresh = λ e. refl }
+
+pub reached-next : (N b : ℕ) (previous xs : List ℤ) → Reached N b previous → b < blockLimit → Block N readingLimit xs → Reached N (suc b) xs
+reached-next N b previous xs r l h = record { wide = r .wide; counted = l; readings = h; fresh = λ e. absurd (omega arith) }
+
+module _ (N b : ℕ) (previous : List ℤ) (r : Reached N b previous) where
+  pub opened-sound : sound blockLimit (opened N b (held N previous)) ≡ true
+  unfolding opened
+  opened-sound =
+      sound-run blockLimit (opened N b (held N previous)) (r .wide) (r .counted)
+      (all-filled 50000 (held N previous) (held-gate N previous (r .readings .within)))
+      (rw drop-filled (all-zeros 0 (64 - halfWidth N)))
+      (λ e. rw (r .fresh (eqb-true b 0 (sym (or-false (eqb b 0)) ∙ e)), filled-held-zeros) (all-zeros 0 64))
+
+  pub closed-sound : sound blockLimit (closed (opened N b (held N previous))) ≡ true
+  unfolding opened closed
+  closed-sound =
+      sound-run blockLimit (closed (opened N b (held N previous))) (r .wide) (r .counted)
+      (all-zeros 50000 64) (all-drop 0 (halfWidth N) (zeros 64) (all-zeros 0 64)) (λ e. all-zeros 0 64)

@@ -1,0 +1,38 @@
+-- The folded values of a block behind what was held, and the frame that they make.
+use mathlib.Core.Path.{_≡_, refl, sym, ap, ap₂, subst, _∙_}
+use mathlib.Core.List.{List, _++_}
+use Prim.Native.Nat.{ℕ, _+_, _^_, _<_}
+use lib.IntN.{ℤ}
+use lib.ListN.{length, length-append}
+use Rattle.integers.specs.Places.{Within}
+use Rattle.integers.specs.Vectors.{AllAbs}
+use Rattle.integers.proofs.PlaceLaws.{within-all}
+use Rattle.integers.proofs.Products.{all-getD, all-append}
+use Rattle.tables.specs.Widths.{halfWidth}
+use Rattle.steps.specs.Steps.{lower, stages, frame}
+use Rattle.steps.proofs.Undo.{width-half, length-lower, length-stages}
+use Rattle.steps.proofs.Rotation.{lower-gate}
+use Rattle.lifting.proofs.FrameLaws.{stages-within}
+
+pub all-within : (B : ℕ) (xs : List ℤ) → Within B xs → AllAbs B xs
+all-within B xs h = all-getD B xs (λ i l. h .size i)
+
+module _ (N : ℕ) (previous block : List ℤ) (wide : 0 < halfWidth N) (long : length previous ≡ halfWidth N) where
+  pub folded-long : length (lower N block ++ previous) ≡ N
+  folded-long = length-append (lower N block) previous ∙ ap₂ _+_ (length-lower N block) long ∙ width-half N wide
+
+  pub frame-long : length (frame N previous block) ≡ N
+  unfolding frame
+  frame-long = length-stages N (lower N block ++ previous) ∙ width-half N wide
+
+  module _ (p : Within 50000 previous) (b : Within 32767 block) where
+    pub folded-within : Within 50000 (lower N block ++ previous)
+    folded-within = within-all 50000 _ (all-append 50000 (lower N block) previous (lower-gate N block (all-within 32767 block b)) (all-within 50000 previous p))
+
+    pub frame-within : Within (2 ^ 30) (frame N previous block)
+    unfolding frame
+    frame-within = stages-within N (lower N block ++ previous) folded-long (width-half N wide) folded-within
+
+pub frame-is : (N : ℕ) (previous block : List ℤ) → stages N (lower N block ++ previous) ≡ frame N previous block
+unfolding frame
+frame-is N previous block = refl

@@ -1,0 +1,76 @@
+-- `run::forward::finish` meets its contract.
+use borrow.Author.Needs.{needs}
+use borrow.Author.Tests.{not-true, not-false}
+use mathlib.Core.Path.{_≡_, sym, ap₂, _∙_}
+use mathlib.Core.Bool.{true}
+use mathlib.Core.List.{List}
+use lib.IntN.{ℤ}
+use lib.ListN.{length}
+use Rattle.lifting.specs.Gate.{told}
+use Rattle.lifting.specs.declared.gate.Answer.the-variants.{Done}
+use Rattle.run.specs.declared.record.Run.{Run}
+use Rattle.run.specs.Record.{blockLimit}
+use Rattle.run.specs.Gate.{sound}
+use Rattle.run.proofs.ReadyLaws.{passed}
+use Rattle.run.proofs.AskLaws.{end-record-refused, end-closed-refused, end-output-refused, ended-done}
+use Rattle.run.proofs.forward.finish.Statement.{statement}
+use Rattle.run.proofs.forward.finish.Tie as tie
+
+module _ (s : tie.Start) where
+  abbrev run : Run
+  run = s .args .run
+
+  abbrev out : List ℤ
+  out = s .args .frame .now
+
+  held-long : length (run .held) ≡ 64
+  held-long = search needs
+
+is-sound : (e : tie.Else1) → sound blockLimit (run (e .before .before)) ≡ true
+is-sound e = sym (e .before .sound .ensures) ∙ not-false _ (e .if1 .left)
+
+sound-requires : tie.Need-sound-requires
+sound-requires c κs = search needs
+
+returns : tie.Need-returns
+returns c = let s = c .before .before in end-record-refused (run s) (out s) (sym (c .before .sound .ensures) ∙ not-true _ (c .if1 .taken))
+
+returns-2 : tie.Need-returns-2
+returns-2 c = let e = c .before in let s = e .before .before in end-closed-refused (run s) (out s) (is-sound e) (c .if2 .taken)
+
+returns-3 : tie.Need-returns-3
+returns-3 c = let e = c .before .before in let s = e .before .before in end-output-refused (run s) (out s) (is-sound e) (c .before .if2 .left) (c .if3 .taken)
+
+half-width-requires : tie.Need-half-width-requires
+half-width-requires c κs = search needs
+
+close-requires : tie.Need-close-requires
+close-requires c κs =
+    let l = c .before .before in
+    let e = l .before .before in
+    let s = e .before .before in
+    (passed (run s) _ (is-sound e) (c .before .half-width .ensures) (held-long s), l .if3 .left)
+
+same-length : tie.Need-same-length
+same-length c = search needs
+
+returns-4 : tie.Need-returns-4
+returns-4 c =
+    let l = c .before .before .before .before in
+    let e = l .before .before in
+    let s = e .before .before in
+    ap₂ (λ (r : Run) (f : List ℤ). (told Done, r, f)) (c .before .close .ensures .0) (c .before .close .ensures .1)
+    ∙ ended-done (run s) (out s) (is-sound e) (l .before .if2 .left) (l .if3 .left)
+
+pub finish-spec : {M : Type 1} → statement M
+finish-spec =
+    tie.close
+    (tie.spec
+    sound-requires
+    returns
+    returns-2
+    returns-3
+    half-width-requires
+    close-requires
+    same-length
+    returns-4)

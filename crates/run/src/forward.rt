@@ -1,0 +1,179 @@
+// A run forward, call by call, for any caller: the record goes in by value and comes back with the answer.
+ghost use mathlib.Core.Path.{_≡_};
+ghost use lib.ListN.{length};
+ghost use Rattle.integers.specs.Places.{Within};
+ghost use Rattle.lifting.specs.Gate.{told};
+ghost use Rattle.run.specs.Record.{zeros, advanced, closed};
+ghost use Rattle.run.specs.Ready.{Ready};
+ghost use Rattle.run.specs.Forward.{started, frameOn, taken, ended};
+use crate::gate;
+use crate::gate::Fault;
+use crate::record;
+use crate::record::Outcome;
+use crate::record::Run;
+use crate::step;
+use lifting::gate::Answer;
+use stages::room;
+use stages::vectors;
+use tables::widths;
+
+// A fresh run of a width.
+pub fn start(width: usize) -> Outcome
+    ensures { λ r. ⌜ (told (r .answer), r .run) ≡ started width ⌝ }
+{
+    let held = record::nothing_held();
+    let half = widths::half_width(width);
+    if half == 0 {
+        return Outcome {
+            run: Run {
+                width: 0,
+                count: 0,
+                held: held,
+                finished: false,
+            },
+            answer: Answer::Width,
+        };
+    }
+    Outcome {
+        run: Run {
+            width: width,
+            count: 0,
+            held: held,
+            finished: false,
+        },
+        answer: Answer::Done,
+    }
+}
+
+fn advance(run: Run, half: usize, block: &[i32], frame: &mut [i32]) -> Run
+    requires { ⌜ Ready run half ⌝ }
+    requires { ⌜ (length (now block) ≡ run .width) × (length (now frame) ≡ run .width) ⌝ }
+    requires { ⌜ Within 32767 (now block) ⌝ }
+    ensures { λ r. ⌜ (r ≡ advanced run (now (block .entry))) × (now (frame .exit) ≡ frameOn run (now (block .entry))) ⌝ }
+{
+    let width = run.width;
+    let previous = run.held;
+    let mut held = run.held;
+    let mut wide = room::of_128();
+    vectors::widen(block, &mut wide[..width]);
+    step::step(
+        width,
+        half,
+        &previous[..half],
+        &wide[..width],
+        &mut held[..half],
+        frame,
+    );
+    Run {
+        width: width,
+        count: run.count + 1,
+        held: held,
+        finished: false,
+    }
+}
+
+fn close(run: Run, half: usize, frame: &mut [i32]) -> Run
+    requires { ⌜ Ready run half ⌝ }
+    requires { ⌜ length (now frame) ≡ run .width ⌝ }
+    ensures { λ r. ⌜ (r ≡ closed run) × (now (frame .exit) ≡ frameOn run (zeros (run .width))) ⌝ }
+{
+    let width = run.width;
+    let previous = run.held;
+    let zeros = record::zero_block();
+    let mut spare = room::of_64();
+    step::step(
+        width,
+        half,
+        &previous[..half],
+        &zeros[..width],
+        &mut spare[..half],
+        frame,
+    );
+    Run {
+        width: width,
+        count: run.count,
+        held: record::nothing_held(),
+        finished: true,
+    }
+}
+
+// Take a block: its readings in, its frame out.
+pub fn take(run: Run, block: &[i32], frame: &mut [i32]) -> Outcome
+    ensures { λ r. ⌜ (told (r .answer), r .run, now (frame .exit)) ≡ taken run (now (block .entry)) (now (frame .entry)) ⌝ }
+{
+    let width = run.width;
+    if !gate::sound(65536, run) {
+        return Outcome {
+            run: run,
+            answer: Answer::Record,
+        };
+    }
+    if run.finished {
+        return Outcome {
+            run: run,
+            answer: Answer::Closed,
+        };
+    }
+    if run.count == 65536 {
+        return Outcome {
+            run: run,
+            answer: Answer::Full,
+        };
+    }
+    if block.len() != width {
+        return Outcome {
+            run: run,
+            answer: Answer::InputLength,
+        };
+    }
+    if frame.len() != width {
+        return Outcome {
+            run: run,
+            answer: Answer::OutputLength,
+        };
+    }
+    let fault = gate::fault_of(block);
+    match fault {
+        Fault::Dead(place) => Outcome {
+            run: run,
+            answer: Answer::DeadMark(place),
+        },
+        Fault::Beyond(place) => Outcome {
+            run: run,
+            answer: Answer::Range(place),
+        },
+        Fault::Clear => Outcome {
+            run: advance(run, widths::half_width(width), block, frame),
+            answer: Answer::Done,
+        },
+    }
+}
+
+// Finish: the frame of the last block's held half.
+pub fn finish(run: Run, frame: &mut [i32]) -> Outcome
+    ensures { λ r. ⌜ (told (r .answer), r .run, now (frame .exit)) ≡ ended run (now (frame .entry)) ⌝ }
+{
+    let width = run.width;
+    if !gate::sound(65536, run) {
+        return Outcome {
+            run: run,
+            answer: Answer::Record,
+        };
+    }
+    if run.finished {
+        return Outcome {
+            run: run,
+            answer: Answer::Closed,
+        };
+    }
+    if frame.len() != width {
+        return Outcome {
+            run: run,
+            answer: Answer::OutputLength,
+        };
+    }
+    Outcome {
+        run: close(run, widths::half_width(width), frame),
+        answer: Answer::Done,
+    }
+}

@@ -1,0 +1,97 @@
+// The gate's questions about a run record and about the readings of a block.
+ghost use mathlib.Core.Path.{_≡_};
+ghost use Prim.Native.Nat.{_≤_, _<_, _^_};
+ghost use lib.IntN.{pos, natAbs};
+ghost use lib.ListN.{length};
+ghost use lib.Signed.{_≤ℤ_};
+ghost use Rattle.run.specs.Gate.{firstDead};
+ghost use Rattle.run.specs.Faults.{faultOf};
+use crate::record::Run;
+use lifting::gate;
+use lifting::gate::Found;
+use stages::room;
+use stages::vectors;
+use tables::widths;
+
+// The first reading that questions 8 and 9 refuse.
+pub enum Fault {
+    Dead(usize),
+    Beyond(usize),
+    Clear,
+}
+
+fn inside(x: &[i64], limit: i64) -> bool
+    requires { ⌜ (pos 0 ≤ℤ limit) × (natAbs limit < 2 ^ 62) ⌝ }
+    ensures { λ r. ⌜ r ≡ Rattle.run.specs.Gate.inside limit (now (x .entry)) ⌝ }
+{
+    let beyond = gate::first_beyond(x, limit);
+    if let Found::At(_) = beyond {
+        return false;
+    }
+    true
+}
+
+// Question 2.
+pub fn sound(top: usize, run: Run) -> bool
+    ensures { λ r. ⌜ r ≡ Rattle.run.specs.Gate.sound top run ⌝ }
+{
+    let half = widths::half_width(run.width);
+    if half == 0 {
+        return false;
+    }
+    if top < run.count {
+        return false;
+    }
+    let held = run.held;
+    if !inside(&held, 50000) {
+        return false;
+    }
+    if !inside(&held[half..], 0) {
+        return false;
+    }
+    if run.count == 0 {
+        return inside(&held, 0);
+    }
+    if run.finished {
+        return inside(&held, 0);
+    }
+    true
+}
+
+fn first_dead(x: &[i64]) -> Found
+    ensures { λ r. ⌜ r ≡ firstDead (now (x .entry)) 0 ⌝ }
+{
+    let mut i = 0;
+    while i < x.len() {
+        if x[i] == -32768 {
+            return Found::At(i);
+        }
+        i += 1;
+    }
+    Found::Nothing
+}
+
+fn fault_in(block: &[i64]) -> Fault
+    ensures { λ r. ⌜ r ≡ faultOf (now (block .entry)) ⌝ }
+{
+    let dead = first_dead(block);
+    if let Found::At(place) = dead {
+        return Fault::Dead(place);
+    }
+    let beyond = gate::first_beyond(block, 32767);
+    if let Found::At(place) = beyond {
+        return Fault::Beyond(place);
+    }
+    Fault::Clear
+}
+
+// Questions 8 and 9.
+pub fn fault_of(block: &[i32]) -> Fault
+    requires { ⌜ length (now block) ≤ 128 ⌝ }
+    ensures { λ r. ⌜ r ≡ faultOf (now (block .entry)) ⌝ }
+{
+    let n = block.len();
+    let mut wide = room::of_128();
+    vectors::widen(block, &mut wide[..n]);
+    fault_in(&wide[..n])
+}

@@ -1,0 +1,90 @@
+// A whole run over lent slices, for any caller.
+ghost use mathlib.Core.Path.{_≡_};
+ghost use lib.ListN.{length};
+ghost use Rattle.lifting.specs.Gate.{told};
+ghost use Prim.Native.Nat.{_+_, _*_, _/_, _≤_, _<_};
+ghost use Rattle.tables.specs.Widths.{halfWidth};
+ghost use Rattle.run.specs.Faults.{firstFault};
+ghost use Rattle.run.specs.Forward.{started};
+ghost use Rattle.run.specs.Calls.{made};
+ghost use Rattle.run.specs.Whole.{callsOf, outputs, wholeForward, WholeRun};
+ghost use Rattle.run.specs.Ready.{Blocks};
+use crate::forward;
+use crate::gate;
+use crate::gate::Fault;
+use lifting::gate::Answer;
+use tables::widths;
+
+// The first reading that a block refuses, its place counted through the run.
+fn first_fault(width: usize, readings: &[i32]) -> Fault
+    requires { ⌜ Blocks width (now readings) ⌝ }
+    ensures { λ r. ⌜ r ≡ firstFault width 0 (length (now (readings .entry)) / width) (now (readings .entry)) ⌝ }
+{
+    let mut at = 0;
+    let mut left = readings.len() / width;
+    while 0 < left {
+        let end = at + width;
+        let fault = gate::fault_of(&readings[at..end]);
+        match fault {
+            Fault::Dead(place) => {
+                return Fault::Dead(at + place);
+            }
+            Fault::Beyond(place) => {
+                return Fault::Beyond(at + place);
+            }
+            Fault::Clear => {}
+        }
+        at = end;
+        left -= 1;
+    }
+    Fault::Clear
+}
+
+// Each block is lent to the block step as it lies.
+fn frames_of(width: usize, readings: &[i32], frames: &mut [i32])
+    requires { ⌜ Blocks width (now readings) ⌝ }
+    requires { ⌜ length (now frames) ≡ length (now readings) + width ⌝ }
+    ensures { λ _. ⌜ now (frames .exit) ≡ outputs (made (started width .1) (callsOf width (length (now (readings .entry)) / width) (now (readings .entry)) (now (frames .entry)))) ⌝ }
+{
+    let fresh = forward::start(width);
+    let mut run = fresh.run;
+    let mut at = 0;
+    let mut left = readings.len() / width;
+    while 0 < left {
+        let end = at + width;
+        let taken = forward::take(run, &readings[at..end], &mut frames[at..end]);
+        run = taken.run;
+        at = end;
+        left -= 1;
+    }
+    forward::finish(run, &mut frames[at..]);
+}
+
+// The whole run forward: every block's frame, and the finish's.
+pub fn forward(width: usize, readings: &[i32], frames: &mut [i32]) -> Answer
+    ensures { λ r. ⌜ (told r, now (frames .exit)) ≡ wholeForward width (now (readings .entry)) (now (frames .entry)) ⌝ }
+    ensures { λ r. ⌜ (told r ≡ (0, 0) → WholeRun width (now (readings .entry)) (now (frames .exit))) ⌝ }
+{
+    let half = widths::half_width(width);
+    if half == 0 {
+        return Answer::Width;
+    }
+    if readings.len() % width != 0 {
+        return Answer::InputLength;
+    }
+    if 65536 < readings.len() / width {
+        return Answer::InputLength;
+    }
+    if frames.len() != readings.len() + width {
+        return Answer::OutputLength;
+    }
+    let fault = first_fault(width, readings);
+    match fault {
+        Fault::Dead(place) => Answer::DeadMark(place),
+        Fault::Beyond(place) => Answer::Range(place),
+        Fault::Clear => {
+            frames_of(width, readings, frames);
+            Answer::Done
+        }
+    }
+}
