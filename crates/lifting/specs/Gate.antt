@@ -6,6 +6,7 @@ use lib.Dec.{eqb, ltb}
 use lib.IntN.{ℤ, pos, natAbs}
 use lib.ListN.{length}
 use Rattle.tables.specs.Widths.{halfWidth}
+use Rattle.steps.specs.Limits.{foldedLimit, coefficientLimit}
 use Rattle.steps.specs.Steps.{stages, unstages}
 use Rattle.lifting.specs.declared.gate.Answer.{Answer}
 use Rattle.lifting.specs.declared.gate.Answer.the-variants.{Done, Width, Record, Closed, Full, Empty, InputLength, OutputLength, DeadMark, Range, Folded, Halves, Unfolded}
@@ -59,7 +60,7 @@ shaped N given out next =
 
 -- question 10, then the stages
 unfoldable pub stagesAsked : ℕ → List ℤ → List ℤ → Given
-stagesAsked N folded out = refusedAt 10 (firstBeyond (pos 50000) folded 0) out ((0, 0), stages N folded)
+stagesAsked N folded out = refusedAt 10 (firstBeyond (pos foldedLimit) folded 0) out ((0, 0), stages N folded)
 
 unfoldable pub stagesAlone : ℕ → List ℤ → List ℤ → Given
 stagesAlone N folded out = shaped N folded out (stagesAsked N folded out)
@@ -67,8 +68,8 @@ stagesAlone N folded out = shaped N folded out (stagesAsked N folded out)
 -- question 9, then the stages undone, and question 10 of what comes out
 unfoldable pub unstagesAsked : ℕ → List ℤ → List ℤ → Given
 unstagesAsked N frame out =
-    refusedAt 9 (firstBeyond (pos 1048576) frame 0) out
-    (refusedAt 10 (firstBeyond (pos 50000) (unstages N frame) 0) out ((0, 0), unstages N frame))
+    refusedAt 9 (firstBeyond (pos coefficientLimit) frame 0) out
+    (refusedAt 10 (firstBeyond (pos foldedLimit) (unstages N frame) 0) out ((0, 0), unstages N frame))
 
 unfoldable pub unstagesAlone : ℕ → List ℤ → List ℤ → Given
 unstagesAlone N frame out = shaped N frame out (unstagesAsked N frame out)

@@ -9,6 +9,7 @@ use lib.IntN.{ℤ}
 use lib.ListN.{length}
 use Rattle.integers.specs.Places.{Within}
 use Rattle.tables.specs.Widths.{halfWidth}
+use Rattle.steps.specs.Limits.{readingLimit}
 use Rattle.lifting.specs.Gate.{told}
 use Rattle.lifting.specs.declared.gate.Answer.the-variants.{Done, Width, Record, Closed, Full, InputLength, OutputLength, DeadMark, Range}
 use Rattle.lifting.specs.declared.gate.Found.{Found}
@@ -66,26 +67,40 @@ clear-inside (At place) g e = absurd (false≢true (ap isClear e))
 clear-inside Nothing (At place) e = absurd (false≢true (ap isClear e))
 clear-inside Nothing Nothing e = refl
 
-pub clear-within : (block : List ℤ) → faultOf block ≡ Clear → Within 32767 block
+pub clear-within : (block : List ℤ) → faultOf block ≡ Clear → Within readingLimit block
 unfolding faultOf
-clear-within block e = none-within 32767 block (clear-inside (firstDead block 0) (firstOut block 0) e)
+clear-within block e = none-within readingLimit block (clear-inside (firstDead block 0) (firstOut block 0) e)
 
--- ---- questions 2 to 9 to a block
+-- ---- questions 8 and 9 to a block
 module _ (run : Run) (block out : List ℤ) where
   byFault : Fault → Given
   byFault (Dead place) = ((8, place), run, out)
   byFault (Beyond place) = ((9, place), run, out)
   byFault Clear = ((0, 0), advanced run block, frameOn run block)
 
-  fault-decides : byFault (faultOf block) ≡ takenIn run block out
+  by-fault : (f : Fault) → faultOf block ≡ f → byFault f ≡ takenIn run block out
   unfolding byFault faultOf faultBy takenIn askEach
-  fault-decides = by (firstDead block 0) (firstOut block 0)
+  by-fault f e = ap byFault (sym e) ∙ by (firstDead block 0) (firstOut block 0)
     where
       by : (f g : Found) → byFault (faultBy f g) ≡ askEach 8 f run out (askEach 9 g run out ((0, 0), advanced run block, frameOn run block))
       by (At place) g = refl
       by Nothing (At place) = refl
       by Nothing Nothing = refl
 
+  pub dead-refused : (place : ℕ) → faultOf block ≡ Dead place → (told (DeadMark place), run, out) ≡ takenIn run block out
+  unfolding told byFault
+  dead-refused place e = by-fault (Dead place) e
+
+  pub range-refused : (place : ℕ) → faultOf block ≡ Beyond place → (told (Range place), run, out) ≡ takenIn run block out
+  unfolding told byFault
+  range-refused place e = by-fault (Beyond place) e
+
+  pub taken-done : faultOf block ≡ Clear → (told Done, advanced run block, frameOn run block) ≡ takenIn run block out
+  unfolding told byFault
+  taken-done e = by-fault Clear e
+
+-- ---- questions 2 to 7 to a block
+module _ (run : Run) (block out : List ℤ) where
   pub record-refused : sound blockLimit run ≡ false → (told Record, run, out) ≡ taken run block out
   unfolding told taken ask
   record-refused e = rw e
@@ -114,25 +129,9 @@ module _ (run : Run) (block out : List ℤ) where
           unfolding told taken ask
           output-refused e = rw (s, o, lt-ltb (run .count) blockLimit (omega (arith, n, counted)), eq-eqb _ _ l, ne-eqb _ _ e)
 
-          module _ (m : length out ≡ run .width) where
-            lengths-passed : takenIn run block out ≡ taken run block out
-            unfolding taken ask
-            lengths-passed = rw (s, o, lt-ltb (run .count) blockLimit (omega (arith, n, counted)), eq-eqb _ _ l, eq-eqb _ _ m)
-
-            by-fault : (f : Fault) → faultOf block ≡ f → byFault f ≡ taken run block out
-            by-fault f e = ap byFault (sym e) ∙ fault-decides ∙ lengths-passed
-
-            pub dead-refused : (place : ℕ) → faultOf block ≡ Dead place → (told (DeadMark place), run, out) ≡ taken run block out
-            unfolding told byFault
-            dead-refused place e = by-fault (Dead place) e
-
-            pub range-refused : (place : ℕ) → faultOf block ≡ Beyond place → (told (Range place), run, out) ≡ taken run block out
-            unfolding told byFault
-            range-refused place e = by-fault (Beyond place) e
-
-            pub taken-done : faultOf block ≡ Clear → (told Done, advanced run block, frameOn run block) ≡ taken run block out
-            unfolding told byFault
-            taken-done e = by-fault Clear e
+          pub lengths-passed : length out ≡ run .width → takenIn run block out ≡ taken run block out
+          unfolding taken ask
+          lengths-passed m = rw (s, o, lt-ltb (run .count) blockLimit (omega (arith, n, counted)), eq-eqb _ _ l, eq-eqb _ _ m)
 
 -- ---- questions 2, 3 and 7 to a finish
 module _ (run : Run) (out : List ℤ) where

@@ -1,8 +1,8 @@
 -- The first fault of the blocks of a whole run, block by block; and parts of the readings that are blocks.
-use mathlib.Core.Path.{_≡_, refl, sym, ap, _∙_}
+use mathlib.Core.Path.{_≡_, sym, ap, _∙_}
 use mathlib.Core.Bool.{Bool, true, false, cond}
 use mathlib.Core.List.{List, [], _∷_}
-use Prim.Native.Nat.{ℕ, zero, suc, _+_, _-_, _*_, _/_, _≤_, _<_}
+use Prim.Native.Nat.{ℕ, zero, suc, _+_, _-_, _*_, _≤_, _<_}
 use native.Mathlib.Nat.{mul-le-mul-right}
 use native.Mathlib.Omega.{arith}
 use lib.IntN.{ℤ}
@@ -16,7 +16,7 @@ use Rattle.lifting.specs.declared.gate.Found.the-variants.{At, Nothing}
 use Rattle.steps.proofs.Undo.{width-half}
 use Rattle.run.specs.declared.gate.Fault.{Fault}
 use Rattle.run.specs.declared.gate.Fault.the-variants.{Dead, Beyond, Clear}
-use Rattle.run.specs.Gate.{dead, firstDead, firstOut}
+use Rattle.run.specs.Gate.{firstDead, firstOut}
 use Rattle.run.specs.Faults.{faultBy, faultOf, faultFrom, firstFault}
 use Rattle.run.specs.Ready.{Blocks}
 

@@ -1,5 +1,5 @@
 -- What the tests of the code decide of the gate's questions.
-use mathlib.Core.Path.{_≡_, refl, sym, ap, _∙_}
+use mathlib.Core.Path.{_≡_, refl, ap, _∙_}
 use mathlib.Core.Bool.{Bool, true, false, _&&_}
 use mathlib.Core.List.{List}
 use Prim.Native.Nat.{ℕ, _-_, _≤_, _<_}
@@ -9,8 +9,8 @@ use lib.IntN.{ℤ, pos, negsuc}
 use lib.ListN.{length, take, drop, length-drop}
 use lib.Seq.{take-all}
 use Rattle.tables.specs.Widths.{halfWidth}
+use Rattle.steps.specs.Limits.{foldedLimit}
 use Rattle.lifting.specs.Gate.{firstBeyond}
-use Rattle.lifting.specs.declared.gate.Found.{Found}
 use Rattle.lifting.specs.declared.gate.Found.the-variants.{At, Nothing}
 use Rattle.run.specs.declared.record.Run.{Run}
 use Rattle.run.specs.Gate.{nothing, inside, every, sound, dead}
@@ -59,11 +59,11 @@ module _ (top : ℕ) (run : Run) where
     no-count h = rw (lt-ltb 0 M wide, lt-leb _ _ h)
 
     module _ (n : run .count ≤ top) where
-      pub held-beyond : inside (pos 50000) (run .held) ≡ false → false ≡ sound top run
+      pub held-beyond : inside (pos foldedLimit) (run .held) ≡ false → false ≡ sound top run
       unfolding sound every
       held-beyond h = rw (lt-ltb 0 M wide, le-leb _ _ n, h)
 
-      module _ (h : inside (pos 50000) (run .held) ≡ true) where
+      module _ (h : inside (pos foldedLimit) (run .held) ≡ true) where
         pub rest-held : inside (pos 0) (drop M (run .held)) ≡ false → false ≡ sound top run
         unfolding sound every
         rest-held r = rw (lt-ltb 0 M wide, le-leb _ _ n, h, r)

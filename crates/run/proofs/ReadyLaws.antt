@@ -10,6 +10,7 @@ use lib.ListN.{length, take, drop, length-drop}
 use Rattle.integers.specs.Vectors.{AllAbs}
 use Rattle.integers.proofs.PlaceLaws.{within-all}
 use Rattle.tables.specs.Widths.{halfWidth}
+use Rattle.steps.specs.Limits.{foldedLimit}
 use Rattle.steps.specs.Steps.{held, frame}
 use Rattle.steps.proofs.Undo.{length-held}
 use Rattle.run.specs.declared.record.Run.{Run}
@@ -40,7 +41,7 @@ unfolding sound inside
 passed run half e h l = record {
   good = record { half-is = h; wide = ltb-true _ _ (every-answer _ e 0) };
   below = leb-true _ _ (every-answer _ e 1);
-  within = within-all 50000 (run .held) (all-inside 50000 (run .held) (every-answer _ e 2));
+  within = within-all foldedLimit (run .held) (all-inside foldedLimit (run .held) (every-answer _ e 2));
   rest =
       zeros-are (drop (halfWidth (run .width)) (run .held)) (all-inside 0 _ (every-answer _ e 3))
       ∙ ap zeros (length-drop (halfWidth (run .width)) (run .held) ∙ ap (λ n. n - halfWidth (run .width)) l);

@@ -13,7 +13,7 @@ use Rattle.integers.specs.Vectors.{AllAbs}
 use Rattle.integers.proofs.Products.{all-append, all-getD, getD-all}
 use Rattle.tables.specs.Widths.{halfWidth}
 use Rattle.tables.proofs.ByWidth.{half-width-le}
-use Rattle.steps.specs.Limits.{readingLimit}
+use Rattle.steps.specs.Limits.{readingLimit, foldedLimit}
 use Rattle.steps.specs.Steps.{held}
 use Rattle.steps.proofs.Undo.{length-held}
 use Rattle.steps.proofs.Rotation.{held-gate}
@@ -63,10 +63,10 @@ unless : (a b : Bool) → (a ≡ true → b ≡ true) → (not a || b) ≡ true
 unless true b h = h refl
 unless false b h = refl
 
-pub sound-run : (top : ℕ) (run : Run) → 0 < halfWidth (run .width) → run .count ≤ top → AllAbs 50000 (run .held) → AllAbs 0 (drop (halfWidth (run .width)) (run .held))
+pub sound-run : (top : ℕ) (run : Run) → 0 < halfWidth (run .width) → run .count ≤ top → AllAbs foldedLimit (run .held) → AllAbs 0 (drop (halfWidth (run .width)) (run .held))
     → ((eqb (run .count) 0 || run .finished) ≡ true → AllAbs 0 (run .held)) → sound top run ≡ true
 unfolding sound every
-sound-run top run w c h d z = rw (lt-ltb _ _ w, le-leb _ _ c, inside-all 50000 (run .held) h, inside-all 0 (drop (halfWidth (run .width)) (run .held)) d, unless _ _ (λ e. inside-all _ _ (z e)))
+sound-run top run w c h d z = rw (lt-ltb _ _ w, le-leb _ _ c, inside-all foldedLimit (run .held) h, inside-all 0 (drop (halfWidth (run .width)) (run .held)) d, unless _ _ (λ e. inside-all _ _ (z e)))
 
 -- ---- what a run comes to: `previous` is the last of b blocks, or zeros before the first
 pub record Reached (N b : ℕ) (previous : List ℤ) : Type 0 where
@@ -86,7 +86,7 @@ module _ (N b : ℕ) (previous : List ℤ) (r : Reached N b previous) where
   unfolding opened
   opened-sound =
       sound-run blockLimit (opened N b (held N previous)) (r .wide) (r .counted)
-      (all-filled 50000 (held N previous) (held-gate N previous (r .readings .within)))
+      (all-filled foldedLimit (held N previous) (held-gate N previous (r .readings .within)))
       (rw drop-filled (all-zeros 0 (64 - halfWidth N)))
       (λ e. rw (r .fresh (eqb-true b 0 (sym (or-false (eqb b 0)) ∙ e)), filled-held-zeros) (all-zeros 0 64))
 
@@ -94,4 +94,4 @@ module _ (N b : ℕ) (previous : List ℤ) (r : Reached N b previous) where
   unfolding opened closed
   closed-sound =
       sound-run blockLimit (closed (opened N b (held N previous))) (r .wide) (r .counted)
-      (all-zeros 50000 64) (all-drop 0 (halfWidth N) (zeros 64) (all-zeros 0 64)) (λ e. all-zeros 0 64)
+      (all-zeros foldedLimit 64) (all-drop 0 (halfWidth N) (zeros 64) (all-zeros 0 64)) (λ e. all-zeros 0 64)

@@ -1,5 +1,5 @@
 -- The folded values of a block behind what was held, and the frame that they make.
-use mathlib.Core.Path.{_≡_, refl, sym, ap, ap₂, subst, _∙_}
+use mathlib.Core.Path.{_≡_, refl, ap₂, _∙_}
 use mathlib.Core.List.{List, _++_}
 use Prim.Native.Nat.{ℕ, _+_, _^_, _<_}
 use lib.IntN.{ℤ}
@@ -9,6 +9,7 @@ use Rattle.integers.specs.Vectors.{AllAbs}
 use Rattle.integers.proofs.PlaceLaws.{within-all}
 use Rattle.integers.proofs.Products.{all-getD, all-append}
 use Rattle.tables.specs.Widths.{halfWidth}
+use Rattle.steps.specs.Limits.{readingLimit, foldedLimit}
 use Rattle.steps.specs.Steps.{lower, stages, frame}
 use Rattle.steps.proofs.Undo.{width-half, length-lower, length-stages}
 use Rattle.steps.proofs.Rotation.{lower-gate}
@@ -25,9 +26,9 @@ module _ (N : ℕ) (previous block : List ℤ) (wide : 0 < halfWidth N) (long : 
   unfolding frame
   frame-long = length-stages N (lower N block ++ previous) ∙ width-half N wide
 
-  module _ (p : Within 50000 previous) (b : Within 32767 block) where
-    pub folded-within : Within 50000 (lower N block ++ previous)
-    folded-within = within-all 50000 _ (all-append 50000 (lower N block) previous (lower-gate N block (all-within 32767 block b)) (all-within 50000 previous p))
+  module _ (p : Within foldedLimit previous) (b : Within readingLimit block) where
+    pub folded-within : Within foldedLimit (lower N block ++ previous)
+    folded-within = within-all foldedLimit _ (all-append foldedLimit (lower N block) previous (lower-gate N block (all-within readingLimit block b)) (all-within foldedLimit previous p))
 
     pub frame-within : Within (2 ^ 30) (frame N previous block)
     unfolding frame

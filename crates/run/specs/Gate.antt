@@ -1,14 +1,12 @@
 -- The gate's questions to a run forward: document 01, "The gate, question by question".
-use mathlib.Core.Path.{_≡_}
 use mathlib.Core.Bool.{Bool, true, false, cond, not, _&&_, _||_}
 use mathlib.Core.List.{List, [], _∷_}
-use Prim.Native.Nat.{ℕ, _<_}
+use Prim.Native.Nat.{ℕ}
 use lib.Dec.{eqb, ltb, leb}
 use lib.IntN.{ℤ, pos, negsuc}
-use lib.ListN.{drop, length}
-use Rattle.integers.specs.Places.{Within}
+use lib.ListN.{drop}
 use Rattle.tables.specs.Widths.{halfWidth}
-use Rattle.stages.specs.Expanded.{Width}
+use Rattle.steps.specs.Limits.{readingLimit, foldedLimit}
 use Rattle.lifting.specs.Gate.{first, firstBeyond}
 use Rattle.lifting.specs.declared.gate.Found.{Found}
 use Rattle.lifting.specs.declared.gate.Found.the-variants.{At, Nothing}
@@ -46,7 +44,7 @@ sound top run =
     every
     (ltb 0 (halfWidth (run .width))
     ∷ leb (run .count) top
-    ∷ inside (pos 50000) (run .held)
+    ∷ inside (pos foldedLimit) (run .held)
     ∷ inside (pos 0) (drop (halfWidth (run .width)) (run .held))
     ∷ (not (eqb (run .count) 0 || run .finished) || inside (pos 0) (run .held))
     ∷ [])
@@ -61,4 +59,4 @@ firstDead = first dead
 
 -- 9
 abbrev pub firstOut : List ℤ → ℕ → Found
-firstOut = firstBeyond (pos 32767)
+firstOut = firstBeyond (pos readingLimit)

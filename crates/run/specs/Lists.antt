@@ -7,7 +7,6 @@ use lib.IntN.{ℤ}
 use lib.ListN.{length, getD}
 use Rattle.integers.specs.Places.{tab, at}
 use Rattle.distance.specs.Statement.{IsWidth, Near, promised, shown}
-use Rattle.run.specs.declared.record.Run.{Run}
 use Rattle.run.specs.Forward.{started}
 use Rattle.run.specs.Calls.{Call, outputOf, Made, made, works, workings, framesGiven, acceptedAll, working, blocksOf, blockAt, blockBefore, frameAt}
 

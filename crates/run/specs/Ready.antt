@@ -6,6 +6,7 @@ use lib.IntN.{ℤ}
 use lib.ListN.{length, drop}
 use Rattle.integers.specs.Places.{Within}
 use Rattle.tables.specs.Widths.{halfWidth}
+use Rattle.steps.specs.Limits.{foldedLimit}
 use Rattle.stages.specs.Expanded.{Width}
 use Rattle.run.specs.declared.record.Run.{Run}
 use Rattle.run.specs.Record.{blockLimit, zeros}
@@ -13,7 +14,7 @@ use Rattle.run.specs.Record.{blockLimit, zeros}
 pub record Ready (run : Run) (half : ℕ) : Type 0 where
   pub good : Width (run .width) half
   pub below : run .count ≤ blockLimit
-  pub within : Within 50000 (run .held)
+  pub within : Within foldedLimit (run .held)
   pub rest : drop (halfWidth (run .width)) (run .held) ≡ zeros (64 - halfWidth (run .width))
 
 pub record Blocks (N : ℕ) (readings : List ℤ) : Type 0 where

@@ -2,10 +2,11 @@
 ghost use mathlib.Core.Path.{_≡_};
 ghost use lib.ListN.{length};
 ghost use Rattle.integers.specs.Places.{Within};
+ghost use Rattle.steps.specs.Limits.{readingLimit};
 ghost use Rattle.lifting.specs.Gate.{told};
 ghost use Rattle.run.specs.Record.{zeros, advanced, closed};
 ghost use Rattle.run.specs.Ready.{Ready};
-ghost use Rattle.run.specs.Forward.{started, frameOn, taken, ended};
+ghost use Rattle.run.specs.Forward.{started, frameOn, takenIn, taken, ended};
 use crate::gate;
 use crate::gate::Fault;
 use crate::record;
@@ -48,7 +49,7 @@ pub fn start(width: usize) -> Outcome
 fn advance(run: Run, half: usize, block: &[i32], frame: &mut [i32]) -> Run
     requires { ⌜ Ready run half ⌝ }
     requires { ⌜ (length (now block) ≡ run .width) × (length (now frame) ≡ run .width) ⌝ }
-    requires { ⌜ Within 32767 (now block) ⌝ }
+    requires { ⌜ Within readingLimit (now block) ⌝ }
     ensures { λ r. ⌜ (r ≡ advanced run (now (block .entry))) × (now (frame .exit) ≡ frameOn run (now (block .entry))) ⌝ }
 {
     let width = run.width;
@@ -69,6 +70,29 @@ fn advance(run: Run, half: usize, block: &[i32], frame: &mut [i32]) -> Run
         count: run.count + 1,
         held: held,
         finished: false,
+    }
+}
+
+// Questions 8 and 9, then the block's frame.
+fn take_in(run: Run, half: usize, block: &[i32], frame: &mut [i32]) -> Outcome
+    requires { ⌜ Ready run half ⌝ }
+    requires { ⌜ (length (now block) ≡ run .width) × (length (now frame) ≡ run .width) ⌝ }
+    ensures { λ r. ⌜ (told (r .answer), r .run, now (frame .exit)) ≡ takenIn run (now (block .entry)) (now (frame .entry)) ⌝ }
+{
+    let fault = gate::fault_of(block);
+    match fault {
+        Fault::Dead(place) => Outcome {
+            run: run,
+            answer: Answer::DeadMark(place),
+        },
+        Fault::Beyond(place) => Outcome {
+            run: run,
+            answer: Answer::Range(place),
+        },
+        Fault::Clear => Outcome {
+            run: advance(run, half, block, frame),
+            answer: Answer::Done,
+        },
     }
 }
 
@@ -132,21 +156,7 @@ pub fn take(run: Run, block: &[i32], frame: &mut [i32]) -> Outcome
             answer: Answer::OutputLength,
         };
     }
-    let fault = gate::fault_of(block);
-    match fault {
-        Fault::Dead(place) => Outcome {
-            run: run,
-            answer: Answer::DeadMark(place),
-        },
-        Fault::Beyond(place) => Outcome {
-            run: run,
-            answer: Answer::Range(place),
-        },
-        Fault::Clear => Outcome {
-            run: advance(run, widths::half_width(width), block, frame),
-            answer: Answer::Done,
-        },
-    }
+    take_in(run, widths::half_width(width), block, frame)
 }
 
 // Finish: the frame of the last block's held half.

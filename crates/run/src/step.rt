@@ -3,6 +3,7 @@ ghost use mathlib.Core.Path.{_≡_};
 ghost use lib.ListN.{length};
 ghost use Rattle.integers.specs.Places.{Within};
 ghost use Rattle.tables.specs.Widths.{halfWidth};
+ghost use Rattle.steps.specs.Limits.{readingLimit, foldedLimit};
 ghost use Rattle.stages.specs.Expanded.{Width};
 ghost use Rattle.steps.specs.Steps.{held, frame};
 use lifting::folding;
@@ -22,8 +23,8 @@ fn stepped(
 )
     requires { ⌜ Width width half ⌝ }
     requires { ⌜ (length (now previous) ≡ halfWidth width) × (length (now block) ≡ width) × (length (now lower) ≡ halfWidth width) × (length (now folded) ≡ width) × (length (now held) ≡ halfWidth width) × (length (now frame) ≡ width) ⌝ }
-    requires { ⌜ Within 50000 (now previous) ⌝ }
-    requires { ⌜ Within 32767 (now block) ⌝ }
+    requires { ⌜ Within foldedLimit (now previous) ⌝ }
+    requires { ⌜ Within readingLimit (now block) ⌝ }
     ensures { λ _. ⌜ (now (held .exit) ≡ Rattle.steps.specs.Steps.held width (now (block .entry))) × (now (frame .exit) ≡ Rattle.steps.specs.Steps.frame width (now (previous .entry)) (now (block .entry))) ⌝ }
 {
     folding::fold(width, half, block, lower, held);
@@ -42,8 +43,8 @@ pub fn step(
 )
     requires { ⌜ Width width half ⌝ }
     requires { ⌜ (length (now previous) ≡ halfWidth width) × (length (now block) ≡ width) × (length (now held) ≡ halfWidth width) × (length (now frame) ≡ width) ⌝ }
-    requires { ⌜ Within 50000 (now previous) ⌝ }
-    requires { ⌜ Within 32767 (now block) ⌝ }
+    requires { ⌜ Within foldedLimit (now previous) ⌝ }
+    requires { ⌜ Within readingLimit (now block) ⌝ }
     ensures { λ _. ⌜ (now (held .exit) ≡ Rattle.steps.specs.Steps.held width (now (block .entry))) × (now (frame .exit) ≡ Rattle.steps.specs.Steps.frame width (now (previous .entry)) (now (block .entry))) ⌝ }
 {
     let mut lower = room::of_64();

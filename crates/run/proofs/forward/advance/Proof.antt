@@ -8,6 +8,7 @@ use lib.IntN.{ℤ}
 use lib.ListN.{length, take, drop}
 use Rattle.integers.specs.Places.{Within}
 use Rattle.tables.proofs.ByWidth.{half-width-le}
+use Rattle.steps.specs.Limits.{readingLimit, foldedLimit}
 use Rattle.steps.specs.Steps.{held, frame}
 use Rattle.steps.proofs.Undo.{width-half}
 use Rattle.lifting.proofs.Parts.{part-long, front, front-le}
@@ -91,7 +92,7 @@ step-requires c κs =
       ready .good,
       (
         (part, ap length (wide-front w) ∙ s .pre .1 .0 .0, part, s .pre .1 .0 .1),
-        (take-within (N s) 50000 (before s) (ready .within) (s .args .half), subst (Within 32767) (sym (wide-front w)) (s .pre .1 .1)),
+        (take-within (N s) foldedLimit (before s) (ready .within) (s .args .half), subst (Within readingLimit) (sym (wide-front w)) (s .pre .1 .1)),
       ),
     )
 

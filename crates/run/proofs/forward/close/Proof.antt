@@ -10,6 +10,7 @@ use lib.ListN.{length, take, length-replicate}
 use Rattle.integers.specs.Places.{Within}
 use Rattle.integers.proofs.PlaceLaws.{within-all}
 use Rattle.tables.proofs.ByWidth.{half-width-le}
+use Rattle.steps.specs.Limits.{readingLimit, foldedLimit}
 use Rattle.steps.specs.Steps.{frame}
 use Rattle.steps.proofs.Undo.{width-half}
 use Rattle.lifting.proofs.Parts.{part-long}
@@ -77,7 +78,7 @@ step-requires c κs =
           sym (part-long _ (c .before .before .before .before .of-64 .result) (omega (arith, c .before .before .before .before .of-64 .ensures, half-le s))) ∙ ready .good .half-is,
           s .pre .1,
         ),
-        (take-within (N s) 50000 (before s) (ready .within) (s .args .half), subst (Within 32767) (sym (zero-part z)) (within-all 32767 _ (zero-block (N s) 32767 .within))),
+        (take-within (N s) foldedLimit (before s) (ready .within) (s .args .half), subst (Within readingLimit) (sym (zero-part z)) (within-all readingLimit _ (zero-block (N s) readingLimit .within))),
       ),
     )
 

@@ -3,12 +3,13 @@ use borrow.Author.Needs.{needs}
 use borrow.Author.Tests.{not-true, not-false}
 use native.Mathlib.Omega.{arith}
 use mathlib.Core.Path.{_≡_, sym, ap, _∙_}
-use mathlib.Core.Bool.{true, false}
-use Prim.Native.Nat.{ℕ, _≤_}
+use mathlib.Core.Bool.{true}
+use Prim.Native.Nat.{_≤_}
 use lib.IntN.{pos}
 use lib.ListN.{length, drop}
 use Rattle.tables.specs.Widths.{halfWidth}
 use Rattle.tables.proofs.ByWidth.{half-width-le}
+use Rattle.steps.specs.Limits.{foldedLimit}
 use Rattle.run.specs.Gate.{inside}
 use Rattle.run.proofs.GateLaws.{rest-part, no-width, no-count, held-beyond, rest-held, none-taken, run-over, run-open}
 use Rattle.run.proofs.gate.sound.Statement.{statement}
@@ -31,7 +32,7 @@ module _ (e : tie.Else3) where
   abbrev from : tie.Start
   from = first .before .before
 
-  held-inside : inside (pos 50000) (from .args .run .held) ≡ true
+  held-inside : inside (pos foldedLimit) (from .args .run .held) ≡ true
   held-inside = sym (e .before .inside .ensures) ∙ not-false _ (e .if3 .left)
 
 module _ (i : tie.After-inside2) where

@@ -8,6 +8,7 @@ use lib.IntN.{ℤ}
 use lib.ListN.{length}
 use Rattle.integers.specs.Places.{Within}
 use Rattle.integers.proofs.PlaceLaws.{within-up}
+use Rattle.steps.specs.Limits.{foldedLimit}
 use Rattle.steps.specs.Steps.{lower, stages, frame}
 use Rattle.steps.proofs.Undo.{width-half, length-lower}
 use Rattle.run.proofs.StepLaws.{folded-long, folded-within, frame-long, frame-within, frame-is}
@@ -63,7 +64,7 @@ stages-requires c κs =
       s .pre .0,
       (
         ap length (all j) ∙ folded-long (N s) (previous s) (block s) (s .pre .0 .wide) (s .pre .1 .0 .0),
-        subst (Within 50000) (sym (all j)) (folded-within (N s) (previous s) (block s) (s .pre .0 .wide) (s .pre .1 .0 .0) (s .pre .1 .1 .0) (s .pre .1 .1 .1)),
+        subst (Within foldedLimit) (sym (all j)) (folded-within (N s) (previous s) (block s) (s .pre .0 .wide) (s .pre .1 .0 .0) (s .pre .1 .1 .0) (s .pre .1 .1 .1)),
       ),
     )
 

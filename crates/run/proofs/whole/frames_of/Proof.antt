@@ -1,5 +1,4 @@
 -- `run::whole::frames_of` meets its contract: what is written, and what the calls left give, is what all calls give.
-use borrow.Author.Needs.{needs}
 use native.Mathlib.Omega.{arith}
 use mathlib.Core.Path.{_≡_, refl, sym, ap, ap₂, _∙_}
 use mathlib.Core.List.{List, _++_}
@@ -12,7 +11,7 @@ use Rattle.run.specs.Forward.{started, taken, ended}
 use Rattle.run.specs.Calls.{made}
 use Rattle.run.specs.Whole.{callsOf, outputs}
 use Rattle.run.proofs.GateLaws.{rest-part}
-use Rattle.run.proofs.FaultLaws.{width-le, width-pos, few-readings, block-next, block-in, block-long, part-is}
+use Rattle.run.proofs.FaultLaws.{width-pos, few-readings, block-next, block-in, block-long, part-is}
 use Rattle.run.proofs.PartLaws.{frames-next, frames-end}
 use Rattle.run.proofs.whole.frames_of.Statement.{statement}
 use Rattle.run.proofs.whole.frames_of.Tie as tie
