@@ -46,12 +46,18 @@ fn too_many() -> [i32; 524296]
     [0; 524296]
 }
 
+fn first_of(name: &[u8], readings: &[i32], n: usize) {
+    let mut frames = [0; 8];
+    if n <= readings.len() {
+        one(name, 8, &readings[0..n], &mut frames);
+    }
+}
+
 // That 65,536 blocks are not too many shows in the next question.
 fn counts() {
     let readings = too_many();
-    let mut frames = [0; 8];
-    one(b"whole run of 65537 blocks", 8, &readings, &mut frames);
-    one(b"whole run of 65536 blocks, output of 8", 8, &readings[0..524288], &mut frames);
+    first_of(b"whole run of 65537 blocks", &readings, 524296);
+    first_of(b"whole run of 65536 blocks, output of 8", &readings, 524288);
 }
 
 pub fn show() {
