@@ -27,14 +27,20 @@ fn ranges() {
 fn dead_marks() {
     one(b"dead mark", &[0, 0, 0, 0, 0, 0, 0, -32768]);
     one(b"first dead mark", &[0, -32768, 0, -32768, 0, 0, 0, 0]);
-    one(b"dead mark after out of range", &[40000, 0, 0, -32768, 0, 0, 0, 0]);
+    one(
+        b"dead mark after out of range",
+        &[40000, 0, 0, -32768, 0, 0, 0, 0],
+    );
 }
 
 fn input_lengths() {
     one(b"no reading", &[]);
     one(b"seven readings", &[1, 2, 3, 4, 5, 6, 7]);
     one(b"nine readings", &[1, 2, 3, 4, 5, 6, 7, 8, 9]);
-    one(b"nine readings with a dead mark", &[-32768, 2, 3, 4, 5, 6, 7, 8, 9]);
+    one(
+        b"nine readings with a dead mark",
+        &[-32768, 2, 3, 4, 5, 6, 7, 8, 9],
+    );
 }
 
 fn into_nine(name: &[u8], block: &[i32]) {
@@ -44,7 +50,12 @@ fn into_nine(name: &[u8], block: &[i32]) {
 
 fn output_lengths() {
     let mut seven = [0; 7];
-    call::take(b"output of seven", fresh(), &[1, 2, 3, 4, 5, 6, 7, 8], &mut seven);
+    call::take(
+        b"output of seven",
+        fresh(),
+        &[1, 2, 3, 4, 5, 6, 7, 8],
+        &mut seven,
+    );
     call::finish(b"finish with output of seven", fresh(), &mut seven);
     into_nine(b"output of nine", &[1, 2, 3, 4, 5, 6, 7, 8]);
     into_nine(b"output of nine, seven readings", &[1, 2, 3, 4, 5, 6, 7]);
@@ -53,8 +64,18 @@ fn output_lengths() {
 
 fn refused_blocks(run: Run) -> Run {
     let mut frame = [0; 8];
-    let dead = call::take(b"then a dead mark", run, &[0, 0, -32768, 0, 0, 0, 0, 0], &mut frame);
-    call::take(b"then 32768", dead, &[32768, 0, 0, 0, 0, 0, 0, 0], &mut frame)
+    let dead = call::take(
+        b"then a dead mark",
+        run,
+        &[0, 0, -32768, 0, 0, 0, 0, 0],
+        &mut frame,
+    );
+    call::take(
+        b"then 32768",
+        dead,
+        &[32768, 0, 0, 0, 0, 0, 0, 0],
+        &mut frame,
+    )
 }
 
 fn frames_among_refusals(one: &mut [i32], two: &mut [i32], last: &mut [i32]) {
@@ -81,7 +102,11 @@ fn among_refusals() {
     let mut last = [0; 8];
     let mut all = [0; 24];
     frames_among_refusals(&mut one, &mut two, &mut last);
-    let answer = whole::forward(8, &[100, 0, 0, 0, 0, 0, 0, 0, 1, 2, 3, 4, 5, 6, 7, 8], &mut all);
+    let answer = whole::forward(
+        8,
+        &[100, 0, 0, 0, 0, 0, 0, 0, 1, 2, 3, 4, 5, 6, 7, 8],
+        &mut all,
+    );
     line::answer(b"the two blocks as a whole run", answer);
     same_frame(&one, &all[0..8]);
     same_frame(&two, &all[8..16]);

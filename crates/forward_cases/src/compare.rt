@@ -68,5 +68,9 @@ pub fn same_record(x: Run, y: Run) -> bool {
 }
 
 pub fn works(answer: Answer) -> bool {
-    if let Answer::Done = answer { true } else { false }
+    if let Answer::Done = answer {
+        true
+    } else {
+        false
+    }
 }

@@ -26,7 +26,12 @@ pub fn show() {
     call::record(full);
     line::numbers(&frame);
     let still = call::take(b"block 65537", full, &block, &mut frame);
-    call::take(b"block 65537 of seven readings", full, &[1, 2, 3, 4, 5, 6, 7], &mut frame);
+    call::take(
+        b"block 65537 of seven readings",
+        full,
+        &[1, 2, 3, 4, 5, 6, 7],
+        &mut frame,
+    );
     let over = call::finish(b"finish", still, &mut frame);
     line::numbers(&frame);
     call::record(over);
