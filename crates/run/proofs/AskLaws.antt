@@ -19,8 +19,8 @@ use Rattle.run.specs.declared.record.Run.{Run}
 use Rattle.run.specs.declared.gate.Fault.{Fault}
 use Rattle.run.specs.declared.gate.Fault.the-variants.{Dead, Beyond, Clear}
 use Rattle.run.specs.Record.{blockLimit, zeros, filled, opened, advanced, closed}
-use Rattle.run.specs.Gate.{Given, ask, askEach, sound, firstDead, firstOut}
-use Rattle.run.specs.Forward.{started, frameOn, takenIn, taken, ended}
+use Rattle.run.specs.Gate.{Given, ask, askEach, admitted, sound, firstDead, firstOut}
+use Rattle.run.specs.Forward.{started, frameOn, takenIn, ended}
 use Rattle.run.specs.Faults.{faultBy, faultOf}
 use Rattle.run.proofs.CallLaws.{every-answer}
 
@@ -99,39 +99,39 @@ module _ (run : Run) (block out : List ℤ) where
   unfolding told byFault
   taken-done e = by-fault Clear e
 
--- ---- questions 2 to 7 to a block
-module _ (run : Run) (block out : List ℤ) where
-  pub record-refused : sound blockLimit run ≡ false → (told Record, run, out) ≡ taken run block out
-  unfolding told taken ask
+-- ---- questions 2, 3, 4, 6 and 7
+module _ (top : ℕ) (run : Run) (given out : List ℤ) (next : Given) where
+  pub record-refused : sound top run ≡ false → (told Record, run, out) ≡ admitted top run given out next
+  unfolding told admitted ask
   record-refused e = rw e
 
-  module _ (s : sound blockLimit run ≡ true) where
-    pub closed-refused : run .finished ≡ true → (told Closed, run, out) ≡ taken run block out
-    unfolding told taken ask
+  module _ (s : sound top run ≡ true) where
+    pub closed-refused : run .finished ≡ true → (told Closed, run, out) ≡ admitted top run given out next
+    unfolding told admitted ask
     closed-refused e = rw (s, e)
 
     module _ (o : run .finished ≡ false) where
-      pub full-refused : run .count ≡ blockLimit → (told Full, run, out) ≡ taken run block out
-      unfolding told taken ask
-      full-refused e = rw (s, o, le-ltb (run .count) blockLimit (omega (arith, e)))
+      pub full-refused : run .count ≡ top → (told Full, run, out) ≡ admitted top run given out next
+      unfolding told admitted ask
+      full-refused e = rw (s, o, le-ltb (run .count) top (omega (arith, e)))
 
-      module _ (n : run .count ≡ blockLimit → ⊥) where
-        counted : run .count ≤ blockLimit
+      module _ (n : run .count ≡ top → ⊥) where
+        counted : run .count ≤ top
         unfolding sound
         counted = leb-true _ _ (every-answer _ s 1)
 
-        pub input-refused : (length block ≡ run .width → ⊥) → (told InputLength, run, out) ≡ taken run block out
-        unfolding told taken ask
-        input-refused e = rw (s, o, lt-ltb (run .count) blockLimit (omega (arith, n, counted)), ne-eqb _ _ e)
+        pub input-refused : (length given ≡ run .width → ⊥) → (told InputLength, run, out) ≡ admitted top run given out next
+        unfolding told admitted ask
+        input-refused e = rw (s, o, lt-ltb (run .count) top (omega (arith, n, counted)), ne-eqb _ _ e)
 
-        module _ (l : length block ≡ run .width) where
-          pub output-refused : (length out ≡ run .width → ⊥) → (told OutputLength, run, out) ≡ taken run block out
-          unfolding told taken ask
-          output-refused e = rw (s, o, lt-ltb (run .count) blockLimit (omega (arith, n, counted)), eq-eqb _ _ l, ne-eqb _ _ e)
+        module _ (l : length given ≡ run .width) where
+          pub output-refused : (length out ≡ run .width → ⊥) → (told OutputLength, run, out) ≡ admitted top run given out next
+          unfolding told admitted ask
+          output-refused e = rw (s, o, lt-ltb (run .count) top (omega (arith, n, counted)), eq-eqb _ _ l, ne-eqb _ _ e)
 
-          pub lengths-passed : length out ≡ run .width → takenIn run block out ≡ taken run block out
-          unfolding taken ask
-          lengths-passed m = rw (s, o, lt-ltb (run .count) blockLimit (omega (arith, n, counted)), eq-eqb _ _ l, eq-eqb _ _ m)
+          pub lengths-passed : length out ≡ run .width → next ≡ admitted top run given out next
+          unfolding admitted ask
+          lengths-passed m = rw (s, o, lt-ltb (run .count) top (omega (arith, n, counted)), eq-eqb _ _ l, eq-eqb _ _ m)
 
 -- ---- questions 2, 3 and 7 to a finish
 module _ (run : Run) (out : List ℤ) where

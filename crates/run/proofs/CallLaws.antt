@@ -7,14 +7,16 @@ use borrow.Author.Tests.{lt-ltb, ltb-true, eq-eqb, eqb-true}
 use lib.Dec.{eqb, ltb, eqb·suc-zero}
 use lib.IntN.{ℤ}
 use lib.ListN.{length, getD}
+use Rattle.tables.specs.Widths.{halfWidth}
 use Rattle.steps.specs.Limits.{readingLimit}
 use Rattle.steps.specs.Steps.{held, frame}
+use Rattle.steps.proofs.Undo.{length-held}
 use Rattle.lifting.specs.declared.gate.Found.{Found}
 use Rattle.lifting.specs.declared.gate.Found.the-variants.{At, Nothing}
 use Rattle.distance.specs.Statement.{Block}
 use Rattle.run.specs.declared.record.Run.{Run}
 use Rattle.run.specs.Record.{blockLimit, zeros, opened, advanced, closed}
-use Rattle.run.specs.Gate.{Given, ask, askEach, nothing, every, firstDead, firstOut}
+use Rattle.run.specs.Gate.{Given, ask, askEach, nothing, every, firstDead, firstOut, admitted}
 use Rattle.run.specs.Forward.{frameOn, takenIn, taken, ended}
 use Rattle.run.specs.Calls.{Call, block, finish, outputOf, give, accepted}
 use Rattle.run.proofs.Searches.{all-inside}
@@ -36,19 +38,19 @@ refused : (n place : ℕ) (run : Run) (out : List ℤ) → Refused run out ((suc
 refused n place run out = record { numbered = eqb·suc-zero n; same-record = refl; same-output = refl }
 
 module _ {run : Run} {out : List ℤ} {good : Given} where
-  granted : (next : Given) → next ≡ good → Decided true run out good next
+  pub granted : (next : Given) → next ≡ good → Decided true run out good next
   granted next e = record { when-yes = λ _. e; when-no = λ f. absurd (true≢false f) }
 
   denied : (n place : ℕ) → Decided false run out good ((suc n, place), run, out)
   denied n place = record { when-yes = λ e. absurd (false≢true e); when-no = λ _. refused n place run out }
 
   module _ {rest : Bool} {next : Given} (n : ℕ) where
-    asked : (answer : Bool) → Decided rest run out good next → Decided (answer && rest) run out good (ask (suc n) answer run out next)
+    pub asked : (answer : Bool) → Decided rest run out good next → Decided (answer && rest) run out good (ask (suc n) answer run out next)
     unfolding ask
     asked true d = d
     asked false d = denied n 0
 
-    asked-each : (found : Found) → Decided rest run out good next → Decided (nothing found && rest) run out good (askEach (suc n) found run out next)
+    pub asked-each : (found : Found) → Decided rest run out good next → Decided (nothing found && rest) run out good (askEach (suc n) found run out next)
     unfolding askEach nothing
     asked-each (At place) d = denied n place
     asked-each Nothing d = d
@@ -76,11 +78,11 @@ module _ (N b : ℕ) (previous : List ℤ) (r : Reached N b previous) where
 
   frame-on : (xs : List ℤ) → frameOn run xs ≡ frame N (held N previous) xs
   unfolding frameOn opened
-  frame-on xs = ap (λ h. frame N h xs) (take-filled N previous)
+  frame-on xs = ap (λ h. frame N h xs) (take-filled (halfWidth N) (held N previous) (length-held N previous))
 
   pub taken-decided : (xs out : List ℤ)
       → Decided (accepted N b false (block xs out)) run out ((0, 0), opened N (suc b) (held N xs), frame N (held N previous) xs) (taken run xs out)
-  unfolding accepted every taken takenIn ask opened advanced
+  unfolding accepted every taken admitted takenIn ask opened advanced
   taken-decided xs out =
       rw (opened-sound N b previous r)
       (asked 3 (ltb b blockLimit)
@@ -94,10 +96,10 @@ module _ (N b : ℕ) (previous : List ℤ) (r : Reached N b previous) where
   ended-decided out = rw (opened-sound N b previous r) (asked 6 (eqb (length out) N) (granted _ (ap (λ f. ((0, 0), closed run, f)) (frame-on (zeros N)))))
 
   pub closed-refused : (c : Call) → Refused (closed run) (outputOf c) (give (closed run) c)
-  unfolding give outputOf taken ended ask opened closed
+  unfolding give outputOf taken admitted ended ask opened closed
   closed-refused (block xs out) = rw (closed-sound N b previous r) (refused 2 0 (closed run) out)
   closed-refused (finish out) = rw (closed-sound N b previous r) (refused 2 0 (closed run) out)
 
   pub taken-in : (xs out : List ℤ) → length xs ≡ N → length out ≡ N → b < blockLimit → taken run xs out ≡ takenIn run xs out
-  unfolding taken ask opened
+  unfolding taken admitted ask opened
   taken-in xs out l m h = rw (opened-sound N b previous r, lt-ltb b blockLimit h, eq-eqb (length xs) N l, eq-eqb (length out) N m)

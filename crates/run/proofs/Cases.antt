@@ -8,10 +8,10 @@ use Rattle.tables.specs.Numbers.{sines, halfTangents, halfTangents8, secants, s
 use Rattle.steps.specs.Steps.{rootLog, tangent, sine, cosine, oddOf, secant, alternate, tangentAmount, sineAmount, rotatedA, rotatedB, lower, held, topOf, bottomOf, amount1, amount2, amount3, stage1, stage2, stage3, stage4, stage5, stages, frame}
 use Rattle.lifting.specs.Gate.{first, beyond}
 use Rattle.run.specs.Record.{filled, opened, advanced, closed}
-use Rattle.run.specs.Gate.{ask, askEach, nothing, inside, every, sound, dead}
+use Rattle.run.specs.Gate.{ask, askEach, nothing, inside, every, sound, dead, admitted}
 use Rattle.run.specs.Forward.{started, frameOn, takenIn, taken, ended}
 use Rattle.run.specs.Cases.{cases, AsThePaperSays}
 
 pub ten-cases : AsThePaperSays
-unfolding cases round floorDiv tab sum byWidth halfWidth halfTurn reflected minus signed sines halfTangents halfTangents8 secants secants8 cosineOf sineOf halfTangentOf secantOf rootLog tangent sine cosine oddOf secant alternate tangentAmount sineAmount rotatedA rotatedB lower held topOf bottomOf amount1 amount2 amount3 stage1 stage2 stage3 stage4 stage5 stages frame first beyond filled opened advanced closed ask askEach nothing inside every sound dead started frameOn takenIn taken ended
+unfolding cases round floorDiv tab sum byWidth halfWidth halfTurn reflected minus signed sines halfTangents halfTangents8 secants secants8 cosineOf sineOf halfTangentOf secantOf rootLog tangent sine cosine oddOf secant alternate tangentAmount sineAmount rotatedA rotatedB lower held topOf bottomOf amount1 amount2 amount3 stage1 stage2 stage3 stage4 stage5 stages frame first beyond filled opened advanced closed ask askEach nothing inside every sound dead started frameOn takenIn taken admitted ended
 ten-cases = refl

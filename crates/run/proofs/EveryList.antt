@@ -116,19 +116,19 @@ opened-told N (block xs out ∷ calls) = block-told N calls (opened-told N calls
 opened-told N (finish out ∷ calls) = finish-told N calls (opened-told N calls) out
 
 -- ---- the blocks taken are blocks of readings in range, and a frame of such blocks is near the exact one
-abbrev AllBlocks : ℕ → List (List ℤ) → Type 0
+abbrev pub AllBlocks : ℕ → List (List ℤ) → Type 0
 AllBlocks N blocks = (i : ℕ) → Block N readingLimit (blockAt N blocks i)
 
-blocks-none : (N : ℕ) → AllBlocks N []
+pub blocks-none : (N : ℕ) → AllBlocks N []
 unfolding blockAt
 blocks-none N i = zero-block N readingLimit
 
-blocks-one : (N : ℕ) (x : List ℤ) (blocks : List (List ℤ)) → Block N readingLimit x → AllBlocks N blocks → AllBlocks N (x ∷ blocks)
+pub blocks-one : (N : ℕ) (x : List ℤ) (blocks : List (List ℤ)) → Block N readingLimit x → AllBlocks N blocks → AllBlocks N (x ∷ blocks)
 unfolding blockAt
 blocks-one N x blocks h hs zero = h
 blocks-one N x blocks h hs (suc i) = hs i
 
-blocks-kept : (N : ℕ) (calls : List Call) (b : ℕ) (over : Bool) → AllBlocks N (blocksOf (kept (acceptedAll N b over calls) calls))
+pub blocks-kept : (N : ℕ) (calls : List Call) (b : ℕ) (over : Bool) → AllBlocks N (blocksOf (kept (acceptedAll N b over calls) calls))
 unfolding acceptedAll kept blocksOf countAfter overAfter
 blocks-kept N [] b over = blocks-none N
 blocks-kept N (block xs out ∷ calls) b over = by (accepted N b over (block xs out)) refl (blocks-kept N calls _ over)

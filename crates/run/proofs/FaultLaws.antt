@@ -10,7 +10,7 @@ use lib.ListN.{length, take, drop, length-drop}
 use lib.Seq.{length-take-le, drop-drop}
 use Rattle.tables.specs.Widths.{halfWidth}
 use Rattle.tables.proofs.ByWidth.{half-width-le}
-use Rattle.lifting.specs.Gate.{first}
+use Rattle.lifting.specs.Gate.{first, beyond, firstBeyond}
 use Rattle.lifting.specs.declared.gate.Found.{Found}
 use Rattle.lifting.specs.declared.gate.Found.the-variants.{At, Nothing}
 use Rattle.steps.proofs.Undo.{width-half}
@@ -21,7 +21,7 @@ use Rattle.run.specs.Faults.{faultBy, faultOf, faultFrom, firstFault}
 use Rattle.run.specs.Ready.{Blocks}
 
 -- ---- a fault's place is in its block
-placeFound : Found → ℕ
+unfoldable pub placeFound : Found → ℕ
 placeFound (At place) = place
 placeFound Nothing = 0
 
@@ -30,7 +30,7 @@ placeOf (Dead place) = place
 placeOf (Beyond place) = place
 placeOf Clear = 0
 
-found-place : (test : ℤ → Bool) (xs : List ℤ) (k : ℕ) → placeFound (first test xs k) ≤ k + length xs
+pub found-place : (test : ℤ → Bool) (xs : List ℤ) (k : ℕ) → placeFound (first test xs k) ≤ k + length xs
 unfolding first placeFound
 found-place test [] k = omega arith
 found-place test (x ∷ xs) k = by (test x) (found-place test xs (suc k))
@@ -116,3 +116,8 @@ module _ (N before left b : ℕ) (readings : List ℤ) (h : 0 < left) (e : first
 pub none-left : (N before left : ℕ) (xs : List ℤ) → left ≡ 0 → Clear ≡ firstFault N before left xs
 unfolding firstFault
 none-left N before left xs e = rw e
+
+-- a number found beyond a limit stands in its list
+pub beyond-at : (limit : ℤ) (xs : List ℤ) (place : ℕ) → firstBeyond limit xs 0 ≡ At place → place ≤ length xs
+unfolding placeFound
+beyond-at limit xs place e = omega (arith, found-place (beyond limit) xs 0, ap placeFound e)

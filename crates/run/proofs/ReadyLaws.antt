@@ -14,7 +14,7 @@ use Rattle.steps.specs.Limits.{foldedLimit}
 use Rattle.steps.specs.Steps.{held, frame}
 use Rattle.steps.proofs.Undo.{length-held}
 use Rattle.run.specs.declared.record.Run.{Run}
-use Rattle.run.specs.Record.{blockLimit, zeros, filled, opened, advanced}
+use Rattle.run.specs.Record.{frameLimit, zeros, filled, opened, advanced}
 use Rattle.run.specs.Gate.{inside, sound}
 use Rattle.run.specs.Forward.{frameOn}
 use Rattle.run.specs.Ready.{Ready}
@@ -26,7 +26,7 @@ zero-size (pos zero) h = refl
 zero-size (pos (suc n)) h = absurd (omega arith)
 zero-size (negsuc n) h = absurd (omega arith)
 
-zeros-are : (xs : List ℤ) → AllAbs 0 xs → xs ≡ zeros (length xs)
+pub zeros-are : (xs : List ℤ) → AllAbs 0 xs → xs ≡ zeros (length xs)
 zeros-are [] h = refl
 zeros-are (x ∷ xs) h = ap₂ (λ (y : ℤ) (ys : List ℤ). y ∷ ys) (zero-size x (h .0)) (zeros-are xs (h .1))
 
@@ -36,30 +36,36 @@ zeros-part zero m h = refl
 zeros-part (suc n) zero h = absurd (omega arith)
 zeros-part (suc n) (suc m) h = ap (λ (l : List ℤ). pos 0 ∷ l) (zeros-part n m (omega arith))
 
-pub passed : (run : Run) (half : ℕ) → sound blockLimit run ≡ true → half ≡ halfWidth (run .width) → length (run .held) ≡ 64 → Ready run half
+pub passed : (top : ℕ) → top ≤ frameLimit → (run : Run) (half : ℕ) → sound top run ≡ true → half ≡ halfWidth (run .width) → length (run .held) ≡ 64 → Ready run half
 unfolding sound inside
-passed run half e h l = record {
+passed top m run half e h l = record {
   good = record { half-is = h; wide = ltb-true _ _ (every-answer _ e 0) };
-  below = leb-true _ _ (every-answer _ e 1);
+  below = let c = leb-true (run .count) top (every-answer _ e 1) in omega (arith, m, c);
   within = within-all foldedLimit (run .held) (all-inside foldedLimit (run .held) (every-answer _ e 2));
   rest =
       zeros-are (drop (halfWidth (run .width)) (run .held)) (all-inside 0 _ (every-answer _ e 3))
       ∙ ap zeros (length-drop (halfWidth (run .width)) (run .held) ∙ ap (λ n. n - halfWidth (run .width)) l);
 }
 
-module _ (run : Run) (half : ℕ) (ready : Ready run half) (block : List ℤ) where
+module _ (run : Run) (half : ℕ) (ready : Ready run half) where
   abbrev N : ℕ
   N = run .width
 
   -- the rest of the held values is zero, as it was
-  pub stored-is : held N block ++ drop half (run .held) ≡ filled (held N block)
+  stored-is : (low : List ℤ) → length low ≡ halfWidth N → low ++ drop half (run .held) ≡ filled low
   unfolding filled
-  stored-is = ap (λ xs. held N block ++ xs) (ap (λ n. drop n (run .held)) (ready .good .half-is) ∙ ready .rest ∙ ap (λ n. zeros (64 - n)) (sym (length-held N block)))
+  stored-is low l = ap (λ xs. low ++ xs) (ap (λ n. drop n (run .held)) (ready .good .half-is) ∙ ready .rest ∙ ap (λ n. zeros (64 - n)) (sym l))
 
-  pub advanced-is : (xs : List ℤ) → xs ≡ held N block ++ drop half (run .held) → record { width = N; count = run .count + 1; held = xs; finished = false } ≡ advanced run block
-  unfolding advanced opened
-  advanced-is xs e = ap₂ (λ (c : ℕ) (h : List ℤ). record { width = N; count = c; held = h; finished = false }) (omega arith) (e ∙ stored-is)
+  pub opened-is : (low xs : List ℤ) → length low ≡ halfWidth N → xs ≡ low ++ drop half (run .held)
+      → record { width = N; count = run .count + 1; held = xs; finished = false } ≡ opened N (suc (run .count)) low
+  unfolding opened
+  opened-is low xs l e = ap₂ (λ (c : ℕ) (h : List ℤ). record { width = N; count = c; held = h; finished = false }) (omega arith) (e ∙ stored-is low l)
 
-  pub frame-on : frame N (take half (run .held)) block ≡ frameOn run block
-  unfolding frameOn
-  frame-on = ap (λ n. frame N (take n (run .held)) block) (ready .good .half-is)
+  module _ (block : List ℤ) where
+    pub advanced-is : (xs : List ℤ) → xs ≡ held N block ++ drop half (run .held) → record { width = N; count = run .count + 1; held = xs; finished = false } ≡ advanced run block
+    unfolding advanced
+    advanced-is xs e = opened-is (held N block) xs (length-held N block) e
+
+    pub frame-on : frame N (take half (run .held)) block ≡ frameOn run block
+    unfolding frameOn
+    frame-on = ap (λ n. frame N (take n (run .held)) block) (ready .good .half-is)

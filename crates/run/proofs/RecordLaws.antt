@@ -26,13 +26,14 @@ use Rattle.run.specs.Gate.{every, sound}
 use Rattle.run.proofs.Searches.{inside-all}
 
 -- ---- held values, with zeros up to 64
-pub take-filled : (N : ℕ) (x : List ℤ) → take (halfWidth N) (filled (held N x)) ≡ held N x
-unfolding filled
-take-filled N x = take-at (held N x) _ (halfWidth N) (length-held N x)
+module _ (n : ℕ) (xs : List ℤ) (l : length xs ≡ n) where
+  pub take-filled : take n (filled xs) ≡ xs
+  unfolding filled
+  take-filled = take-at xs _ n l
 
-pub drop-filled : (N : ℕ) (x : List ℤ) → drop (halfWidth N) (filled (held N x)) ≡ zeros (64 - halfWidth N)
-unfolding filled
-drop-filled N x = rw (drop-at (held N x) _ (halfWidth N) (length-held N x), length-held)
+  pub drop-filled : drop n (filled xs) ≡ zeros (64 - n)
+  unfolding filled
+  drop-filled = rw (drop-at xs _ n l, l)
 
 filled-zeros : (n : ℕ) → n ≤ 64 → filled (zeros n) ≡ zeros 64
 unfolding filled
@@ -68,6 +69,15 @@ pub sound-run : (top : ℕ) (run : Run) → 0 < halfWidth (run .width) → run .
 unfolding sound every
 sound-run top run w c h d z = rw (lt-ltb _ _ w, le-leb _ _ c, inside-all foldedLimit (run .held) h, inside-all 0 (drop (halfWidth (run .width)) (run .held)) d, unless _ _ (λ e. inside-all _ _ (z e)))
 
+-- an open run that holds half a width of values
+pub open-sound : (top N b : ℕ) (xs : List ℤ) → 0 < halfWidth N → b ≤ top → length xs ≡ halfWidth N → AllAbs foldedLimit xs → (b ≡ 0 → xs ≡ zeros (halfWidth N))
+    → sound top (opened N b xs) ≡ true
+unfolding opened
+open-sound top N b xs w c l h z =
+    sound-run top (opened N b xs) w c (all-filled foldedLimit xs h)
+    (rw (drop-filled (halfWidth N) xs l) (all-zeros 0 (64 - halfWidth N)))
+    (λ e. rw (z (eqb-true b 0 (sym (or-false (eqb b 0)) ∙ e)), filled-zeros (halfWidth N) (half-width-le N)) (all-zeros 0 64))
+
 -- ---- what a run comes to: `previous` is the last of b blocks, or zeros before the first
 pub record Reached (N b : ℕ) (previous : List ℤ) : Type 0 where
   pub wide : IsWidth N
@@ -83,12 +93,9 @@ reached-next N b previous xs r l h = record { wide = r .wide; counted = l; readi
 
 module _ (N b : ℕ) (previous : List ℤ) (r : Reached N b previous) where
   pub opened-sound : sound blockLimit (opened N b (held N previous)) ≡ true
-  unfolding opened
   opened-sound =
-      sound-run blockLimit (opened N b (held N previous)) (r .wide) (r .counted)
-      (all-filled foldedLimit (held N previous) (held-gate N previous (r .readings .within)))
-      (rw drop-filled (all-zeros 0 (64 - halfWidth N)))
-      (λ e. rw (r .fresh (eqb-true b 0 (sym (or-false (eqb b 0)) ∙ e)), filled-held-zeros) (all-zeros 0 64))
+      open-sound blockLimit N b (held N previous) (r .wide) (r .counted) (length-held N previous) (held-gate N previous (r .readings .within))
+      (λ e. rw (r .fresh e) (held-zeros N N))
 
   pub closed-sound : sound blockLimit (closed (opened N b (held N previous))) ≡ true
   unfolding opened closed

@@ -84,7 +84,7 @@ unfolding tab
 rows-tab N f h zero i = tt
 rows-tab N f h (suc n) i = (h i, rows-tab N f h n (suc i))
 
-frames-long : (N : ℕ) → IsWidth N → (blocks : List (List ℤ)) (n : ℕ) → Rows N (tab (frameAt N blocks) n 0)
+pub frames-long : (N : ℕ) → IsWidth N → (blocks : List (List ℤ)) (n : ℕ) → Rows N (tab (frameAt N blocks) n 0)
 unfolding frameAt frame
 frames-long N w blocks n = rows-tab N (frameAt N blocks) (λ i. length-stages N _ ∙ width-half N w) n 0
 

@@ -2,14 +2,14 @@
 use mathlib.Core.Bool.{cond, not}
 use mathlib.Core.List.{List, []}
 use Prim.Native.Nat.{ℕ}
-use lib.Dec.{eqb, ltb}
+use lib.Dec.{eqb}
 use lib.IntN.{ℤ}
 use lib.ListN.{length, take}
 use Rattle.tables.specs.Widths.{halfWidth}
 use Rattle.steps.specs.Steps.{frame}
 use Rattle.run.specs.declared.record.Run.{Run}
 use Rattle.run.specs.Record.{blockLimit, zeros, opened, advanced, closed}
-use Rattle.run.specs.Gate.{Given, ask, askEach, sound, firstDead, firstOut}
+use Rattle.run.specs.Gate.{Given, ask, askEach, admitted, sound, firstDead, firstOut}
 
 -- a fresh start at a width; "a refused fresh start hands back width 0, count 0, held zeros, open"
 unfoldable pub started : ℕ → (ℕ × ℕ) × Run
@@ -25,12 +25,7 @@ takenIn run block out =
     askEach 8 (firstDead block 0) run out (askEach 9 (firstOut block 0) run out ((0, 0), advanced run block, frameOn run block))
 
 unfoldable pub taken : Run → List ℤ → List ℤ → Given
-taken run block out =
-    ask 2 (sound blockLimit run) run out
-    (ask 3 (not (run .finished)) run out
-    (ask 4 (ltb (run .count) blockLimit) run out
-    (ask 6 (eqb (length block) (run .width)) run out
-    (ask 7 (eqb (length out) (run .width)) run out (takenIn run block out)))))
+taken run block out = admitted blockLimit run block out (takenIn run block out)
 
 -- finish: after the last block readings count as zero
 unfoldable pub ended : Run → List ℤ → Given

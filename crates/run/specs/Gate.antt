@@ -4,7 +4,7 @@ use mathlib.Core.List.{List, [], _∷_}
 use Prim.Native.Nat.{ℕ}
 use lib.Dec.{eqb, ltb, leb}
 use lib.IntN.{ℤ, pos, negsuc}
-use lib.ListN.{drop}
+use lib.ListN.{length, drop}
 use Rattle.tables.specs.Widths.{halfWidth}
 use Rattle.steps.specs.Limits.{readingLimit, foldedLimit}
 use Rattle.lifting.specs.Gate.{first, firstBeyond}
@@ -60,3 +60,12 @@ firstDead = first dead
 -- 9
 abbrev pub firstOut : List ℤ → ℕ → Found
 firstOut = firstBeyond (pos readingLimit)
+
+-- 2, 3, 4, 6 and 7 to a block or frame that is handed in, where `top` is the greatest count; then what follows
+unfoldable pub admitted : ℕ → Run → List ℤ → List ℤ → Given → Given
+admitted top run given out next =
+    ask 2 (sound top run) run out
+    (ask 3 (not (run .finished)) run out
+    (ask 4 (ltb (run .count) top) run out
+    (ask 6 (eqb (length given) (run .width)) run out
+    (ask 7 (eqb (length out) (run .width)) run out next))))

@@ -11,6 +11,10 @@ use Rattle.run.specs.declared.record.Run.{Run}
 abbrev pub blockLimit : ℕ
 blockLimit = 65536
 
+-- b blocks give b + 1 frames, so a run back takes at most one frame more
+abbrev pub frameLimit : ℕ
+frameLimit = 65537
+
 abbrev pub zeros : ℕ → List ℤ
 zeros n = replicate n (pos 0)
 

@@ -1,6 +1,6 @@
-// A run of blocks. `forward` and `whole` are for any caller; `gate` and `step` require what they say.
+// A run of blocks. `forward` and `whole` are for any caller; `gate` is for the way back, and requires what it says.
 pub mod forward;
-mod gate;
+pub mod gate;
 pub mod record;
 mod step;
 pub mod whole;

@@ -1,6 +1,7 @@
 -- `run::forward::finish` meets its contract.
 use borrow.Author.Needs.{needs}
 use borrow.Author.Tests.{not-true, not-false}
+use native.Mathlib.Omega.{arith}
 use mathlib.Core.Path.{_≡_, sym, ap₂, _∙_}
 use mathlib.Core.Bool.{true}
 use mathlib.Core.List.{List}
@@ -49,7 +50,7 @@ close-requires c κs =
     let l = c .before .before in
     let e = l .before .before in
     let s = e .before .before in
-    (passed (run s) _ (is-sound e) (c .before .half-width .ensures) (held-long s), l .if3 .left)
+    (passed blockLimit (omega arith) (run s) _ (is-sound e) (c .before .half-width .ensures) (held-long s), l .if3 .left)
 
 same-length : tie.Need-same-length
 same-length c = search needs

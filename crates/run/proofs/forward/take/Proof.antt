@@ -1,6 +1,7 @@
 -- `run::forward::take` meets its contract.
 use borrow.Author.Needs.{needs}
 use borrow.Author.Tests.{not-true, not-false}
+use native.Mathlib.Omega.{arith}
 use mathlib.Core.Path.{_≡_, sym, _∙_}
 use mathlib.Core.Bool.{true}
 use mathlib.Core.List.{List}
@@ -8,7 +9,8 @@ use lib.IntN.{ℤ}
 use lib.ListN.{length}
 use Rattle.run.specs.declared.record.Run.{Run}
 use Rattle.run.specs.Record.{blockLimit}
-use Rattle.run.specs.Gate.{sound}
+use Rattle.run.specs.Gate.{Given, sound}
+use Rattle.run.specs.Forward.{takenIn, taken}
 use Rattle.run.proofs.ReadyLaws.{passed}
 use Rattle.run.proofs.AskLaws.{record-refused, closed-refused, full-refused, input-refused, output-refused, lengths-passed}
 use Rattle.run.proofs.forward.take.Statement.{statement}
@@ -24,6 +26,9 @@ module _ (s : tie.Start) where
   abbrev out : List ℤ
   out = s .args .frame .now
 
+  abbrev next : Given
+  next = takenIn run block out
+
   held-long : length (run .held) ≡ 64
   held-long = search needs
 
@@ -34,19 +39,24 @@ sound-requires : tie.Need-sound-requires
 sound-requires c κs = search needs
 
 returns : tie.Need-returns
-returns c = let s = c .before .before in record-refused (run s) (block s) (out s) (sym (c .before .sound .ensures) ∙ not-true _ (c .if1 .taken))
+unfolding taken
+returns c = let s = c .before .before in record-refused blockLimit (run s) (block s) (out s) (next s) (sym (c .before .sound .ensures) ∙ not-true _ (c .if1 .taken))
 
 returns-2 : tie.Need-returns-2
-returns-2 c = let e = c .before in let s = e .before .before in closed-refused (run s) (block s) (out s) (is-sound e) (c .if2 .taken)
+unfolding taken
+returns-2 c = let e = c .before in let s = e .before .before in closed-refused blockLimit (run s) (block s) (out s) (next s) (is-sound e) (c .if2 .taken)
 
 returns-3 : tie.Need-returns-3
-returns-3 c = let e = c .before .before .before in let s = e .before .before in full-refused (run s) (block s) (out s) (is-sound e) (c .before .before .if2 .left) (c .if3 .taken)
+unfolding taken
+returns-3 c = let e = c .before .before .before in let s = e .before .before in full-refused blockLimit (run s) (block s) (out s) (next s) (is-sound e) (c .before .before .if2 .left) (c .if3 .taken)
 
 returns-4 : tie.Need-returns-4
-returns-4 c = let e = c .before .before .before .before in let s = e .before .before in input-refused (run s) (block s) (out s) (is-sound e) (c .before .before .before .if2 .left) (c .before .if3 .left) (c .if4 .taken)
+unfolding taken
+returns-4 c = let e = c .before .before .before .before in let s = e .before .before in input-refused blockLimit (run s) (block s) (out s) (next s) (is-sound e) (c .before .before .before .if2 .left) (c .before .if3 .left) (c .if4 .taken)
 
 returns-5 : tie.Need-returns-5
-returns-5 c = let e = c .before .before .before .before .before in let s = e .before .before in output-refused (run s) (block s) (out s) (is-sound e) (c .before .before .before .before .if2 .left) (c .before .before .if3 .left) (c .before .if4 .left) (c .if5 .taken)
+unfolding taken
+returns-5 c = let e = c .before .before .before .before .before in let s = e .before .before in output-refused blockLimit (run s) (block s) (out s) (next s) (is-sound e) (c .before .before .before .before .if2 .left) (c .before .before .if3 .left) (c .before .if4 .left) (c .if5 .taken)
 
 half-width-requires : tie.Need-half-width-requires
 half-width-requires c κs = search needs
@@ -56,17 +66,18 @@ take-in-requires c κs =
     let l = c .before .before in
     let e = l .before .before .before .before .before in
     let s = e .before .before in
-    (passed (run s) _ (is-sound e) (c .before .half-width .ensures) (held-long s), (l .before .if4 .left, l .if5 .left))
+    (passed blockLimit (omega arith) (run s) _ (is-sound e) (c .before .half-width .ensures) (held-long s), (l .before .if4 .left, l .if5 .left))
 
 same-length : tie.Need-same-length
 same-length c = search needs
 
 returns-6 : tie.Need-returns-6
+unfolding taken
 returns-6 c =
     let l = c .before .before .before .before in
     let e = l .before .before .before .before .before in
     let s = e .before .before in
-    c .before .take-in .ensures ∙ lengths-passed (run s) (block s) (out s) (is-sound e) (l .before .before .before .before .if2 .left) (l .before .before .if3 .left) (l .before .if4 .left) (l .if5 .left)
+    c .before .take-in .ensures ∙ lengths-passed blockLimit (run s) (block s) (out s) (next s) (is-sound e) (l .before .before .before .before .if2 .left) (l .before .before .if3 .left) (l .before .if4 .left) (l .if5 .left)
 
 pub take-spec : {M : Type 1} → statement M
 take-spec =
