@@ -1,0 +1,52 @@
+-- `run_back::back::answered` meets its contract.
+use borrow.Author.Needs.{needs}
+use mathlib.Core.Path.{sym, ap, _∙_}
+use Rattle.run_back.specs.Faults.{toldFault}
+use Rattle.run_back.proofs.EndLaws.{told-range, told-folded, told-halves, told-unfolded, told-clear}
+use Rattle.run_back.proofs.back.answered.Statement.{statement}
+use Rattle.run_back.proofs.back.answered.Tie as tie
+
+enum-known-fault : tie.Need-enum-known-fault
+enum-known-fault c = search needs
+
+enum-known-fault-2 : tie.Need-enum-known-fault-2
+enum-known-fault-2 c = search needs
+
+enum-known-fault-3 : tie.Need-enum-known-fault-3
+enum-known-fault-3 c = search needs
+
+enum-known-fault-4 : tie.Need-enum-known-fault-4
+enum-known-fault-4 c = search needs
+
+enum-told : tie.Need-enum-told
+enum-told c = search needs
+
+returns : tie.Need-returns
+returns c = told-range _ ∙ ap toldFault (sym (c .before .fault .given .1))
+
+returns-2 : tie.Need-returns-2
+returns-2 c = told-folded _ ∙ ap toldFault (sym (c .before .fault2 .given .1))
+
+returns-3 : tie.Need-returns-3
+returns-3 c = told-halves _ ∙ ap toldFault (sym (c .before .fault3 .given .1))
+
+returns-4 : tie.Need-returns-4
+returns-4 c = told-unfolded _ ∙ ap toldFault (sym (c .before .fault4 .given .1))
+
+returns-5 : tie.Need-returns-5
+returns-5 c = told-clear ∙ ap toldFault (sym (c .enum-told .given .1))
+
+pub answered-spec : {M : Type 1} → statement M
+answered-spec =
+    tie.close
+    (tie.spec
+    enum-known-fault
+    enum-known-fault-2
+    enum-known-fault-3
+    enum-known-fault-4
+    enum-told
+    returns
+    returns-2
+    returns-3
+    returns-4
+    returns-5)

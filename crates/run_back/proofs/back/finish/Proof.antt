@@ -1,0 +1,89 @@
+-- `run_back::back::finish` meets its contract.
+use borrow.Author.Needs.{needs}
+use borrow.Author.Tests.{not-true, not-false}
+use native.Mathlib.Omega.{arith}
+use mathlib.Core.Path.{_≡_, sym, ap, _∙_}
+use mathlib.Core.Bool.{true}
+use mathlib.Core.List.{List, []}
+use lib.IntN.{ℤ}
+use lib.ListN.{length}
+use Rattle.lifting.specs.Gate.{told}
+use Rattle.lifting.specs.declared.gate.Answer.the-variants.{Done}
+use Rattle.run.specs.declared.record.Run.{Run}
+use Rattle.run.specs.Record.{frameLimit, closed}
+use Rattle.run.specs.Gate.{sound}
+use Rattle.run.proofs.ReadyLaws.{passed}
+use Rattle.run_back.proofs.EndLaws.{end-record-refused, end-closed-refused, end-empty-refused, end-held-refused, ended-done}
+use Rattle.run_back.proofs.back.finish.Statement.{statement}
+use Rattle.run_back.proofs.back.finish.Tie as tie
+
+module _ (s : tie.Start) where
+  abbrev run : Run
+  run = s .args .run
+
+  held-long : length (run .held) ≡ 64
+  held-long = search needs
+
+is-sound : (e : tie.Else1) → sound frameLimit (run (e .before .before)) ≡ true
+is-sound e = sym (e .before .sound .ensures) ∙ not-false _ (e .if1 .left)
+
+sound-requires : tie.Need-sound-requires
+sound-requires c κs = search needs
+
+returns : tie.Need-returns
+returns c = end-record-refused (run (c .before .before)) (sym (c .before .sound .ensures) ∙ not-true _ (c .if1 .taken))
+
+returns-2 : tie.Need-returns-2
+returns-2 c = let e = c .before in end-closed-refused (run (e .before .before)) (is-sound e) (c .if2 .taken)
+
+returns-3 : tie.Need-returns-3
+returns-3 c = let e = c .before .before .before in end-empty-refused (run (e .before .before)) (is-sound e) (c .before .before .if2 .left) (c .if3 .taken)
+
+half-width-requires : tie.Need-half-width-requires
+half-width-requires c κs = search needs
+
+first-held-requires : tie.Need-first-held-requires
+first-held-requires c κs = let e = c .before .before .before .before in let s = e .before .before in passed frameLimit (omega arith) (run s) _ (is-sound e) (c .half-width .ensures) (held-long s)
+
+enum-known-held : tie.Need-enum-known-held
+enum-known-held c = search needs
+
+returns-4 : tie.Need-returns-4
+returns-4 c =
+    let f = c .before .before .before in
+    let l = f .before .before in
+    let e = l .before .before .before in
+    end-held-refused (run (e .before .before)) (is-sound e) (l .before .before .if2 .left) (l .if3 .left) _ (sym (f .first-held .ensures) ∙ c .before .held .given .1)
+
+enum-told : tie.Need-enum-told
+enum-told c = search needs
+
+nothing-held-requires : tie.Need-nothing-held-requires
+nothing-held-requires c κs = search needs
+
+returns-5 : tie.Need-returns-5
+unfolding closed
+returns-5 c =
+    let n = c .before in
+    let f = n .before .before in
+    let l = f .before .before in
+    let e = l .before .before .before in
+    let s = e .before .before in
+    ap (λ (h : List ℤ). (told Done, record { width = run s .width; count = run s .count; held = h; finished = true }, [])) (c .nothing-held .ensures)
+    ∙ ended-done (run s) (is-sound e) (l .before .before .if2 .left) (l .if3 .left) (sym (f .first-held .ensures) ∙ n .enum-told .given .1)
+
+pub finish-spec : {M : Type 1} → statement M
+finish-spec =
+    tie.close
+    (tie.spec
+    sound-requires
+    returns
+    returns-2
+    returns-3
+    half-width-requires
+    first-held-requires
+    enum-known-held
+    returns-4
+    enum-told
+    nothing-held-requires
+    returns-5)

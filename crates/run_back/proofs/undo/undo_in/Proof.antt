@@ -1,0 +1,148 @@
+-- `run_back::undo::undo_in` meets its contract.
+use borrow.Author.Needs.{needs}
+use mathlib.Core.Path.{_≡_, sym, ap, subst, _∙_}
+use mathlib.Core.List.{List}
+use Prim.Native.Nat.{ℕ}
+use lib.IntN.{ℤ, pos}
+use lib.ListN.{length}
+use Rattle.integers.specs.Places.{Within}
+use Rattle.steps.specs.Limits.{foldedLimit, coefficientLimit}
+use Rattle.steps.specs.Steps.{unstages}
+use Rattle.steps.proofs.Undo.{length-unstages}
+use Rattle.lifting.specs.Gate.{firstBeyond}
+use Rattle.lifting.specs.declared.gate.Found.the-variants.{Nothing}
+use Rattle.lifting.proofs.GateLaws.{none-within}
+use Rattle.run.specs.declared.record.Run.{Run}
+use Rattle.run_back.specs.Back.{unfoldedIn}
+use Rattle.run_back.proofs.UndoLaws.{range-refused, folded-refused, folded-passed}
+use Rattle.run_back.proofs.undo.undo_in.Statement.{statement}
+use Rattle.run_back.proofs.undo.undo_in.Tie as tie
+
+module _ (s : tie.Start) where
+  abbrev run : Run
+  run = s .args .run
+
+  abbrev N : ℕ
+  N = run .width
+
+  abbrev frame : List ℤ
+  frame = s .args .frame .now
+
+  abbrev out : List ℤ
+  out = s .args .block .now
+
+-- the coefficients widened, and the question's finding about them
+module _ (f : tie.After-first-beyond) where
+  abbrev from : tie.Start
+  from = f .before .before .before .before .before
+
+  wide : f .before .before .before .widen .last .1 .0 ≡ frame from
+  wide = f .before .before .before .widen .ensures
+
+  seen : firstBeyond (pos coefficientLimit) (frame from) 0 ≡ f .first-beyond .result
+  seen = sym (f .first-beyond .ensures ∙ ap (λ (l : List ℤ). firstBeyond (pos coefficientLimit) l 0) wide)
+
+none : (c : tie.After-enum-told) → firstBeyond (pos coefficientLimit) (frame (from (c .before .before))) 0 ≡ Nothing
+none c = seen (c .before .before) ∙ c .enum-told .given .1
+
+-- the folded values made of them, and the finding about these
+module _ (h : tie.After-first-beyond2) where
+  abbrev passed : tie.After-enum-told
+  passed = h .before .before .before .before .before
+
+  abbrev source : tie.Start
+  source = from (passed .before .before)
+
+  made : h .before .before .before .unstages .last .1 .1 .0 ≡ unstages (N source) (frame source)
+  made = h .before .before .before .unstages .ensures ∙ ap (unstages (N source)) (wide (passed .before .before))
+
+  seen2 : firstBeyond (pos foldedLimit) (unstages (N source) (frame source)) 0 ≡ h .first-beyond2 .result
+  seen2 = sym (h .first-beyond2 .ensures ∙ ap (λ (l : List ℤ). firstBeyond (pos foldedLimit) l 0) made)
+
+none2 : (d : tie.After-enum-told2) → firstBeyond (pos foldedLimit) (unstages (N (source (d .before .before))) (frame (source (d .before .before)))) 0 ≡ Nothing
+none2 d = seen2 (d .before .before) ∙ d .enum-told2 .given .1
+
+widen-requires : tie.Need-widen-requires
+widen-requires c κs = search needs
+
+first-beyond-requires : tie.Need-first-beyond-requires
+first-beyond-requires c κs = search needs
+
+enum-known-coefficient : tie.Need-enum-known-coefficient
+enum-known-coefficient c = search needs
+
+same-length : tie.Need-same-length
+same-length c = search needs
+
+returns : tie.Need-returns
+returns c = let f = c .before .before .before in let s = from f in range-refused (run s) (frame s) (out s) _ (seen f ∙ c .before .coefficient .given .1)
+
+enum-told : tie.Need-enum-told
+enum-told c = search needs
+
+unstages-requires : tie.Need-unstages-requires
+unstages-requires c κs =
+    let n = c .before in
+    let f = n .before .before in
+    let s = from f in
+    (s .pre .0 .good, (ap length (wide f) ∙ s .pre .1 .0, subst (Within coefficientLimit) (sym (wide f)) (none-within coefficientLimit _ (none n))))
+
+first-beyond-requires-2 : tie.Need-first-beyond-requires-2
+first-beyond-requires-2 c κs = search needs
+
+enum-known-value : tie.Need-enum-known-value
+enum-known-value c = search needs
+
+same-length-2 : tie.Need-same-length-2
+same-length-2 c = search needs
+
+returns-2 : tie.Need-returns-2
+returns-2 c = let h = c .before .before .before in let s = source h in folded-refused (run s) (frame s) (out s) (none (passed h)) _ (seen2 h ∙ c .before .value .given .1)
+
+enum-told-2 : tie.Need-enum-told-2
+enum-told-2 c = search needs
+
+unfolded-requires : tie.Need-unfolded-requires
+unfolded-requires c κs =
+    let d = c .before .before .before in
+    let h = d .before .before in
+    let s = source h in
+    (s .pre .0, ((ap length (made h) ∙ length-unstages (N s) (frame s), s .pre .1 .2, s .pre .1 .3), subst (Within foldedLimit) (sym (made h)) (none-within foldedLimit _ (none2 d))))
+
+same-length-3 : tie.Need-same-length-3
+same-length-3 c = search needs
+
+same-length-4 : tie.Need-same-length-4
+same-length-4 c = search needs
+
+same-length-5 : tie.Need-same-length-5
+same-length-5 c = search needs
+
+returns-3 : tie.Need-returns-3
+returns-3 c =
+    let d = c .before .before .before .before .before .before in
+    let h = d .before .before in
+    let s = source h in
+    c .before .before .unfolded .ensures ∙ ap (λ (l : List ℤ). unfoldedIn (run s) l (out s)) (made h) ∙ folded-passed (run s) (frame s) (out s) (none (passed h)) (none2 d)
+
+pub undo-in-spec : {M : Type 1} → statement M
+undo-in-spec =
+    tie.close
+    (tie.spec
+    widen-requires
+    first-beyond-requires
+    enum-known-coefficient
+    same-length
+    returns
+    enum-told
+    unstages-requires
+    first-beyond-requires-2
+    enum-known-value
+    same-length-2
+    returns-2
+    enum-told-2
+    unfolded-requires
+    same-length-3
+    same-length-4
+    same-length-5
+    returns-3)

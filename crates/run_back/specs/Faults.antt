@@ -1,0 +1,11 @@
+-- What questions 9 to 12 find in a frame, as the code answers it: the paper's number and place.
+use Prim.Native.Nat.{ℕ}
+use Rattle.run_back.specs.declared.undo.Fault.{Fault}
+use Rattle.run_back.specs.declared.undo.Fault.the-variants.{Range, Folded, Halves, Unfolded, Clear}
+
+unfoldable pub toldFault : Fault → ℕ × ℕ
+toldFault (Range place) = (9, place)
+toldFault (Folded place) = (10, place)
+toldFault (Halves place) = (11, place)
+toldFault (Unfolded place) = (12, place)
+toldFault Clear = (0, 0)

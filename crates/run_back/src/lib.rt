@@ -1,0 +1,4 @@
+// A run back to its readings. `back` and `whole` are for any caller; `undo` requires what it says.
+pub mod back;
+pub mod undo;
+pub mod whole;
