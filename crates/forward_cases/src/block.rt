@@ -1,14 +1,15 @@
 // Blocks that are taken and blocks that are refused, at width 8.
 use crate::call;
-use crate::compare;
-use crate::line;
 use run::forward;
 use run::record::Run;
 use run::whole;
+use samples::compare;
+use samples::line;
+use samples::outcome;
 
 fn fresh() -> Run {
-    let outcome = forward::start(8);
-    outcome.run
+    let begun = forward::start(8);
+    begun.run
 }
 
 fn one(name: &[u8], block: &[i32]) {
@@ -82,9 +83,9 @@ fn frames_among_refusals(one: &mut [i32], two: &mut [i32], last: &mut [i32]) {
     let first = call::take(b"block 100", fresh(), &[100, 0, 0, 0, 0, 0, 0, 0], one);
     let still = refused_blocks(first);
     let second = call::take(b"then block 1 to 8", still, &[1, 2, 3, 4, 5, 6, 7, 8], two);
-    call::record(second);
+    outcome::record(second);
     let over = call::finish(b"then the finish", second, last);
-    call::record(over);
+    outcome::record(over);
 }
 
 fn same_frame(frame: &[i32], part: &[i32]) {

@@ -1,8 +1,9 @@
 // A run of as many blocks as it takes.
 use crate::call;
-use crate::line;
 use run::forward;
 use run::record::Run;
+use samples::line;
+use samples::outcome;
 
 // A run of width 8 that has taken a block n times.
 fn repeated(n: usize, block: &[i32], frame: &mut [i32]) -> Run {
@@ -21,9 +22,9 @@ pub fn show() {
     let block = [100, 100, 100, 100, 100, 100, 100, 100];
     let mut frame = [0; 8];
     let almost = repeated(65535, &block, &mut frame);
-    call::record(almost);
+    outcome::record(almost);
     let full = call::take(b"block 65536", almost, &block, &mut frame);
-    call::record(full);
+    outcome::record(full);
     line::numbers(&frame);
     let still = call::take(b"block 65537", full, &block, &mut frame);
     call::take(
@@ -34,7 +35,7 @@ pub fn show() {
     );
     let over = call::finish(b"finish", still, &mut frame);
     line::numbers(&frame);
-    call::record(over);
+    outcome::record(over);
     let closed = call::take(b"take after the finish", over, &block, &mut frame);
     call::finish(b"finish after the finish", closed, &mut frame);
 }

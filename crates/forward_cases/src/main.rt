@@ -1,12 +1,8 @@
 // Runs forward: the sample runs, whole and call by call, and each of the gate's questions to a call.
 mod block;
 mod call;
-mod compare;
 mod full;
-mod line;
-mod reading;
 mod record;
-mod room;
 mod sample;
 mod whole_run;
 

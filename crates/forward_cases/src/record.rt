@@ -1,18 +1,19 @@
 // Starts, and records that are not sound.
 ghost use Prim.Native.Nat.{_<_};
 use crate::call;
-use crate::line;
 use run::forward;
 use run::record;
 use run::record::Run;
+use samples::line;
+use samples::outcome;
 
 fn started(name: &[u8], width: usize) -> Run {
-    let outcome = forward::start(width);
-    let answer = outcome.answer;
-    let run = outcome.run;
+    let begun = forward::start(width);
+    let answer = begun.answer;
+    let run = begun.run;
     line::answer(name, answer);
     line::end();
-    call::record(run);
+    outcome::record(run);
     run
 }
 

@@ -1,33 +1,16 @@
 // The sample runs: each whole, and then call by call.
 ghost use mathlib.Core.Path.{_≡_};
-ghost use Prim.Native.Nat.{_+_, _<_, _≤_};
+ghost use Prim.Native.Nat.{_+_, _<_};
 ghost use lib.ListN.{length};
-use crate::compare;
-use crate::line;
-use crate::reading;
-use crate::room;
 use lifting::gate::Answer;
 use run::forward;
 use run::whole;
-
-fn frames(width: usize, x: &[i32])
-    requires { ⌜ 0 < width ⌝ }
-{
-    let mut at = 0;
-    while width <= x.len() - at {
-        let end = at + width;
-        line::numbers(&x[at..end]);
-        at = end;
-    }
-}
-
-// Where the block at a place ends. The last one of a refused run may be short.
-fn block_end(at: usize, width: usize, n: usize) -> usize
-    requires { ⌜ (at < n) × (0 < width) ⌝ }
-    ensures { λ r. ⌜ (at < r) × (r ≤ n) ⌝ }
-{
-    if width < n - at { at + width } else { n }
-}
+use samples::compare;
+use samples::file;
+use samples::line;
+use samples::parts;
+use samples::reading;
+use samples::room;
 
 // Call by call, up to the first that is refused.
 fn by_calls(width: usize, readings: &[i32], frames: &mut [i32]) -> Answer
@@ -42,7 +25,7 @@ fn by_calls(width: usize, readings: &[i32], frames: &mut [i32]) -> Answer
     let mut at = 0;
     while at < readings.len() {
         let after = at + width;
-        let end = block_end(at, width, readings.len());
+        let end = parts::end(at, width, readings.len());
         let taken = forward::take(run, &readings[at..end], &mut frames[at..after]);
         let answer = taken.answer;
         if !compare::works(answer) {
@@ -81,7 +64,7 @@ fn whole_run(width: usize, readings: &[i32], all: &mut [i32])
     line::answer(b"whole", answer);
     line::end();
     if compare::works(answer) {
-        frames(width, all);
+        parts::print(width, all);
         return;
     }
     if compare::untouched(all) {
@@ -111,68 +94,56 @@ fn sized(width: usize, readings: &[i32]) {
     let n = readings.len() + width;
     let mut all = room::of_1024();
     let mut frames = room::of_1024();
-    both(width, readings, &mut all[..n], &mut frames[..n]);
+    both(width, readings, &mut all[0..n], &mut frames[0..n]);
 }
 
-fn parsed(text: &[u8]) {
+fn read(name: &[u8]) {
+    line::word(name);
+    line::end();
     let mut numbers = room::of_1024();
-    let n = reading::all(text, &mut numbers);
+    let n = file::numbers(name, &mut numbers);
     if n == 0 {
         return;
     }
     sized(reading::width(numbers[0]), &numbers[1..n]);
 }
 
-fn file(name: &[u8]) {
-    line::word(name);
-    line::end();
-    let opened = os::open_read(name);
-    if opened < 0 {
-        os::fail(name);
-        return;
-    }
-    let mut buffer = io::large_buffer();
-    let n = io::read_full(opened, &mut buffer);
-    libc::close(opened);
-    parsed(&buffer[..n]);
-}
-
 fn of_width_8() {
-    file(b"w8_empty");
-    file(b"w8_full_scale");
-    file(b"w8_impulses");
-    file(b"w8_random");
-    file(b"w8_slow_wave");
-    file(b"w8_small");
+    read(b"w8_empty");
+    read(b"w8_full_scale");
+    read(b"w8_impulses");
+    read(b"w8_random");
+    read(b"w8_slow_wave");
+    read(b"w8_small");
 }
 
 fn of_width_32() {
-    file(b"w32_empty");
-    file(b"w32_full_scale");
-    file(b"w32_impulses");
-    file(b"w32_random");
-    file(b"w32_slow_wave");
-    file(b"w32_small");
+    read(b"w32_empty");
+    read(b"w32_full_scale");
+    read(b"w32_impulses");
+    read(b"w32_random");
+    read(b"w32_slow_wave");
+    read(b"w32_small");
 }
 
 fn of_width_128() {
-    file(b"w128_empty");
-    file(b"w128_full_scale");
-    file(b"w128_impulses");
-    file(b"w128_random");
-    file(b"w128_slow_wave");
-    file(b"w128_small");
+    read(b"w128_empty");
+    read(b"w128_full_scale");
+    read(b"w128_impulses");
+    read(b"w128_random");
+    read(b"w128_slow_wave");
+    read(b"w128_small");
 }
 
 fn refused() {
-    file(b"dead_mark");
-    file(b"dead_after_out_of_range");
-    file(b"least_32_bits");
-    file(b"out_of_range_32768");
-    file(b"refused_after_two_frames");
-    file(b"seven_fields");
-    file(b"nine_fields");
-    file(b"width_9");
+    read(b"dead_mark");
+    read(b"dead_after_out_of_range");
+    read(b"least_32_bits");
+    read(b"out_of_range_32768");
+    read(b"refused_after_two_frames");
+    read(b"seven_fields");
+    read(b"nine_fields");
+    read(b"width_9");
 }
 
 pub fn show() {

@@ -1,9 +1,9 @@
 // Whole runs that are refused: by width and lengths first, then by the first refused block.
 ghost use mathlib.Core.Path.{_≡_};
 ghost use lib.ListN.{length};
-use crate::compare;
-use crate::line;
 use run::whole;
+use samples::compare;
+use samples::line;
 
 fn one(name: &[u8], width: usize, readings: &[i32], frames: &mut [i32]) {
     compare::mark(frames);

@@ -3,11 +3,11 @@ ghost use mathlib.Core.Path.{_≡_};
 ghost use lib.ListN.{length};
 ghost use Rattle.tables.specs.Widths.{halfWidth};
 ghost use Rattle.stages.specs.Expanded.{Width};
-use crate::line;
 use lifting::folding;
 use lifting::frame;
 use lifting::gate;
 use lifting::gate::Found;
+use samples::line;
 use stages::room;
 use stages::vectors;
 use tables::widths;
@@ -85,13 +85,13 @@ fn there_and_back(
     requires { ⌜ (length (now block) ≡ width) × (length (now folded) ≡ width) × (length (now held) ≡ halfWidth width) × (length (now coefficients) ≡ width) ⌝ }
 {
     fold(width, half, block, &mut folded[..half], held);
-    line::print(folded);
-    line::print(held);
+    line::numbers(folded);
+    line::numbers(held);
     frame::stages(width, folded, coefficients);
-    line::print(coefficients);
+    line::numbers(coefficients);
     frame::unstages(width, coefficients, folded);
     unfold(width, half, &folded[..half], held, coefficients);
-    line::print(coefficients);
+    line::numbers(coefficients);
 }
 
 fn room_of_128() -> [i32; 128]

@@ -3,7 +3,6 @@ mod block;
 mod blocks_128;
 mod blocks_32;
 mod blocks_8;
-mod line;
 
 fn main() {
     blocks_8::show();

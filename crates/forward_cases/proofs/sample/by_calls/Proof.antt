@@ -28,8 +28,8 @@ loop-holds c = omega arith
 add-after : tie.Need-add-after Inv-loop μ-loop
 add-after c = omega arith
 
-block-end-requires : tie.Need-block-end-requires Inv-loop μ-loop
-block-end-requires c κs = search needs
+end-requires : tie.Need-end-requires Inv-loop μ-loop
+end-requires c κs = search needs
 
 mul-take : tie.Need-mul-take Inv-loop μ-loop
 mul-take c = search needs
@@ -105,7 +105,7 @@ by-calls-spec =
     returns
     loop-holds
     add-after
-    block-end-requires
+    end-requires
     mul-take
     sub-take
     part-take-start

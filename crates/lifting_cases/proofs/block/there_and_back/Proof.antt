@@ -47,17 +47,17 @@ slice-aggregate-fold c = part (c .before)
 fold-requires : tie.Need-fold-requires
 fold-requires c κs = let s = c .before .before in (s .pre .0, (s .pre .1 .0, sym (part s) ∙ s .pre .0 .half-is, s .pre .1 .2))
 
-print-requires : tie.Need-print-requires
-print-requires c κs = search needs
+numbers-requires : tie.Need-numbers-requires
+numbers-requires c κs = search needs
 
-print-requires-2 : tie.Need-print-requires-2
-print-requires-2 c κs = search needs
+numbers-requires-2 : tie.Need-numbers-requires-2
+numbers-requires-2 c κs = search needs
 
 stages-requires : tie.Need-stages-requires
 stages-requires c κs = search needs
 
-print-requires-3 : tie.Need-print-requires-3
-print-requires-3 c κs = search needs
+numbers-requires-3 : tie.Need-numbers-requires-3
+numbers-requires-3 c κs = search needs
 
 unstages-requires : tie.Need-unstages-requires
 unstages-requires c κs = search needs
@@ -71,8 +71,8 @@ slice-aggregate-unfold c = again-part (c .before)
 unfold-requires : tie.Need-unfold-requires
 unfold-requires c κs = let s = c .before .before .before .before .before .before .before .before .before .before .before .before .before .before .before .before .before .before .before .before .before .before in (s .pre .0, (c .before .before .before .before .before .before .before .before .before .coefficients .given ∙ s .pre .1 .3, sym (again-part (c .before .before .before)) ∙ s .pre .0 .half-is, c .before .before .before .before .before .before .before .before .before .before .before .before .before .before .before .before .before .held .given ∙ s .pre .1 .2))
 
-print-requires-4 : tie.Need-print-requires-4
-print-requires-4 c κs = search needs
+numbers-requires-4 : tie.Need-numbers-requires-4
+numbers-requires-4 c κs = search needs
 
 same-length : tie.Need-same-length
 same-length c = search needs
@@ -93,15 +93,15 @@ there-and-back-spec =
     slice-relend-prefix-fold
     slice-aggregate-fold
     fold-requires
-    print-requires
-    print-requires-2
+    numbers-requires
+    numbers-requires-2
     stages-requires
-    print-requires-3
+    numbers-requires-3
     unstages-requires
     slice-reshare-prefix-unfold
     slice-aggregate-unfold
     unfold-requires
-    print-requires-4
+    numbers-requires-4
     same-length
     same-length-2
     same-length-3
