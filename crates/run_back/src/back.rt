@@ -1,9 +1,10 @@
 // A run back, call by call, for any caller: the record goes in by value and comes back with the answer.
 ghost use mathlib.Core.Path.{_≡_};
 ghost use mathlib.Core.List.{[]};
+ghost use lib.ListN.{length};
 ghost use Rattle.lifting.specs.Gate.{told};
 ghost use Rattle.run.specs.Ready.{Ready};
-ghost use Rattle.run_back.specs.Back.{takenBack, firstHeld, endedBack};
+ghost use Rattle.run_back.specs.Back.{undoneIn, takenBack, firstHeld, endedBack};
 ghost use Rattle.run_back.specs.Faults.{toldFault};
 use crate::undo;
 use crate::undo::Fault;
@@ -24,6 +25,21 @@ fn answered(fault: Fault) -> Answer
         Fault::Halves(place) => Answer::Halves(place),
         Fault::Unfolded(place) => Answer::Unfolded(place),
         Fault::Clear => Answer::Done,
+    }
+}
+
+// Questions 9 to 12, and the block before the frame.
+fn take_in(run: Run, half: usize, frame: &[i32], block: &mut [i32]) -> Outcome
+    requires { ⌜ Ready run half ⌝ }
+    requires { ⌜ (length (now frame) ≡ run .width) × (length (now block) ≡ run .width) ⌝ }
+    ensures { λ r. ⌜ (told (r .answer), r .run, now (block .exit)) ≡ undoneIn run (now (frame .entry)) (now (block .entry)) ⌝ }
+{
+    let undone = undo::undo(run, half, frame, block);
+    let fault = undone.fault;
+    let after = undone.run;
+    Outcome {
+        run: after,
+        answer: answered(fault),
     }
 }
 
@@ -62,13 +78,7 @@ pub fn take(run: Run, frame: &[i32], block: &mut [i32]) -> Outcome
             answer: Answer::OutputLength,
         };
     }
-    let undone = undo::undo(run, widths::half_width(width), frame, block);
-    let fault = undone.fault;
-    let after = undone.run;
-    Outcome {
-        run: after,
-        answer: answered(fault),
-    }
+    take_in(run, widths::half_width(width), frame, block)
 }
 
 // Question 11 at the finish: the held lower half.

@@ -2,10 +2,9 @@
 use borrow.Author.Needs.{needs}
 use borrow.Author.Tests.{not-true, not-false}
 use native.Mathlib.Omega.{arith}
-use mathlib.Core.Path.{_≡_, sym, ap, _∙_}
+use mathlib.Core.Path.{_≡_, sym, _∙_}
 use mathlib.Core.Bool.{true}
 use mathlib.Core.List.{List}
-use Prim.Native.Nat.{ℕ}
 use lib.IntN.{ℤ}
 use lib.ListN.{length}
 use Rattle.run.specs.declared.record.Run.{Run}
@@ -62,15 +61,12 @@ returns-5 c = let e = c .before .before .before .before .before in let s = e .be
 half-width-requires : tie.Need-half-width-requires
 half-width-requires c κs = search needs
 
-undo-requires : tie.Need-undo-requires
-undo-requires c κs =
+take-in-requires : tie.Need-take-in-requires
+take-in-requires c κs =
     let l = c .before .before in
     let e = l .before .before .before .before .before in
     let s = e .before .before in
     (passed frameLimit (omega arith) (run s) _ (is-sound e) (c .before .half-width .ensures) (held-long s), (l .before .if4 .left, l .if5 .left))
-
-answered-requires : tie.Need-answered-requires
-answered-requires c κs = search needs
 
 same-length : tie.Need-same-length
 same-length c = search needs
@@ -78,13 +74,10 @@ same-length c = search needs
 returns-6 : tie.Need-returns-6
 unfolding takenBack
 returns-6 c =
-    let u = c .before .before .before in
-    let l = u .before .before .before in
+    let l = c .before .before .before .before in
     let e = l .before .before .before .before .before in
     let s = e .before .before in
-    ap (λ (a : ℕ × ℕ). (a, u .undo .result .run, u .undo .last .1 .1 .1 .0)) (c .answered .ensures)
-    ∙ u .undo .ensures
-    ∙ lengths-passed frameLimit (run s) (frame s) (out s) (next s) (is-sound e) (l .before .before .before .before .if2 .left) (l .before .before .if3 .left) (l .before .if4 .left) (l .if5 .left)
+    c .before .take-in .ensures ∙ lengths-passed frameLimit (run s) (frame s) (out s) (next s) (is-sound e) (l .before .before .before .before .if2 .left) (l .before .before .if3 .left) (l .before .if4 .left) (l .if5 .left)
 
 pub take-spec : {M : Type 1} → statement M
 take-spec =
@@ -97,7 +90,6 @@ take-spec =
     returns-4
     returns-5
     half-width-requires
-    undo-requires
-    answered-requires
+    take-in-requires
     same-length
     returns-6)
