@@ -1,0 +1,3 @@
+// A line of text: whole numbers in decimal, parted by commas, printed and read.
+pub mod print;
+pub mod read;
