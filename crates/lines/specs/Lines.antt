@@ -1,5 +1,5 @@
 -- The lines of a text run: document 01, "The text run".
-use mathlib.Core.Bool.{cond}
+use mathlib.Core.Bool.{Bool, true, false, cond, _&&_}
 use mathlib.Core.List.{List, [], _∷_, _++_}
 use mathlib.Core.Option.{Option, none, some}
 use Prim.Native.Nat.{ℕ}
@@ -75,3 +75,10 @@ fieldAt (b ∷ bs) = cond (eqb b comma) [] (b ∷ fieldAt bs)
 unfoldable pub shownAs : Fields → List ℤ → Option (List ℤ)
 shownAs (Fields.Numbers n) xs = some (take n xs)
 shownAs Fields.Bad xs = none
+
+-- whether two lines are the same
+unfoldable pub same : List ℕ → List ℕ → Bool
+same [] [] = true
+same [] (y ∷ ys) = false
+same (x ∷ xs) [] = false
+same (x ∷ xs) (y ∷ ys) = eqb x y && same xs ys

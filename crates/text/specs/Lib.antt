@@ -1,0 +1,5 @@
+pub mod State
+pub mod Way
+pub mod Line
+pub mod Input
+pub mod Return

@@ -1,0 +1,57 @@
+-- The two ways of a text run: what a line between gives, and what the end gives.
+use mathlib.Core.Bool.{cond}
+use mathlib.Core.List.{List, [], _∷_, _++_}
+use Prim.Native.Nat.{ℕ, suc, _-_, _≤_, _<_, min}
+use lib.Dec.{eqb}
+use lib.IntN.{ℤ}
+use Rattle.run.specs.declared.record.Run.{Run}
+use Rattle.run.specs.Record.{frameLimit, zeros}
+use Rattle.run.specs.Gate.{Given}
+use Rattle.run.specs.Forward.{taken, ended}
+use Rattle.run_back.specs.Back.{takenBack, endedBack}
+use Rattle.lines.specs.Lines.{lineFeed, row, endLine}
+use Rattle.text.specs.declared.state.Way.{Way}
+use Rattle.text.specs.declared.state.Way.the-variants.{Forward, Back}
+
+-- the output that a call is lent: as many zeros as the run is wide, and no run is wider than 128
+unfoldable pub output : Run → List ℤ
+output run = zeros (min (run .width) 128)
+
+-- take a block or a frame
+unfoldable pub takenBy : Way → Run → List ℤ → List ℤ → Given
+takenBy Forward run block out = taken run block out
+takenBy Back run frame out = takenBack run frame out
+
+-- finish; back, no output is lent
+unfoldable pub endedBy : Way → Run → List ℤ → Given
+endedBy Forward run out = ended run out
+endedBy Back run out = (endedBack run .0, endedBack run .1, out)
+
+-- a line of numbers
+unfoldable pub rowLine : List ℤ → List ℕ
+rowLine xs = row xs ++ lineFeed ∷ []
+
+unfoldable pub lastLine : ℕ → List ℕ
+lastLine count = endLine count ++ lineFeed ∷ []
+
+-- what is printed for a block or frame that a record takes: "the first frame only starts the run and writes nothing"
+unfoldable pub shown : Way → Run → List ℤ → List ℕ
+shown Forward run out = rowLine out
+shown Back run out = cond (eqb (run .count) 0) [] (rowLine out)
+
+-- what is printed for the finish: forward one frame more than blocks, back one block less than frames
+unfoldable pub endCount : Way → ℕ → ℕ
+endCount Forward count = suc count
+endCount Back count = count - 1
+
+unfoldable pub finalRow : Way → List ℤ → List ℕ
+finalRow Forward out = rowLine out
+finalRow Back out = []
+
+unfoldable pub shownLast : Way → Run → List ℤ → List ℕ
+shownLast way run out = finalRow way out ++ lastLine (endCount way (run .count))
+
+-- the count of a record whose finish works
+unfoldable pub Closing : Way → ℕ → Type 0
+Closing Forward count = count ≤ frameLimit
+Closing Back count = 0 < count

@@ -1,0 +1,74 @@
+// How far a text run has come, and what is printed.
+ghost use mathlib.Core.Path.{_≡_};
+ghost use lib.ListN.{take};
+ghost use Rattle.text.specs.State.{begun, lineNumber};
+use run::forward;
+use run::record::Run;
+
+// The way a run goes: readings to frames, or frames to readings.
+pub enum Way {
+    Forward,
+    Back,
+}
+
+// What the next line is.
+pub enum Phase {
+    Width,
+    Between,
+    Ended,
+    Over,
+}
+
+pub struct State {
+    pub way: Way,
+    pub phase: Phase,
+    pub run: Run,
+}
+
+// The state after a line, and the bytes to print: the first `length` of `text`.
+pub struct Printed {
+    pub state: State,
+    pub text: [u8; 2048],
+    pub length: usize,
+}
+
+// Before the first line.
+pub fn begin(way: Way) -> State
+    ensures { λ r. ⌜ r ≡ begun way ⌝ }
+{
+    let fresh = forward::start(0);
+    let run = fresh.run;
+    State {
+        way: way,
+        phase: Phase::Width,
+        run: run,
+    }
+}
+
+// Whether anything is still to be printed.
+pub fn goes_on(state: State) -> bool
+    ensures { λ r. ⌜ r ≡ Rattle.text.specs.State.goesOn (state .phase) ⌝ }
+{
+    let phase = state.phase;
+    match phase {
+        Phase::Width => true,
+        Phase::Between => true,
+        Phase::Ended => true,
+        Phase::Over => false,
+    }
+}
+
+// The line that a refusal names.
+pub fn line_number(state: State) -> usize
+    ensures { λ r. ⌜ r ≡ lineNumber (state .phase) (state .run) ⌝ }
+{
+    let phase = state.phase;
+    let run = state.run;
+    if let Phase::Width = phase {
+        return 1;
+    }
+    if 65537 < run.count {
+        return 0;
+    }
+    run.count + 2
+}

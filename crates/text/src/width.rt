@@ -1,0 +1,50 @@
+// The first line: the width.
+ghost use mathlib.Core.Path.{_≡_};
+ghost use Prim.Native.Nat.{_≤_};
+ghost use Rattle.text.specs.State.{given};
+ghost use Rattle.text.specs.Line.{widthStarted, widthTaken};
+use crate::refuse;
+use crate::state::Phase;
+use crate::state::Printed;
+use crate::state::State;
+use lifting::gate;
+use lines::print;
+use lines::read::Field;
+use run::forward;
+
+fn start(state: State, width: usize) -> Printed
+    ensures { λ r. ⌜ given r ≡ widthStarted state width ⌝ }
+{
+    let begun = forward::start(width);
+    let answer = begun.answer;
+    let number = gate::number(answer);
+    if number != 0 {
+        return refuse::by(state, number, gate::place(answer));
+    }
+    let way = state.way;
+    let run = begun.run;
+    let mut text = [0u8; 2048];
+    let n = print::natural(&mut text, 0, width as u64);
+    let length = print::bytes(&mut text, n, b"\n");
+    Printed {
+        state: State {
+            way: way,
+            phase: Phase::Between,
+            run: run,
+        },
+        text: text,
+        length: length,
+    }
+}
+
+pub fn take(state: State, field: Field) -> Printed
+    ensures { λ r. ⌜ given r ≡ widthTaken state field ⌝ }
+{
+    let Field::Number(width) = field else {
+        return refuse::bad_form(state);
+    };
+    if width < 0 {
+        return refuse::by(state, 1, 0);
+    }
+    start(state, width as usize)
+}
