@@ -10,3 +10,4 @@ pub mod Tested
 pub mod PlaceLaws
 pub mod Fills
 pub mod Num
+pub mod Signs

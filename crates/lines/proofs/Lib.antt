@@ -1,3 +1,10 @@
+pub mod DecimalLaws
 pub mod PutLaws
 pub mod PrintLaws
+pub mod TextLaws
 pub mod CompareLaws
+pub mod ReadLaws
+pub mod FieldLaws
+pub mod SizeLaws
+pub mod RowLaws
+pub mod Inverse

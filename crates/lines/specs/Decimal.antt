@@ -79,3 +79,12 @@ numberIn (b ∷ bs) = cond (eqb b minusSign) (negative (sized 2147483648 bs)) (p
 unfoldable pub sizeWithin : ℕ → Size → Type 0
 sizeWithin limit (Size.Of n) = n ≤ limit
 sizeWithin limit Size.Bad = Unit {0}
+
+-- a number of 32 bits, and a list of such numbers
+unfoldable pub bits32 : ℤ → Type 0
+bits32 (pos n) = n ≤ 2147483647
+bits32 (negsuc n) = suc n ≤ 2147483648
+
+unfoldable pub allBits : List ℤ → Type 0
+allBits [] = Unit {0}
+allBits (x ∷ xs) = bits32 x × allBits xs

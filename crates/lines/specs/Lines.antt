@@ -1,4 +1,5 @@
 -- The lines of a text run: document 01, "The text run".
+use mathlib.Core.Path.{_≡_}
 use mathlib.Core.Bool.{Bool, true, false, cond, _&&_}
 use mathlib.Core.List.{List, [], _∷_, _++_}
 use mathlib.Core.Option.{Option, none, some}
@@ -41,7 +42,7 @@ endLine count = endTag ++ decimal count
 
 -- "`refused,number,line,place`"
 unfoldable pub refusal : ℕ → ℕ → ℕ → List ℕ
-refusal number line place = refusedTag ++ decimal number ++ comma ∷ decimal line ++ comma ∷ decimal place
+refusal number line place = refusedTag ++ (decimal number ++ comma ∷ (decimal line ++ comma ∷ decimal place))
 
 -- ---- read
 -- a byte in front of the first field
@@ -82,3 +83,8 @@ same [] [] = true
 same [] (y ∷ ys) = false
 same (x ∷ xs) [] = false
 same (x ∷ xs) (y ∷ ys) = eqb x y && same xs ys
+
+-- no byte of a list is b
+unfoldable pub lacks : ℕ → List ℕ → Type 0
+lacks b [] = Unit {0}
+lacks b (c ∷ cs) = (c ≡ b → ⊥) × lacks b cs

@@ -36,7 +36,7 @@ loop-less c = omega arith
 loop-again : tie.Need-loop-again Inv-loop μ-loop
 loop-again c =
     let k = c .before .loop in
-    let more : 1 < k .i = digits-left (k .i) (k .rest) (k .inv .3) (omega arith) in (
+    let more : 1 < k .i = digits-left (k .i) (k .rest) (k .inv .3) (omega arith) (omega arith) in (
       omega (arith, more),
       omega arith,
       length-set (k .work) _ _ ∙ k .inv .2,

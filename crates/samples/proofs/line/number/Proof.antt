@@ -10,7 +10,7 @@ use Rattle.integers.proofs.Order.{natAbs-negℤ}
 use Rattle.integers.proofs.Words.{minus-small}
 use Rattle.integers.proofs.Held.{Held, h-wide, asks-wide, h-lt, asks-minus, h-minus, asks-nat}
 use Rattle.integers.proofs.Num.{num-lit}
-use Rattle.samples.proofs.Signs.{below-zero, from-zero}
+use Rattle.integers.proofs.Signs.{below-zero, from-zero}
 use Rattle.samples.proofs.line.number.Statement.{statement}
 use Rattle.samples.proofs.line.number.Tie as tie
 

@@ -5,7 +5,7 @@ use lib.Signed.{natAbs-le}
 use mir.Syntax.{w32, w64}
 use Rattle.integers.proofs.Held.{held-ok, h-lt, asks-nat}
 use Rattle.integers.proofs.Num.{num-lit}
-use Rattle.samples.proofs.Signs.{from-zero}
+use Rattle.integers.proofs.Signs.{from-zero}
 use Rattle.samples.proofs.reading.width.Statement.{statement}
 use Rattle.samples.proofs.reading.width.Tie as tie
 

@@ -1,0 +1,115 @@
+-- The fields of a line: where the first ends, what stands behind it, and the numbers that the code has read of them.
+use mathlib.Core.Path.{_≡_, refl, sym, ap, _∙_}
+use mathlib.Core.Logic.{_⊎_, inl, inr, ⊎-elim}
+use mathlib.Core.Bool.{Bool, true, false}
+use mathlib.Core.List.{List, [], _∷_, _++_, append-assoc, append-nil}
+use mathlib.Core.Option.{Option, none, some}
+use Prim.Native.Nat.{ℕ, zero, suc, _+_, _≤_, _<_}
+use native.Mathlib.Numerals.{add-one}
+use native.Mathlib.Omega.{arith}
+use borrow.Author.Tests.{eq-eqb, ne-eqb}
+use lib.Dec.{eqb}
+use lib.IntN.{ℤ}
+use lib.ListN.{length, getD, take, drop, set, drop-of-length-le}
+use lib.Seq.{drop-cons, drop-length, drop-drop, take-suc-set}
+use Rattle.lines.specs.Decimal.{numberIn}
+use Rattle.lines.specs.Lines.{longer, fields, fieldAt, inFront, allNumbers, numbersIn}
+use Rattle.lines.specs.declared.read.Field.the-variants as Field
+
+-- ---- the first field's end
+module _ (s : List ℕ) (i : ℕ) where
+  pub field-ends : i < length s → getD s i 0 ≡ 44 → i + length (fieldAt (drop i s)) ≡ i
+  unfolding fieldAt
+  field-ends h e = rw (drop-cons s i 0 h, eq-eqb (getD s i 0) 44 e) (omega arith)
+
+  pub field-goes-on : i < length s → (getD s i 0 ≡ 44 → ⊥) → i + length (fieldAt (drop i s)) ≡ i + 1 + length (fieldAt (drop (i + 1) s))
+  unfolding fieldAt
+  field-goes-on h e = rw (drop-cons s i 0 h, ne-eqb (getD s i 0) 44 e, add-one i) (omega arith)
+
+  pub field-last : i ≡ length s → i + length (fieldAt (drop i s)) ≡ i
+  unfolding fieldAt
+  field-last e = rw (e, drop-length) (omega arith)
+
+pub tested : (t : Bool) → (t ≡ true) ⊎ (t ≡ false)
+tested true = inl refl
+tested false = inr refl
+
+pub field-length : (s : List ℕ) → length (fieldAt s) ≤ length s
+unfolding fieldAt
+field-length [] = omega arith
+field-length (b ∷ bs) = ⊎-elim (λ e. rw e (omega arith)) (λ e. rw e (omega (arith, field-length bs))) (tested (eqb b 44))
+
+pub field-part : (s : List ℕ) → take (length (fieldAt s)) s ≡ fieldAt s
+unfolding fieldAt
+field-part [] = refl
+field-part (b ∷ bs) = ⊎-elim (λ e. rw e) (λ e. rw e (ap (λ f. b ∷ f) (field-part bs))) (tested (eqb b 44))
+
+-- ---- the fields behind
+-- behind the byte that ends a field
+unfoldable pub behind : List ℕ → List (List ℕ)
+behind [] = []
+behind (b ∷ bs) = fields bs
+
+pub fields-split : (s : List ℕ) → fields s ≡ fieldAt s ∷ behind (drop (length (fieldAt s)) s)
+unfolding fields fieldAt behind longer
+fields-split [] = refl
+fields-split (b ∷ bs) = ⊎-elim (λ e. rw e) (λ e. rw e (rw (fields-split bs))) (tested (eqb b 44))
+
+-- the fields from a place on; beyond the end there is none
+unfoldable pub fieldsFrom : ℕ → List ℕ → List (List ℕ)
+fieldsFrom zero s = fields s
+fieldsFrom (suc i) s = behind (drop i s)
+
+from-place : (i : ℕ) (s : List ℕ) → i ≤ length s → fieldsFrom i s ≡ fields (drop i s)
+unfolding fieldsFrom behind
+from-place zero s h = refl
+from-place (suc i) s h = rw (drop-cons s i 0 h)
+
+pub fields-from : (i : ℕ) (s : List ℕ) → i ≤ length s → fieldsFrom i s ≡ fieldAt (drop i s) ∷ fieldsFrom (i + length (fieldAt (drop i s)) + 1) s
+unfolding fieldsFrom
+fields-from i s h = from-place i s h ∙ fields-split (drop i s) ∙ rw (add-one (i + length (fieldAt (drop i s))), drop-drop)
+
+pub fields-over : (i : ℕ) (s : List ℕ) → length s < i → fieldsFrom i s ≡ []
+unfolding fieldsFrom behind
+fields-over zero s h = absurd (omega arith)
+fields-over (suc i) s h = rw (drop-of-length-le s {i = i} (omega arith))
+
+-- ---- the numbers read, and what is left
+unfoldable pub ahead : List ℤ → Option (List ℤ) → Option (List ℤ)
+ahead xs (some ys) = some (xs ++ ys)
+ahead xs none = none
+
+ahead-none : (o : Option (List ℤ)) → o ≡ ahead [] o
+unfolding ahead
+ahead-none (some ys) = refl
+ahead-none none = refl
+
+pub from-start : (line : List ℕ) → numbersIn line ≡ ahead [] (allNumbers (fieldsFrom 0 line))
+unfolding numbersIn fieldsFrom
+from-start line = ahead-none (allNumbers (fields line))
+
+ahead-more : (xs : List ℤ) (x : ℤ) (o : Option (List ℤ)) → ahead xs (inFront (Field.Number x) o) ≡ ahead (xs ++ (x ∷ [])) o
+unfolding ahead inFront
+ahead-more xs x (some ys) = ap some (sym (append-assoc xs (x ∷ []) ys))
+ahead-more xs x none = refl
+
+pub number-long : (s : List ℕ) (x : ℤ) → numberIn s ≡ Field.Number x → 0 < length s
+unfolding numberIn
+number-long [] x e = absurd (let z : _≡_ {A = ℕ} 0 1 = cc in omega arith)
+number-long (b ∷ bs) x e = omega arith
+
+-- n numbers are read, and stand in the list `out`
+module _ (line : List ℕ) (i : ℕ) (out : List ℤ) (n : ℕ) where
+  pub read-bad : i ≤ length line → numberIn (fieldAt (drop i line)) ≡ Field.Bad → ahead (take n out) (allNumbers (fieldsFrom i line)) ≡ none
+  unfolding allNumbers inFront ahead
+  read-bad h b = rw (fields-from i line h) (rw b)
+
+  -- one more, y, is stored
+  pub read-number : i ≤ length line → {j : ℕ} → j ≡ i + length (fieldAt (drop i line)) → n < length out → {x y : ℤ} → y ≡ x → numberIn (fieldAt (drop i line)) ≡ Field.Number x
+      → ahead (take n out) (allNumbers (fieldsFrom i line)) ≡ ahead (take (n + 1) (set out n y)) (allNumbers (fieldsFrom (j + 1) line))
+  unfolding allNumbers
+  read-number h e l {x} d b = rw (fields-from i line h, b, e, d, add-one n, take-suc-set out n x l) (ahead-more (take n out) x _)
+
+  pub read-all : length line < i → ahead (take n out) (allNumbers (fieldsFrom i line)) ≡ some (take n out)
+  unfolding allNumbers ahead
+  read-all h = rw (fields-over i line h) (ap some (append-nil (take n out)))

@@ -1,0 +1,67 @@
+-- `lines::print::refused` meets its contract.
+use borrow.Author.Needs.{needs}
+use native.Mathlib.Omega.{arith}
+use Rattle.lines.proofs.DecimalLaws.{decimal-within}
+use Rattle.lines.proofs.PutLaws.{put-then, put-as}
+use Rattle.lines.proofs.TextLaws.{refusal-is}
+use Rattle.lines.proofs.print.refused.Statement.{statement}
+use Rattle.lines.proofs.print.refused.Tie as tie
+
+slice-aggregate-bytes : tie.Need-slice-aggregate-bytes
+slice-aggregate-bytes c = search needs
+
+bytes-requires : tie.Need-bytes-requires
+bytes-requires c κs = search needs
+
+natural-requires : tie.Need-natural-requires
+natural-requires c κs = omega (arith, c .before .before .before .bytes .ensures .count, decimal-within (c .before .before .before .before .before .before .before .args .number))
+
+slice-aggregate-bytes-2 : tie.Need-slice-aggregate-bytes-2
+slice-aggregate-bytes-2 c = search needs
+
+bytes-requires-2 : tie.Need-bytes-requires-2
+bytes-requires-2 c κs = omega (arith, c .before .before .before .before .natural .ensures .count, c .before .before .before .before .before .before .before .before .bytes .ensures .count, decimal-within (c .before .before .before .before .before .before .before .before .before .before .before .before .args .number))
+
+natural-requires-2 : tie.Need-natural-requires-2
+natural-requires-2 c κs =
+    let s = c .before .before .before .before .before .before .before .before .before .before .before .before .before .before .before .before .args in
+    omega (arith, c .before .before .before .bytes2 .ensures .count, c .before .before .before .before .before .before .before .before .natural .ensures .count, c .before .before .before .before .before .before .before .before .before .before .before .before .bytes .ensures .count, decimal-within (s .number), decimal-within (s .line))
+
+slice-aggregate-bytes-3 : tie.Need-slice-aggregate-bytes-3
+slice-aggregate-bytes-3 c = search needs
+
+bytes-requires-3 : tie.Need-bytes-requires-3
+bytes-requires-3 c κs =
+    let s = c .before .before .before .before .before .before .before .before .before .before .before .before .before .before .before .before .before .before .before .before .before .args in
+    omega (arith, c .before .before .before .before .natural2 .ensures .count, c .before .before .before .before .before .before .before .before .bytes2 .ensures .count, c .before .before .before .before .before .before .before .before .before .before .before .before .before .natural .ensures .count, c .before .before .before .before .before .before .before .before .before .before .before .before .before .before .before .before .before .bytes .ensures .count, decimal-within (s .number), decimal-within (s .line))
+
+natural-requires-3 : tie.Need-natural-requires-3
+natural-requires-3 c κs =
+    let s = c .before .before .before .before .before .before .before .before .before .before .before .before .before .before .before .before .before .before .before .before .before .before .before .before .before .args in
+    omega (arith, c .before .before .before .bytes3 .ensures .count, c .before .before .before .before .before .before .before .before .natural2 .ensures .count, c .before .before .before .before .before .before .before .before .before .before .before .before .bytes2 .ensures .count, c .before .before .before .before .before .before .before .before .before .before .before .before .before .before .before .before .before .natural .ensures .count, c .before .before .before .before .before .before .before .before .before .before .before .before .before .before .before .before .before .before .before .before .before .bytes .ensures .count, decimal-within (s .number), decimal-within (s .line), decimal-within (s .place))
+
+same-length : tie.Need-same-length
+same-length c = search needs
+
+returns : tie.Need-returns
+returns c =
+    put-as _ _ _ _ (refusal-is _ _ _)
+    (put-then (c .before .before .before .before .before .before .before .before .before .before .before .before .before .before .before .before .before .before .before .before .before .before .before .before .bytes .ensures)
+    (put-then (c .before .before .before .before .before .before .before .before .before .before .before .before .before .before .before .before .before .before .before .before .natural .ensures)
+    (put-then (c .before .before .before .before .before .before .before .before .before .before .before .before .before .before .before .bytes2 .ensures) (put-then (c .before .before .before .before .before .before .before .before .before .before .before .natural2 .ensures) (put-then (c .before .before .before .before .before .before .bytes3 .ensures) (c .before .before .natural3 .ensures))))))
+
+pub refused-spec : {M : Type 1} → statement M
+refused-spec =
+    tie.close
+    (tie.spec
+    slice-aggregate-bytes
+    bytes-requires
+    natural-requires
+    slice-aggregate-bytes-2
+    bytes-requires-2
+    natural-requires-2
+    slice-aggregate-bytes-3
+    bytes-requires-3
+    natural-requires-3
+    same-length
+    returns)
