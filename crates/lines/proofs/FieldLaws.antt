@@ -13,36 +13,9 @@ use lib.IntN.{ℤ}
 use lib.ListN.{length, getD, take, drop, set, drop-of-length-le}
 use lib.Seq.{drop-cons, drop-length, drop-drop, take-suc-set}
 use Rattle.lines.specs.Decimal.{numberIn}
-use Rattle.lines.specs.Lines.{longer, fields, fieldAt, inFront, allNumbers, numbersIn}
+use Rattle.lines.specs.Lines.{longer, comma, fields, upTo, inFront, allNumbers, numbersIn}
 use Rattle.lines.specs.declared.read.Field.the-variants as Field
-
--- ---- the first field's end
-module _ (s : List ℕ) (i : ℕ) where
-  pub field-ends : i < length s → getD s i 0 ≡ 44 → i + length (fieldAt (drop i s)) ≡ i
-  unfolding fieldAt
-  field-ends h e = rw (drop-cons s i 0 h, eq-eqb (getD s i 0) 44 e) (omega arith)
-
-  pub field-goes-on : i < length s → (getD s i 0 ≡ 44 → ⊥) → i + length (fieldAt (drop i s)) ≡ i + 1 + length (fieldAt (drop (i + 1) s))
-  unfolding fieldAt
-  field-goes-on h e = rw (drop-cons s i 0 h, ne-eqb (getD s i 0) 44 e, add-one i) (omega arith)
-
-  pub field-last : i ≡ length s → i + length (fieldAt (drop i s)) ≡ i
-  unfolding fieldAt
-  field-last e = rw (e, drop-length) (omega arith)
-
-pub tested : (t : Bool) → (t ≡ true) ⊎ (t ≡ false)
-tested true = inl refl
-tested false = inr refl
-
-pub field-length : (s : List ℕ) → length (fieldAt s) ≤ length s
-unfolding fieldAt
-field-length [] = omega arith
-field-length (b ∷ bs) = ⊎-elim (λ e. rw e (omega arith)) (λ e. rw e (omega (arith, field-length bs))) (tested (eqb b 44))
-
-pub field-part : (s : List ℕ) → take (length (fieldAt s)) s ≡ fieldAt s
-unfolding fieldAt
-field-part [] = refl
-field-part (b ∷ bs) = ⊎-elim (λ e. rw e) (λ e. rw e (ap (λ f. b ∷ f) (field-part bs))) (tested (eqb b 44))
+use Rattle.lines.proofs.UpToLaws.{tested}
 
 -- ---- the fields behind
 -- behind the byte that ends a field
@@ -50,8 +23,8 @@ unfoldable pub behind : List ℕ → List (List ℕ)
 behind [] = []
 behind (b ∷ bs) = fields bs
 
-pub fields-split : (s : List ℕ) → fields s ≡ fieldAt s ∷ behind (drop (length (fieldAt s)) s)
-unfolding fields fieldAt behind longer
+pub fields-split : (s : List ℕ) → fields s ≡ upTo comma s ∷ behind (drop (length (upTo comma s)) s)
+unfolding fields upTo behind longer
 fields-split [] = refl
 fields-split (b ∷ bs) = ⊎-elim (λ e. rw e) (λ e. rw e (rw (fields-split bs))) (tested (eqb b 44))
 
@@ -65,9 +38,9 @@ unfolding fieldsFrom behind
 from-place zero s h = refl
 from-place (suc i) s h = rw (drop-cons s i 0 h)
 
-pub fields-from : (i : ℕ) (s : List ℕ) → i ≤ length s → fieldsFrom i s ≡ fieldAt (drop i s) ∷ fieldsFrom (i + length (fieldAt (drop i s)) + 1) s
+pub fields-from : (i : ℕ) (s : List ℕ) → i ≤ length s → fieldsFrom i s ≡ upTo comma (drop i s) ∷ fieldsFrom (i + length (upTo comma (drop i s)) + 1) s
 unfolding fieldsFrom
-fields-from i s h = from-place i s h ∙ fields-split (drop i s) ∙ rw (add-one (i + length (fieldAt (drop i s))), drop-drop)
+fields-from i s h = from-place i s h ∙ fields-split (drop i s) ∙ rw (add-one (i + length (upTo comma (drop i s))), drop-drop)
 
 pub fields-over : (i : ℕ) (s : List ℕ) → length s < i → fieldsFrom i s ≡ []
 unfolding fieldsFrom behind
@@ -100,12 +73,12 @@ number-long (b ∷ bs) x e = omega arith
 
 -- n numbers are read, and stand in the list `out`
 module _ (line : List ℕ) (i : ℕ) (out : List ℤ) (n : ℕ) where
-  pub read-bad : i ≤ length line → numberIn (fieldAt (drop i line)) ≡ Field.Bad → ahead (take n out) (allNumbers (fieldsFrom i line)) ≡ none
+  pub read-bad : i ≤ length line → numberIn (upTo comma (drop i line)) ≡ Field.Bad → ahead (take n out) (allNumbers (fieldsFrom i line)) ≡ none
   unfolding allNumbers inFront ahead
   read-bad h b = rw (fields-from i line h) (rw b)
 
   -- one more, y, is stored
-  pub read-number : i ≤ length line → {j : ℕ} → j ≡ i + length (fieldAt (drop i line)) → n < length out → {x y : ℤ} → y ≡ x → numberIn (fieldAt (drop i line)) ≡ Field.Number x
+  pub read-number : i ≤ length line → {j : ℕ} → j ≡ i + length (upTo comma (drop i line)) → n < length out → {x y : ℤ} → y ≡ x → numberIn (upTo comma (drop i line)) ≡ Field.Number x
       → ahead (take n out) (allNumbers (fieldsFrom i line)) ≡ ahead (take (n + 1) (set out n y)) (allNumbers (fieldsFrom (j + 1) line))
   unfolding allNumbers
   read-number h e l {x} d b = rw (fields-from i line h, b, e, d, add-one n, take-suc-set out n x l) (ahead-more (take n out) x _)

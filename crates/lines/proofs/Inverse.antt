@@ -17,7 +17,8 @@ use Rattle.lines.specs.declared.read.Size.the-variants as Size
 use Rattle.lines.specs.declared.read.Field.the-variants as Field
 use Rattle.lines.proofs.DecimalLaws.{decimal-digits}
 use Rattle.lines.proofs.SizeLaws.{digits-first, decimal-leads, sized-decimal, decimal-sized}
-use Rattle.lines.proofs.FieldLaws.{tested, fields-split}
+use Rattle.lines.proofs.UpToLaws.{tested}
+use Rattle.lines.proofs.FieldLaws.{fields-split}
 use Rattle.lines.proofs.RowLaws.{printed-lacks}
 
 -- ---- a number

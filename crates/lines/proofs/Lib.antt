@@ -4,6 +4,7 @@ pub mod PrintLaws
 pub mod TextLaws
 pub mod CompareLaws
 pub mod ReadLaws
+pub mod UpToLaws
 pub mod FieldLaws
 pub mod SizeLaws
 pub mod RowLaws

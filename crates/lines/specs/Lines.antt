@@ -67,10 +67,10 @@ allNumbers (field ∷ rest) = inFront (numberIn field) (allNumbers rest)
 unfoldable pub numbersIn : List ℕ → Option (List ℤ)
 numbersIn bs = allNumbers (fields bs)
 
--- the first field of some bytes
-unfoldable pub fieldAt : List ℕ → List ℕ
-fieldAt [] = []
-fieldAt (b ∷ bs) = cond (eqb b comma) [] (b ∷ fieldAt bs)
+-- the bytes before the first b
+unfoldable pub upTo : ℕ → List ℕ → List ℕ
+upTo b [] = []
+upTo b (c ∷ cs) = cond (eqb c b) [] (c ∷ upTo b cs)
 
 -- what the code's answer and its numbers stand for
 unfoldable pub shownAs : Fields → List ℤ → Option (List ℤ)

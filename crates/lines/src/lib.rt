@@ -2,3 +2,4 @@
 pub mod compare;
 pub mod print;
 pub mod read;
+pub mod search;

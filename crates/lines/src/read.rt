@@ -1,9 +1,10 @@
 // The numbers of a line.
 ghost use mathlib.Core.Path.{_≡_};
 ghost use Prim.Native.Nat.{_+_, _*_, _≤_, _<_, _^_};
-ghost use lib.ListN.{length, drop};
+ghost use lib.ListN.{length};
 ghost use Rattle.lines.specs.Decimal.{valued, sized, sizeWithin, numberIn};
-ghost use Rattle.lines.specs.Lines.{fieldAt, numbersIn, shownAs};
+ghost use Rattle.lines.specs.Lines.{numbersIn, shownAs};
+use crate::search;
 
 // What digits spell, up to a limit.
 pub enum Size {
@@ -101,21 +102,6 @@ pub fn number(field: &[u8]) -> Field
     positive(size_of(field, 2147483647))
 }
 
-// Where the field that begins at `from` ends.
-fn field_end(line: &[u8], from: usize) -> usize
-    requires { ⌜ from ≤ length (now line) ⌝ }
-    ensures { λ r. ⌜ r ≡ from + length (fieldAt (drop from (now (line .entry)))) ⌝ }
-{
-    let mut i = from;
-    while i < line.len() {
-        if line[i] == b',' {
-            return i;
-        }
-        i += 1;
-    }
-    i
-}
-
 // The numbers of a line that is no longer than twice the room for them.
 pub fn numbers(line: &[u8], out: &mut [i32]) -> Fields
     requires { ⌜ length (now line) ≤ 2 * length (now out) ⌝ }
@@ -124,7 +110,7 @@ pub fn numbers(line: &[u8], out: &mut [i32]) -> Fields
     let mut n = 0;
     let mut at = 0;
     while at <= line.len() {
-        let end = field_end(line, at);
+        let end = search::end_of(line, at, b',');
         let found = number(&line[at..end]);
         let Field::Number(x) = found else {
             return Fields::Bad;

@@ -9,9 +9,10 @@ use lib.ListN.{length, take, drop, length-drop, length-set}
 use mir.Syntax.{w32}
 use Rattle.integers.proofs.Held.{held-ok}
 use Rattle.lines.specs.Decimal.{numberIn}
-use Rattle.lines.specs.Lines.{allNumbers, numbersIn, fieldAt, shownAs}
+use Rattle.lines.specs.Lines.{allNumbers, numbersIn, upTo, comma, shownAs}
 use Rattle.lines.specs.declared.read.Field.the-variants as Field
-use Rattle.lines.proofs.FieldLaws.{field-length, field-part, fieldsFrom, ahead, from-start, number-long, read-bad, read-number, read-all}
+use Rattle.lines.proofs.UpToLaws.{part-length, part-is}
+use Rattle.lines.proofs.FieldLaws.{fieldsFrom, ahead, from-start, number-long, read-bad, read-number, read-all}
 use Rattle.lines.proofs.read.numbers.Statement.{statement}
 use Rattle.lines.proofs.read.numbers.Tie as tie
 
@@ -23,25 +24,25 @@ abbrev μ-loop : tie.MeasureT-loop
 μ-loop line out₀ n₀ at₀ out n at = length line + 1 - at
 
 -- the field that was read
-module _ (f : tie.After-field-end Inv-loop μ-loop) where
+module _ (f : tie.After-end-of Inv-loop μ-loop) where
   abbrev line : List ℕ
   line = f .before .before .before .before .args .line .now
 
   abbrev at : ℕ
   at = f .before .before .loop .at
 
-  ends : f .field-end .result ≤ length line
-  ends = omega (arith, f .field-end .ensures, field-length (drop at line), length-drop at line)
+  ends : f .end-of .result ≤ length line
+  ends = omega (arith, f .end-of .ensures, part-length comma (drop at line), length-drop at line)
 
 module _ (m : tie.After-number Inv-loop μ-loop) where
-  abbrev from : tie.After-field-end Inv-loop μ-loop
+  abbrev from : tie.After-end-of Inv-loop μ-loop
   from = m .before .before
 
   -- the number of the field
-  seen : numberIn (fieldAt (drop (at from) (line from))) ≡ m .number .result
+  seen : numberIn (upTo comma (drop (at from) (line from))) ≡ m .number .result
   seen =
-      let e : from .field-end .result - at from ≡ length (fieldAt (drop (at from) (line from))) = omega (arith, from .field-end .ensures) in
-      sym (m .number .ensures ∙ ap numberIn (ap (λ k. take k (drop (at from) (line from))) e ∙ field-part (drop (at from) (line from))))
+      let e : from .end-of .result - at from ≡ length (upTo comma (drop (at from) (line from))) = omega (arith, from .end-of .ensures) in
+      sym (m .number .ensures ∙ ap numberIn (ap (λ k. take k (drop (at from) (line from))) e ∙ part-is comma (drop (at from) (line from))))
 
 module _ (c : tie.After-known-told Inv-loop μ-loop) where
   abbrev found : tie.After-number Inv-loop μ-loop
@@ -53,11 +54,11 @@ module _ (c : tie.After-known-told Inv-loop μ-loop) where
   abbrev x : ℤ
   x = c .before .found .given .0 .0
 
-  is-number : numberIn (fieldAt (drop (at (from found)) (line (from found)))) ≡ Field.Number x
+  is-number : numberIn (upTo comma (drop (at (from found)) (line (from found)))) ≡ Field.Number x
   is-number = seen found ∙ c .before .found .given .1
 
-  past : at (from found) < from found .field-end .result
-  past = omega (arith, from found .field-end .ensures, number-long _ x is-number)
+  past : at (from found) < from found .end-of .result
+  past = omega (arith, from found .end-of .ensures, number-long _ x is-number)
 
   room : turn .loop .n < length (turn .loop .out)
   room = omega (arith, past, ends (from found), turn .before .before .pre, turn .loop .inv)
@@ -65,14 +66,14 @@ module _ (c : tie.After-known-told Inv-loop μ-loop) where
 loop-holds : tie.Need-loop-holds Inv-loop μ-loop
 loop-holds c = (omega arith, refl, from-start (c .before .args .line .now))
 
-field-end-requires : tie.Need-field-end-requires Inv-loop μ-loop
-field-end-requires c κs = c .loop-test .taken
+end-of-requires : tie.Need-end-of-requires Inv-loop μ-loop
+end-of-requires c κs = c .loop-test .taken
 
 sub-number : tie.Need-sub-number Inv-loop μ-loop
-sub-number c = omega (arith, c .field-end .ensures)
+sub-number c = omega (arith, c .end-of .ensures)
 
 part-number-start : tie.Need-part-number-start Inv-loop μ-loop
-part-number-start c = omega (arith, c .field-end .ensures)
+part-number-start c = omega (arith, c .end-of .ensures)
 
 part-number-end : tie.Need-part-number-end Inv-loop μ-loop
 part-number-end c = ends c
@@ -117,7 +118,7 @@ loop-again c =
     let f = from (found c) in (
       omega (arith, past c, k .loop .inv),
       length-set (k .loop .out) (k .loop .n) _ ∙ k .loop .inv .1,
-      k .loop .inv .2 ∙ read-number _ _ _ _ (f .before .loop-test .taken) (f .field-end .ensures) (room c) (held-ok w32 (x c) (c .known-told .given .0 .1) .is) (is-number c),
+      k .loop .inv .2 ∙ read-number _ _ _ _ (f .before .loop-test .taken) (f .end-of .ensures) (room c) (held-ok w32 (x c) (c .known-told .given .0 .1) .is) (is-number c),
     )
 
 same-length-2 : tie.Need-same-length-2 Inv-loop μ-loop
@@ -134,7 +135,7 @@ numbers-spec =
     Inv-loop
     μ-loop
     loop-holds
-    field-end-requires
+    end-of-requires
     sub-number
     part-number-start
     part-number-end

@@ -1,0 +1,6 @@
+pub mod LineLaws
+pub mod OneLine
+pub mod RunRows
+pub mod ForwardRows
+pub mod BackRows
+pub mod TextReturn
