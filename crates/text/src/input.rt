@@ -15,6 +15,7 @@ use lines::read;
 fn take_formed(state: State, line: &[u8]) -> Printed
     requires { ⌜ length (now line) ≤ 2048 ⌝ }
     ensures { λ r. ⌜ given r ≡ formed (state .phase) state (now (line .entry)) ⌝ }
+    ensures { λ r. ⌜ r .length ≤ 2048 ⌝ }
 {
     let phase = state.phase;
     match phase {
@@ -27,6 +28,7 @@ fn take_formed(state: State, line: &[u8]) -> Printed
 
 fn take_not_formed(state: State) -> Printed
     ensures { λ r. ⌜ given r ≡ notFormed (state .phase) state ⌝ }
+    ensures { λ r. ⌜ r .length ≤ 2048 ⌝ }
 {
     let phase = state.phase;
     if let Phase::Over = phase {
@@ -38,6 +40,7 @@ fn take_not_formed(state: State) -> Printed
 // One line, without its line feed. It is whole if it had one and is not cut.
 pub fn take(state: State, whole: bool, line: &[u8]) -> Printed
     ensures { λ r. ⌜ given r ≡ lineTaken state whole (now (line .entry)) ⌝ }
+    ensures { λ r. ⌜ r .length ≤ 2048 ⌝ }
 {
     if !whole {
         return take_not_formed(state);
@@ -51,6 +54,7 @@ pub fn take(state: State, whole: bool, line: &[u8]) -> Printed
 // The input has no line more.
 pub fn end(state: State) -> Printed
     ensures { λ r. ⌜ given r ≡ inputEnded state ⌝ }
+    ensures { λ r. ⌜ r .length ≤ 2048 ⌝ }
 {
     let phase = state.phase;
     match phase {

@@ -1,6 +1,7 @@
 // What is printed for a refused line, and where nothing is printed.
 ghost use mathlib.Core.Path.{_≡_};
 ghost use mathlib.Core.List.{[]};
+ghost use Prim.Native.Nat.{_≤_};
 ghost use Rattle.text.specs.State.{given, inPhase, refused};
 ghost use Rattle.text.specs.Line.{badForm};
 use crate::state;
@@ -11,6 +12,7 @@ use lines::print;
 
 pub fn silent(state: State) -> Printed
     ensures { λ r. ⌜ given r ≡ (state, []) ⌝ }
+    ensures { λ r. ⌜ r .length ≤ 2048 ⌝ }
 {
     Printed {
         state: state,
@@ -21,6 +23,7 @@ pub fn silent(state: State) -> Printed
 
 pub fn by(state: State, number: usize, place: usize) -> Printed
     ensures { λ r. ⌜ given r ≡ refused state (number, place) ⌝ }
+    ensures { λ r. ⌜ r .length ≤ 2048 ⌝ }
 {
     let way = state.way;
     let run = state.run;
@@ -41,6 +44,7 @@ pub fn by(state: State, number: usize, place: usize) -> Printed
 
 pub fn bad_form(state: State) -> Printed
     ensures { λ r. ⌜ given r ≡ badForm state ⌝ }
+    ensures { λ r. ⌜ r .length ≤ 2048 ⌝ }
 {
     by(state, 13, 0)
 }

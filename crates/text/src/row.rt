@@ -3,9 +3,10 @@ ghost use mathlib.Core.Path.{_≡_};
 ghost use Prim.Native.Nat.{_≤_};
 ghost use lib.ListN.{length};
 ghost use Rattle.lifting.specs.Gate.{told};
-ghost use Rattle.lines.specs.Lines.{endLine, numbersIn};
+ghost use Rattle.run.specs.Record.{zeros};
+ghost use Rattle.lines.specs.Lines.{same, endLine, numbersIn};
 ghost use Rattle.text.specs.State.{given};
-ghost use Rattle.text.specs.Way.{takenBy, output, Closing};
+ghost use Rattle.text.specs.Way.{takenBy, endedBy, output, Closing};
 ghost use Rattle.text.specs.Line.{rowGiven, rowTaken, betweenTaken, finishGiven};
 use crate::refuse;
 use crate::state::Phase;
@@ -27,7 +28,7 @@ fn output_length(width: usize) -> usize
 }
 
 fn room() -> [i32; 128]
-    ensures { λ r. ⌜ r ≡ Rattle.run.specs.Record.zeros 128 ⌝ }
+    ensures { λ r. ⌜ r ≡ zeros 128 ⌝ }
 {
     [0; 128]
 }
@@ -36,6 +37,7 @@ fn room() -> [i32; 128]
 fn given_row(state: State, outcome: Outcome, out: &[i32]) -> Printed
     requires { ⌜ length (now out) ≤ 128 ⌝ }
     ensures { λ r. ⌜ given r ≡ rowGiven state (told (outcome .answer), outcome .run, now (out .entry)) ⌝ }
+    ensures { λ r. ⌜ r .length ≤ 2048 ⌝ }
 {
     let answer = outcome.answer;
     let number = gate::number(answer);
@@ -60,6 +62,7 @@ fn given_row(state: State, outcome: Outcome, out: &[i32]) -> Printed
 
 fn take_numbers(state: State, numbers: &[i32]) -> Printed
     ensures { λ r. ⌜ given r ≡ rowGiven state (takenBy (state .way) (state .run) (now (numbers .entry)) (output (state .run))) ⌝ }
+    ensures { λ r. ⌜ r .length ≤ 2048 ⌝ }
 {
     let way = state.way;
     let run = state.run;
@@ -73,6 +76,7 @@ fn take_numbers(state: State, numbers: &[i32]) -> Printed
 fn take_row(state: State, line: &[u8]) -> Printed
     requires { ⌜ length (now line) ≤ 2048 ⌝ }
     ensures { λ r. ⌜ given r ≡ rowTaken state (numbersIn (now (line .entry))) ⌝ }
+    ensures { λ r. ⌜ r .length ≤ 2048 ⌝ }
 {
     let mut numbers = [0i32; 1024];
     let fields = read::numbers(line, &mut numbers);
@@ -83,7 +87,7 @@ fn take_row(state: State, line: &[u8]) -> Printed
 }
 
 fn is_end(line: &[u8], count: usize) -> bool
-    ensures { λ r. ⌜ r ≡ Rattle.lines.specs.Lines.same (now (line .entry)) (endLine count) ⌝ }
+    ensures { λ r. ⌜ r ≡ same (now (line .entry)) (endLine count) ⌝ }
 {
     let mut end = [0u8; 24];
     let n = print::end_line(&mut end, 0, count);
@@ -93,6 +97,7 @@ fn is_end(line: &[u8], count: usize) -> bool
 pub fn take(state: State, line: &[u8]) -> Printed
     requires { ⌜ length (now line) ≤ 2048 ⌝ }
     ensures { λ r. ⌜ given r ≡ betweenTaken state (now (line .entry)) ⌝ }
+    ensures { λ r. ⌜ r .length ≤ 2048 ⌝ }
 {
     let way = state.way;
     let run = state.run;
@@ -111,6 +116,7 @@ fn given_last(state: State, outcome: Outcome, out: &[i32]) -> Printed
     requires { ⌜ length (now out) ≤ 128 ⌝ }
     requires { ⌜ (told (outcome .answer) .0 ≡ 0 → Closing (state .way) (state .run .count)) ⌝ }
     ensures { λ r. ⌜ given r ≡ finishGiven state (told (outcome .answer), outcome .run, now (out .entry)) ⌝ }
+    ensures { λ r. ⌜ r .length ≤ 2048 ⌝ }
 {
     let answer = outcome.answer;
     let number = gate::number(answer);
@@ -135,7 +141,8 @@ fn given_last(state: State, outcome: Outcome, out: &[i32]) -> Printed
 
 // The finish, once the input has ended.
 pub fn finish(state: State) -> Printed
-    ensures { λ r. ⌜ given r ≡ finishGiven state (Rattle.text.specs.Way.endedBy (state .way) (state .run) (output (state .run))) ⌝ }
+    ensures { λ r. ⌜ given r ≡ finishGiven state (endedBy (state .way) (state .run) (output (state .run))) ⌝ }
+    ensures { λ r. ⌜ r .length ≤ 2048 ⌝ }
 {
     let way = state.way;
     let run = state.run;

@@ -14,6 +14,7 @@ use run::forward;
 
 fn start(state: State, width: usize) -> Printed
     ensures { λ r. ⌜ given r ≡ widthStarted state width ⌝ }
+    ensures { λ r. ⌜ r .length ≤ 2048 ⌝ }
 {
     let begun = forward::start(width);
     let answer = begun.answer;
@@ -39,6 +40,7 @@ fn start(state: State, width: usize) -> Printed
 
 pub fn take(state: State, field: Field) -> Printed
     ensures { λ r. ⌜ given r ≡ widthTaken state field ⌝ }
+    ensures { λ r. ⌜ r .length ≤ 2048 ⌝ }
 {
     let Field::Number(width) = field else {
         return refuse::bad_form(state);
