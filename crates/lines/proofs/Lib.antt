@@ -8,4 +8,5 @@ pub mod UpToLaws
 pub mod FieldLaws
 pub mod SizeLaws
 pub mod RowLaws
+pub mod GatherLaws
 pub mod Inverse

@@ -1,3 +1,4 @@
 pub mod Decimal
+pub mod Gather
 pub mod Lines
 pub mod Put
