@@ -1,17 +1,15 @@
 -- The fields of a line: where the first ends, what stands behind it, and the numbers that the code has read of them.
 use mathlib.Core.Path.{_≡_, refl, sym, ap, _∙_}
-use mathlib.Core.Logic.{_⊎_, inl, inr, ⊎-elim}
-use mathlib.Core.Bool.{Bool, true, false}
+use mathlib.Core.Logic.{_⊎_, ⊎-elim}
 use mathlib.Core.List.{List, [], _∷_, _++_, append-assoc, append-nil}
 use mathlib.Core.Option.{Option, none, some}
 use Prim.Native.Nat.{ℕ, zero, suc, _+_, _≤_, _<_}
 use native.Mathlib.Numerals.{add-one}
 use native.Mathlib.Omega.{arith}
-use borrow.Author.Tests.{eq-eqb, ne-eqb}
 use lib.Dec.{eqb}
 use lib.IntN.{ℤ}
-use lib.ListN.{length, getD, take, drop, set, drop-of-length-le}
-use lib.Seq.{drop-cons, drop-length, drop-drop, take-suc-set}
+use lib.ListN.{length, take, drop, set, drop-of-length-le}
+use lib.Seq.{drop-cons, drop-drop, take-suc-set}
 use Rattle.lines.specs.Decimal.{numberIn}
 use Rattle.lines.specs.Lines.{longer, comma, fields, upTo, inFront, allNumbers, numbersIn}
 use Rattle.lines.specs.declared.read.Field.the-variants as Field

@@ -1,9 +1,8 @@
 -- Text put behind text in a buffer.
 use mathlib.Core.Path.{_≡_, refl, sym, ap, subst, _∙_}
 use mathlib.Core.List.{List, [], _∷_, _++_, append-assoc, append-nil}
-use Prim.Native.Nat.{ℕ, suc, _+_, _≤_, _<_}
+use Prim.Native.Nat.{ℕ, suc, _+_, _<_}
 use native.Mathlib.Omega.{arith}
-use native.Mathlib.Numerals.{add-one}
 use lib.ListN.{length, take, set, getD, length-append}
 use lib.Seq.{take-suc, take-suc-set, take-length}
 use Rattle.lines.specs.Put.{Put}
@@ -29,9 +28,9 @@ put-none at out = record { count = omega arith; is = sym (append-nil (take at ou
 
 pub put-then : {at r r′ : ℕ} {out₀ out out′ text text′ : List ℕ} → Put at out₀ text r out → Put r out text′ r′ out′ → Put at out₀ (text ++ text′) r′ out′
 put-then {at} {r} {r′} {out₀} {out} {out′} {text} {text′} p q = record {
-    count = let l = length-append text text′ in omega (arith, p .count, q .count, l);
-    is = q .is ∙ ap (λ (xs : List ℕ). xs ++ text′) (p .is) ∙ append-assoc (take at out₀) text text′;
-  }
+  count = let l = length-append text text′ in omega (arith, p .count, q .count, l);
+  is = q .is ∙ ap (λ (xs : List ℕ). xs ++ text′) (p .is) ∙ append-assoc (take at out₀) text text′;
+}
 
 pub put-as : (at : ℕ) (out : List ℕ) (r : ℕ) (after : List ℕ) {text text′ : List ℕ} → text ≡ text′ → Put at out text r after → Put at out text′ r after
 put-as at out r after e = subst (λ (t : List ℕ). Put at out t r after) e
@@ -49,9 +48,9 @@ left-as {at} {n} {out₀} {whole} {out} e = subst (Left at out₀ whole n out) e
 
 pub left-put : {at n r : ℕ} {out₀ whole out after text left : List ℕ} → Left at out₀ whole n out (text ++ left) → Put n out text r after → Left at out₀ whole r after left
 left-put {at} {n} {r} {out₀} {whole} {out} {after} {text} {left} p q = record {
-    count = omega (arith, p .count, q .count, length-append text left);
-    is = ap (λ (xs : List ℕ). xs ++ left) (q .is) ∙ append-assoc (take n out) text left ∙ p .is;
-  }
+  count = omega (arith, p .count, q .count, length-append text left);
+  is = ap (λ (xs : List ℕ). xs ++ left) (q .is) ∙ append-assoc (take n out) text left ∙ p .is;
+}
 
 pub left-none : {at n : ℕ} {out₀ whole out : List ℕ} → Left at out₀ whole n out [] → Put at out₀ whole n out
 left-none {n = n} {out = out} p = record { count = omega (arith, p .count); is = sym (append-nil (take n out)) ∙ p .is }

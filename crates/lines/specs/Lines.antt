@@ -3,7 +3,7 @@ use mathlib.Core.Path.{_≡_}
 use mathlib.Core.Bool.{Bool, true, false, cond, _&&_}
 use mathlib.Core.List.{List, [], _∷_, _++_}
 use mathlib.Core.Option.{Option, none, some}
-use Prim.Native.Nat.{ℕ}
+use Prim.Native.Nat.{ℕ, _≤_}
 use lib.Dec.{eqb}
 use lib.IntN.{ℤ}
 use lib.ListN.{take}
@@ -76,6 +76,11 @@ upTo b (c ∷ cs) = cond (eqb c b) [] (c ∷ upTo b cs)
 unfoldable pub shownAs : Fields → List ℤ → Option (List ℤ)
 shownAs (Fields.Numbers n) xs = some (take n xs)
 shownAs Fields.Bad xs = none
+
+-- no more numbers than there is room for
+unfoldable pub countWithin : ℕ → Fields → Type 0
+countWithin room (Fields.Numbers n) = n ≤ room
+countWithin room Fields.Bad = Unit {0}
 
 -- whether two lines are the same
 unfoldable pub same : List ℕ → List ℕ → Bool

@@ -85,7 +85,7 @@ pub fn end_line(out: &mut [u8], at: usize, count: usize) -> usize
 
 pub fn refused(out: &mut [u8], at: usize, number: usize, line: usize, place: usize) -> usize
     requires { ⌜ at + 70 ≤ length (now out) ⌝ }
-    ensures { λ r. ⌜ Put at (now (out .entry)) (refusal number line place) r (now (out .exit)) ⌝ }
+    ensures { λ r. ⌜ Put at (now (out .entry)) (refusal number line place) r (now (out .exit)) × (r ≤ at + 70) ⌝ }
 {
     let a = bytes(out, at, b"refused,");
     let b = natural(out, a, number as u64);

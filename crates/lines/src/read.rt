@@ -3,7 +3,7 @@ ghost use mathlib.Core.Path.{_≡_};
 ghost use Prim.Native.Nat.{_+_, _*_, _≤_, _<_, _^_};
 ghost use lib.ListN.{length};
 ghost use Rattle.lines.specs.Decimal.{valued, sized, sizeWithin, numberIn};
-ghost use Rattle.lines.specs.Lines.{numbersIn, shownAs};
+ghost use Rattle.lines.specs.Lines.{numbersIn, shownAs, countWithin};
 use crate::search;
 
 // What digits spell, up to a limit.
@@ -106,6 +106,7 @@ pub fn number(field: &[u8]) -> Field
 pub fn numbers(line: &[u8], out: &mut [i32]) -> Fields
     requires { ⌜ length (now line) ≤ 2 * length (now out) ⌝ }
     ensures { λ r. ⌜ shownAs r (now (out .exit)) ≡ numbersIn (now (line .entry)) ⌝ }
+    ensures { λ r. ⌜ countWithin (length (now (out .entry))) r ⌝ }
 {
     let mut n = 0;
     let mut at = 0;

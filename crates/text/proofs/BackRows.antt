@@ -24,7 +24,7 @@ use Rattle.run_back.proofs.MadeFrames.{framesAfter, allFrames}
 use Rattle.lines.specs.Lines.{row, endLine}
 use Rattle.text.specs.declared.state.Way.the-variants.{Back}
 use Rattle.text.specs.declared.state.Phase.the-variants.{Between}
-use Rattle.text.specs.Way.{output, takenBy, endedBy, rowLine, lastLine, shown, endCount, finalRow, shownLast}
+use Rattle.text.specs.Way.{output, takenBy, endedBy, rowLine, lastLine, shownRow, shownLast}
 use Rattle.text.specs.Input.{Line, printedFrom}
 use Rattle.text.specs.Return.{rowLines}
 use Rattle.text.proofs.LineLaws.{linesBetween}
@@ -32,13 +32,13 @@ use Rattle.text.proofs.OneLine.{state, row-printed, end-printed}
 use Rattle.text.proofs.RunRows.{output-long, frame-bits}
 
 -- ---- what is printed for a frame: nothing for the first, and the block for a later one
-later-shown : (N k : ℕ) (low block : List ℤ) → shown Back (opened N (suc k) low) block ≡ rowLine block
-unfolding shown opened
-later-shown N k low block = rw (eqb·suc-zero k)
+later-shownRow : (N k : ℕ) (low block : List ℤ) → shownRow Back (opened N (suc k) low) block ≡ rowLine block
+unfolding shownRow opened
+later-shownRow N k low block = rw (eqb·suc-zero k)
 
-first-shown : (N : ℕ) (low block : List ℤ) → shown Back (opened N 0 low) block ≡ []
-unfolding shown opened
-first-shown N low block = refl
+first-shownRow : (N : ℕ) (low block : List ℤ) → shownRow Back (opened N 0 low) block ≡ []
+unfolding shownRow opened
+first-shownRow N low block = refl
 
 -- ---- behind b frames, where `low` is held: the frame of two blocks
 module _ (N b : ℕ) (low : List ℤ) (r : ReachedBack N b low) where
@@ -50,7 +50,7 @@ module _ (N b : ℕ) (low : List ℤ) (r : ReachedBack N b low) where
 
   back-row : (p x : List ℤ) (after : Run) (block : List ℤ) (lines : List Line) → Block N readingLimit p → Block N readingLimit x
       → takenBack run (frame N (held N p) x) (output run) ≡ ((0, 0), after, block)
-      → printedFrom (state Back Between run) ((true, row (frame N (held N p) x)) ∷ lines) ≡ shown Back run block ++ printedFrom (state Back Between after) lines
+      → printedFrom (state Back Between run) ((true, row (frame N (held N p) x)) ∷ lines) ≡ shownRow Back run block ++ printedFrom (state Back Between after) lines
   unfolding takenBy
   back-row p x after block lines hp hx e =
       let w = r .wide in
@@ -58,7 +58,7 @@ module _ (N b : ℕ) (low : List ℤ) (r : ReachedBack N b low) where
       row-printed Back run (frame N (held N p) x) after block lines (omega (arith, width-le N w)) (omega (arith, width-pos N w)) (frame-bits N w p x hp hx) e
 
   back-end : endedBack run .0 ≡ (0, 0) → printedFrom (state Back Between run) ((true, endLine b) ∷ []) ≡ lastLine (b - 1)
-  unfolding endedBy opened endCount finalRow shownLast
+  unfolding endedBy opened shownLast
   back-end e = end-printed Back run (endedBack run .1) (output run) (ap (λ (a : ℕ × ℕ). (a, endedBack run .1, output run)) e)
 
 -- ---- the frames behind the first
@@ -75,7 +75,7 @@ back-rows N (x ∷ xs) k count hs r e h =
     let y = blockAt N xs 0 in
     let low = lower N x in
     back-row N (suc k) low r x y _ x _ (hs 0) (hs 1) (later-taken N w x y (hs 0) (hs 1) k _ r (omega arith) (lent N (suc k) low r))
-    ∙ rw (later-shown N k low x) (ap (λ (text : List ℕ). rowLine x ++ text) (back-rows N xs (suc k) count (λ i. hs (suc i)) (back-block N w x y (hs 0) (hs 1) (suc k) r (omega arith)) (omega arith) h))
+    ∙ rw (later-shownRow N k low x) (ap (λ (text : List ℕ). rowLine x ++ text) (back-rows N xs (suc k) count (λ i. hs (suc i)) (back-block N w x y (hs 0) (hs 1) (suc k) r (omega arith)) (omega arith) h))
     ∙ sym (append-assoc (rowLine x) (rowLines xs) (lastLine count))
 
 -- and with the first, from a fresh start
@@ -88,4 +88,4 @@ all-rows-back N w xs hs h =
     let r = back-first N w in
     rw (started-back N w)
     (back-row N 0 none r (zeros N) y _ _ _ (zero-block N readingLimit) (hs 0) (first-taken N w y (hs 0) _ (lent N 0 none r))
-    ∙ rw (first-shown N none (output (opened N 0 none))) (back-rows N xs 0 (length xs) hs (back-one N w y (hs 0)) (omega arith) h))
+    ∙ rw (first-shownRow N none (output (opened N 0 none))) (back-rows N xs 0 (length xs) hs (back-one N w y (hs 0)) (omega arith) h))

@@ -20,7 +20,7 @@ use Rattle.run_back.proofs.MadeFrames.{framesAfter}
 use Rattle.lines.specs.Lines.{row, endLine}
 use Rattle.text.specs.declared.state.Way.the-variants.{Forward}
 use Rattle.text.specs.declared.state.Phase.the-variants.{Between}
-use Rattle.text.specs.Way.{output, takenBy, endedBy, rowLine, lastLine, shown, endCount, finalRow, shownLast}
+use Rattle.text.specs.Way.{output, takenBy, endedBy, rowLine, lastLine, shownRow, shownLast}
 use Rattle.text.specs.Input.{Line, printedFrom}
 use Rattle.text.specs.Return.{rowLines}
 use Rattle.text.proofs.LineLaws.{linesBetween}
@@ -37,13 +37,13 @@ module _ (N b : ℕ) (previous : List ℤ) (r : Reached N b previous) where
 
   forward-row : (x : List ℤ) (lines : List Line) → Block N readingLimit x → b < blockLimit
       → printedFrom (state Forward Between run) ((true, row x) ∷ lines) ≡ rowLine (frame N (held N previous) x) ++ printedFrom (state Forward Between (opened N (suc b) (held N x))) lines
-  unfolding takenBy shown
+  unfolding takenBy shownRow
   forward-row x lines h l =
       row-printed Forward run x _ _ lines (omega (arith, h .long, width-le N (r .wide))) (omega (arith, h .long, width-pos N (r .wide))) (block-bits N x h)
       (taken-decided N b previous r x (output run) .when-yes (block-accepted N b x (output run) h l lent))
 
   forward-end : printedFrom (state Forward Between run) ((true, endLine b) ∷ []) ≡ rowLine (frame N (held N previous) (zeros N)) ++ lastLine (suc b)
-  unfolding endedBy opened endCount finalRow shownLast
+  unfolding endedBy opened shownLast
   forward-end = end-printed Forward run _ _ (ended-decided N b previous r (output run) .when-yes (finish-accepted N b (output run) lent))
 
 pub forward-rows : (N : ℕ) (xs : List (List ℤ)) (b count : ℕ) (previous : List ℤ) → Reached N b previous → AllBlocks N xs → count ≡ b + length xs → count ≤ blockLimit

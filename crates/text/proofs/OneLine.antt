@@ -23,7 +23,7 @@ use Rattle.text.specs.declared.state.State.{State}
 use Rattle.text.specs.declared.state.Phase.{Phase}
 use Rattle.text.specs.declared.state.Phase.the-variants.{Between, Ended}
 use Rattle.text.specs.State.{begun, inPhase, withRun}
-use Rattle.text.specs.Way.{output, takenBy, endedBy, shown, shownLast}
+use Rattle.text.specs.Way.{output, takenBy, endedBy, shownRow, shownLast}
 use Rattle.text.specs.Line.{lineLimit, widthStarted, widthTaken, rowGiven, rowTaken, betweenTaken, formed, lineTaken, finishGiven, endIn, inputEnded}
 use Rattle.text.specs.Input.{Line, printedFrom}
 use Rattle.text.proofs.LineLaws.{same-itself, row-not-end}
@@ -59,7 +59,7 @@ some-read (x ∷ xs) p b = read-row x xs b
 
 module _ (way : Way) (run : Run) where
   row-taken : (xs : List ℤ) (after : Run) (out : List ℤ) → length xs ≤ 128 → 0 < length xs → allBits xs → takenBy way run xs (output run) ≡ ((0, 0), after, out)
-      → lineTaken (state way Between run) true (row xs) ≡ (state way Between after, shown way run out)
+      → lineTaken (state way Between run) true (row xs) ≡ (state way Between after, shownRow way run out)
   unfolding formed betweenTaken rowTaken rowGiven withRun
   row-taken xs after out l p b e =
       line-formed (state way Between run) (row xs) (omega (arith, row-length xs b))
@@ -67,7 +67,7 @@ module _ (way : Way) (run : Run) where
 
   pub row-printed : (xs : List ℤ) (after : Run) (out : List ℤ) (lines : List Line) → length xs ≤ 128 → 0 < length xs → allBits xs
       → takenBy way run xs (output run) ≡ ((0, 0), after, out)
-      → printedFrom (state way Between run) ((true, row xs) ∷ lines) ≡ shown way run out ++ printedFrom (state way Between after) lines
+      → printedFrom (state way Between run) ((true, row xs) ∷ lines) ≡ shownRow way run out ++ printedFrom (state way Between after) lines
   unfolding printedFrom
   row-printed xs after out lines l p b e = rw (row-taken xs after out l p b e)
 

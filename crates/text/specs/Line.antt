@@ -6,7 +6,6 @@ use Prim.Native.Nat.{ℕ}
 use lib.Dec.{eqb, leb}
 use lib.IntN.{ℤ, pos, negsuc}
 use lib.ListN.{length}
-use Rattle.run.specs.declared.record.Run.{Run}
 use Rattle.run.specs.Gate as Gate
 use Rattle.run.specs.Forward.{started}
 use Rattle.lines.specs.declared.read.Field.{Field}
@@ -17,7 +16,7 @@ use Rattle.text.specs.declared.state.Phase.{Phase}
 use Rattle.text.specs.declared.state.State.{State}
 use Rattle.text.specs.declared.state.Phase.the-variants.{Width, Between, Ended, Over}
 use Rattle.text.specs.State.{Given, inPhase, withRun, refused}
-use Rattle.text.specs.Way.{output, takenBy, endedBy, shown, shownLast}
+use Rattle.text.specs.Way.{output, takenBy, endedBy, shownRow, shownLast}
 
 -- "has at most 2,048 bytes"
 abbrev pub lineLimit : ℕ
@@ -39,7 +38,7 @@ widthTaken state Field.Bad = badForm state
 -- "Then one line per block or frame."
 unfoldable pub rowGiven : State → Gate.Given → Given
 rowGiven state given =
-    cond (eqb (given .0 .0) 0) (withRun Between (given .1) state, shown (state .way) (state .run) (given .2)) (refused state (given .0))
+    cond (eqb (given .0 .0) 0) (withRun Between (given .1) state, shownRow (state .way) (state .run) (given .2)) (refused state (given .0))
 
 unfoldable pub rowTaken : State → Option (List ℤ) → Given
 rowTaken state none = badForm state

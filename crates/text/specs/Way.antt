@@ -35,21 +35,14 @@ unfoldable pub lastLine : ℕ → List ℕ
 lastLine count = endLine count ++ lineFeed ∷ []
 
 -- what is printed for a block or frame that a record takes: "the first frame only starts the run and writes nothing"
-unfoldable pub shown : Way → Run → List ℤ → List ℕ
-shown Forward run out = rowLine out
-shown Back run out = cond (eqb (run .count) 0) [] (rowLine out)
+unfoldable pub shownRow : Way → Run → List ℤ → List ℕ
+shownRow Forward run out = rowLine out
+shownRow Back run out = cond (eqb (run .count) 0) [] (rowLine out)
 
 -- what is printed for the finish: forward one frame more than blocks, back one block less than frames
-unfoldable pub endCount : Way → ℕ → ℕ
-endCount Forward count = suc count
-endCount Back count = count - 1
-
-unfoldable pub finalRow : Way → List ℤ → List ℕ
-finalRow Forward out = rowLine out
-finalRow Back out = []
-
 unfoldable pub shownLast : Way → Run → List ℤ → List ℕ
-shownLast way run out = finalRow way out ++ lastLine (endCount way (run .count))
+shownLast Forward run out = rowLine out ++ lastLine (suc (run .count))
+shownLast Back run out = lastLine (run .count - 1)
 
 -- the count of a record whose finish works
 unfoldable pub Closing : Way → ℕ → Type 0

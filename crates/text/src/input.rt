@@ -31,10 +31,12 @@ fn take_not_formed(state: State) -> Printed
     ensures { λ r. ⌜ r .length ≤ 2048 ⌝ }
 {
     let phase = state.phase;
-    if let Phase::Over = phase {
-        return refuse::silent(state);
+    match phase {
+        Phase::Width => refuse::bad_form(state),
+        Phase::Between => refuse::bad_form(state),
+        Phase::Ended => refuse::bad_form(state),
+        Phase::Over => refuse::silent(state),
     }
-    refuse::bad_form(state)
 }
 
 // One line, without its line feed. It is whole if it had one and is not cut.

@@ -1,6 +1,6 @@
 // A line between the width and the end line: a block or a frame, or the end line.
 ghost use mathlib.Core.Path.{_≡_};
-ghost use Prim.Native.Nat.{_≤_};
+ghost use Prim.Native.Nat.{_≤_, min};
 ghost use lib.ListN.{length};
 ghost use Rattle.lifting.specs.Gate.{told};
 ghost use Rattle.run.specs.Record.{zeros};
@@ -22,7 +22,7 @@ use run::record::Outcome;
 
 // No run is wider than 128.
 fn output_length(width: usize) -> usize
-    ensures { λ r. ⌜ r ≡ Prim.Native.Nat.min width 128 ⌝ }
+    ensures { λ r. ⌜ (r ≡ min width 128) × (r ≤ 128) ⌝ }
 {
     if width < 128 { width } else { 128 }
 }

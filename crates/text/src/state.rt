@@ -1,7 +1,6 @@
 // How far a text run has come, and what is printed.
 ghost use mathlib.Core.Path.{_≡_};
-ghost use lib.ListN.{take};
-ghost use Rattle.text.specs.State.{begun, lineNumber};
+ghost use Rattle.text.specs.State.{begun, goesOn, lineBetween, lineNumber};
 use run::forward;
 use run::record::Run;
 
@@ -47,7 +46,7 @@ pub fn begin(way: Way) -> State
 
 // Whether anything is still to be printed.
 pub fn goes_on(state: State) -> bool
-    ensures { λ r. ⌜ r ≡ Rattle.text.specs.State.goesOn (state .phase) ⌝ }
+    ensures { λ r. ⌜ r ≡ goesOn (state .phase) ⌝ }
 {
     let phase = state.phase;
     match phase {
@@ -58,17 +57,25 @@ pub fn goes_on(state: State) -> bool
     }
 }
 
+fn line_between(count: usize) -> usize
+    ensures { λ r. ⌜ r ≡ lineBetween count ⌝ }
+{
+    if 65537 < count {
+        return 0;
+    }
+    count + 2
+}
+
 // The line that a refusal names.
 pub fn line_number(state: State) -> usize
     ensures { λ r. ⌜ r ≡ lineNumber (state .phase) (state .run) ⌝ }
 {
     let phase = state.phase;
     let run = state.run;
-    if let Phase::Width = phase {
-        return 1;
+    match phase {
+        Phase::Width => 1,
+        Phase::Between => line_between(run.count),
+        Phase::Ended => line_between(run.count),
+        Phase::Over => line_between(run.count),
     }
-    if 65537 < run.count {
-        return 0;
-    }
-    run.count + 2
 }

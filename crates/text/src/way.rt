@@ -1,11 +1,11 @@
 // What each way does with a block or frame and at the finish, and what it prints for it.
 ghost use mathlib.Core.Path.{_≡_};
-ghost use mathlib.Core.List.{List};
 ghost use Prim.Native.Nat.{_+_, _*_, _≤_};
 ghost use lib.ListN.{length, take};
 ghost use Rattle.lifting.specs.Gate.{told};
 ghost use Rattle.lines.specs.Put.{Put};
-ghost use Rattle.text.specs.Way.{takenBy, endedBy, rowLine, lastLine, shownLast, Closing, endCount};
+ghost use Rattle.text.specs.declared.state.Way.the-variants.{Back};
+ghost use Rattle.text.specs.Way.{takenBy, endedBy, rowLine, lastLine, shownRow, shownLast, Closing};
 use crate::state::Way;
 use lines::print;
 use run::forward;
@@ -41,32 +41,31 @@ fn row_line(out: &[i32], text: &mut [u8]) -> usize
 
 fn last_line(text: &mut [u8], at: usize, count: usize) -> usize
     requires { ⌜ at + 25 ≤ length (now text) ⌝ }
-    ensures { λ r. ⌜ Put at (now (text .entry)) (lastLine count) r (now (text .exit)) ⌝ }
+    ensures { λ r. ⌜ Put at (now (text .entry)) (lastLine count) r (now (text .exit)) × (r ≤ at + 25) ⌝ }
 {
     let n = print::end_line(text, at, count);
     print::bytes(text, n, b"\n")
 }
 
-// For a block or frame that a record takes.
-pub fn shown(way: Way, run: Run, out: &[i32], text: &mut [u8]) -> usize
+// Back, the first frame only starts the run.
+fn shown_block(run: Run, out: &[i32], text: &mut [u8]) -> usize
     requires { ⌜ 12 * length (now out) + 1 ≤ length (now text) ⌝ }
-    ensures { λ r. ⌜ take r (now (text .exit)) ≡ Rattle.text.specs.Way.shown way run (now (out .entry)) ⌝ }
+    ensures { λ r. ⌜ (take r (now (text .exit)) ≡ shownRow Back run (now (out .entry))) × (r ≤ length (now (text .entry))) ⌝ }
 {
-    if let Way::Back = way {
-        if run.count == 0 {
-            return 0;
-        }
+    if run.count == 0 {
+        return 0;
     }
     row_line(out, text)
 }
 
-fn end_count(way: Way, count: usize) -> usize
-    requires { ⌜ Closing way count ⌝ }
-    ensures { λ r. ⌜ r ≡ endCount way count ⌝ }
+// For a block or frame that a record takes.
+pub fn shown(way: Way, run: Run, out: &[i32], text: &mut [u8]) -> usize
+    requires { ⌜ 12 * length (now out) + 1 ≤ length (now text) ⌝ }
+    ensures { λ r. ⌜ (take r (now (text .exit)) ≡ shownRow way run (now (out .entry))) × (r ≤ length (now (text .entry))) ⌝ }
 {
     match way {
-        Way::Forward => count + 1,
-        Way::Back => count - 1,
+        Way::Forward => row_line(out, text),
+        Way::Back => shown_block(run, out, text),
     }
 }
 
@@ -74,11 +73,13 @@ fn end_count(way: Way, count: usize) -> usize
 pub fn shown_last(way: Way, run: Run, out: &[i32], text: &mut [u8]) -> usize
     requires { ⌜ 12 * length (now out) + 26 ≤ length (now text) ⌝ }
     requires { ⌜ Closing way (run .count) ⌝ }
-    ensures { λ r. ⌜ take r (now (text .exit)) ≡ shownLast way run (now (out .entry)) ⌝ }
+    ensures { λ r. ⌜ (take r (now (text .exit)) ≡ shownLast way run (now (out .entry))) × (r ≤ length (now (text .entry))) ⌝ }
 {
-    let mut n = 0;
-    if let Way::Forward = way {
-        n = row_line(out, text);
+    match way {
+        Way::Forward => {
+            let n = row_line(out, text);
+            last_line(text, n, run.count + 1)
+        }
+        Way::Back => last_line(text, 0, run.count - 1),
     }
-    last_line(text, n, end_count(way, run.count))
 }

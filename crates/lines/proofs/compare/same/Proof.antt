@@ -1,5 +1,4 @@
 -- `lines::compare::same` meets its contract: the lines are the same if what is left of them is.
-use borrow.Author.Needs.{needs}
 use native.Mathlib.Omega.{arith}
 use mathlib.Core.Path.{_≡_, refl, sym, _∙_}
 use Prim.Native.Nat.{_-_, _≤_}

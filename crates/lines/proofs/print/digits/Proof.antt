@@ -1,7 +1,7 @@
 -- `lines::print::digits` meets its contract: the digits written stand behind those that are left.
 use borrow.Author.Needs.{needs}
 use native.Mathlib.Omega.{arith}
-use mathlib.Core.Path.{_≡_, refl, sym, _∙_}
+use mathlib.Core.Path.{_≡_, sym, _∙_}
 use Prim.Native.Nat.{_^_, _≤_, _<_}
 use lib.ListN.{length, drop, length-set}
 use Rattle.lines.specs.Decimal.{spelled, decimal}

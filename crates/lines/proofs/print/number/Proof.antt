@@ -76,9 +76,10 @@ returns : tie.Need-returns
 returns c =
     let s = c .before .before .before .before .before .before .before .before .before .before .before in
     let p = c .before .before .natural .ensures in
-    let t = ap decimal (minus-size s) in
-    (put-as _ _ _ _ (ap (λ (ds : List ℕ). 45 ∷ ds) t ∙ printed-below (s .args .x) (below (c .before .before .before))) (put-then (c .before .before .before .before .before .before .bytes .ensures) p),
-      omega (arith, c .before .before .before .before .before .before .bytes .ensures .count, p .count, ap length t, digits s _ refl))
+    let t = ap decimal (minus-size s) in (
+      put-as _ _ _ _ (ap (λ (ds : List ℕ). 45 ∷ ds) t ∙ printed-below (s .args .x) (below (c .before .before .before))) (put-then (c .before .before .before .before .before .before .bytes .ensures) p),
+      omega (arith, c .before .before .before .before .before .before .bytes .ensures .count, p .count, ap length t, digits s _ refl),
+    )
 
 cast-natural-2 : tie.Need-cast-natural-2
 cast-natural-2 c = let s = c .before .before .before in asks-nat w64 (wide s) (from-zero (s .args .x) (from c)) (omega (arith, size s))
@@ -95,9 +96,10 @@ returns-2 : tie.Need-returns-2
 returns-2 c =
     let s = c .before .before .before .before .before .before in
     let p = c .before .before .natural2 .ensures in
-    let t = ap (λ x. decimal (natAbs x)) (wide s .is) in
-    (put-as _ _ _ _ (t ∙ printed-from (s .args .x) (from (c .before .before .before))) p,
-      omega (arith, p .count, ap length t, digits s _ refl))
+    let t = ap (λ x. decimal (natAbs x)) (wide s .is) in (
+      put-as _ _ _ _ (t ∙ printed-from (s .args .x) (from (c .before .before .before))) p,
+      omega (arith, p .count, ap length t, digits s _ refl),
+    )
 
 pub number-spec : {M : Type 1} → statement M
 number-spec =

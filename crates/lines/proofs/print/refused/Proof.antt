@@ -45,10 +45,16 @@ same-length c = search needs
 
 returns : tie.Need-returns
 returns c =
-    put-as _ _ _ _ (refusal-is _ _ _)
-    (put-then (c .before .before .before .before .before .before .before .before .before .before .before .before .before .before .before .before .before .before .before .before .before .before .before .before .bytes .ensures)
-    (put-then (c .before .before .before .before .before .before .before .before .before .before .before .before .before .before .before .before .before .before .before .before .natural .ensures)
-    (put-then (c .before .before .before .before .before .before .before .before .before .before .before .before .before .before .before .bytes2 .ensures) (put-then (c .before .before .before .before .before .before .before .before .before .before .before .natural2 .ensures) (put-then (c .before .before .before .before .before .before .bytes3 .ensures) (c .before .before .natural3 .ensures))))))
+    let s = c .before .before .before .before .before .before .before .before .before .before .before .before .before .before .before .before .before .before .before .before .before .before .before .before .before .before .before .before .args in
+    let a = c .before .before .before .before .before .before .before .before .before .before .before .before .before .before .before .before .before .before .before .before .before .before .before .before .bytes .ensures in
+    let b = c .before .before .before .before .before .before .before .before .before .before .before .before .before .before .before .before .before .before .before .before .natural .ensures in
+    let d = c .before .before .before .before .before .before .before .before .before .before .before .before .before .before .before .bytes2 .ensures in
+    let e = c .before .before .before .before .before .before .before .before .before .before .before .natural2 .ensures in
+    let f = c .before .before .before .before .before .before .bytes3 .ensures in
+    let g = c .before .before .natural3 .ensures in (
+      put-as _ _ _ _ (refusal-is _ _ _) (put-then a (put-then b (put-then d (put-then e (put-then f g))))),
+      omega (arith, a .count, b .count, d .count, e .count, f .count, g .count, decimal-within (s .number), decimal-within (s .line), decimal-within (s .place)),
+    )
 
 pub refused-spec : {M : Type 1} → statement M
 refused-spec =

@@ -9,7 +9,7 @@ use lib.ListN.{length, take, drop, length-drop, length-set}
 use mir.Syntax.{w32}
 use Rattle.integers.proofs.Held.{held-ok}
 use Rattle.lines.specs.Decimal.{numberIn}
-use Rattle.lines.specs.Lines.{allNumbers, numbersIn, upTo, comma, shownAs}
+use Rattle.lines.specs.Lines.{allNumbers, numbersIn, upTo, comma, shownAs, countWithin}
 use Rattle.lines.specs.declared.read.Field.the-variants as Field
 use Rattle.lines.proofs.UpToLaws.{part-length, part-is}
 use Rattle.lines.proofs.FieldLaws.{fieldsFrom, ahead, from-start, number-long, read-bad, read-number, read-all}
@@ -18,7 +18,7 @@ use Rattle.lines.proofs.read.numbers.Tie as tie
 
 abbrev Inv-loop : tie.InvT-loop
 Inv-loop line out₀ n₀ at₀ out n at =
-    (n + n ≤ at) × (length out ≡ length out₀) × (numbersIn line ≡ ahead (take n out) (allNumbers (fieldsFrom at line)))
+    (n + n ≤ at) × (at ≤ length line + 1) × (length out ≡ length out₀) × (numbersIn line ≡ ahead (take n out) (allNumbers (fieldsFrom at line)))
 
 abbrev μ-loop : tie.MeasureT-loop
 μ-loop line out₀ n₀ at₀ out n at = length line + 1 - at
@@ -64,7 +64,7 @@ module _ (c : tie.After-known-told Inv-loop μ-loop) where
   room = omega (arith, past, ends (from found), turn .before .before .pre, turn .loop .inv)
 
 loop-holds : tie.Need-loop-holds Inv-loop μ-loop
-loop-holds c = (omega arith, refl, from-start (c .before .args .line .now))
+loop-holds c = (omega arith, omega arith, refl, from-start (c .before .args .line .now))
 
 end-of-requires : tie.Need-end-of-requires Inv-loop μ-loop
 end-of-requires c κs = c .loop-test .taken
@@ -91,11 +91,11 @@ same-length : tie.Need-same-length Inv-loop μ-loop
 same-length c = search needs
 
 returns : tie.Need-returns Inv-loop μ-loop
-unfolding shownAs
+unfolding shownAs countWithin
 returns c =
     let m = c .before .before in
     let k = m .before .before .before .before in
-    sym (k .loop .inv .2 ∙ read-bad _ _ (k .loop .out) (k .loop .n) (m .before .before .before .loop-test .taken) (seen m ∙ c .enum-told .given .1))
+    (sym (k .loop .inv .3 ∙ read-bad _ _ (k .loop .out) (k .loop .n) (m .before .before .before .loop-test .taken) (seen m ∙ c .enum-told .given .1)), tt)
 
 mul-x : tie.Need-mul-x Inv-loop μ-loop
 mul-x c = search needs
@@ -117,16 +117,17 @@ loop-again c =
     let k = turn c in
     let f = from (found c) in (
       omega (arith, past c, k .loop .inv),
-      length-set (k .loop .out) (k .loop .n) _ ∙ k .loop .inv .1,
-      k .loop .inv .2 ∙ read-number _ _ _ _ (f .before .loop-test .taken) (f .end-of .ensures) (room c) (held-ok w32 (x c) (c .known-told .given .0 .1) .is) (is-number c),
+      omega (arith, ends f),
+      length-set (k .loop .out) (k .loop .n) _ ∙ k .loop .inv .2,
+      k .loop .inv .3 ∙ read-number _ _ _ _ (f .before .loop-test .taken) (f .end-of .ensures) (room c) (held-ok w32 (x c) (c .known-told .given .0 .1) .is) (is-number c),
     )
 
 same-length-2 : tie.Need-same-length-2 Inv-loop μ-loop
 same-length-2 c = search needs
 
 returns-2 : tie.Need-returns-2 Inv-loop μ-loop
-unfolding shownAs
-returns-2 c = let k = c .before in sym (k .loop .inv .2 ∙ read-all _ _ (k .loop .out) (k .loop .n) (c .loop-test .left))
+unfolding shownAs countWithin
+returns-2 c = let k = c .before in (sym (k .loop .inv .3 ∙ read-all _ _ (k .loop .out) (k .loop .n) (c .loop-test .left)), omega (arith, k .loop .inv, k .before .before .pre))
 
 pub numbers-spec : {M : Type 1} → statement M
 numbers-spec =

@@ -1,11 +1,9 @@
+-- `text::input::end` meets its contract.
 use borrow.Author.Needs.{needs}
+use mathlib.Core.Path.{sym, ap, _∙_}
+use Rattle.text.specs.Line.{endIn, inputEnded}
 use Rattle.text.proofs.input.end.Statement.{statement}
 use Rattle.text.proofs.input.end.Tie as tie
-use Rattle.text.proofs.input.end.Reads as reads
-use Rattle.text.proofs.input.end.Lts as lts
-use Rattle.text.proofs.refuse.bad_form.Reads as bad-form-reads
-use Rattle.text.proofs.refuse.silent.Reads as silent-reads
-use Rattle.text.proofs.row.finish.Reads as finish-reads
 
 enum-told : tie.Need-enum-told
 enum-told c = search needs
@@ -32,16 +30,20 @@ silent-requires : tie.Need-silent-requires
 silent-requires c κs = search needs
 
 returns : tie.Need-returns
-returns c = ?
+unfolding endIn inputEnded
+returns c = (c .bad-form .ensures .0 ∙ sym (ap (λ p. endIn p (c .before .before .before .args .state)) (c .before .enum-told .given .1)), c .bad-form .ensures .1)
 
 returns-2 : tie.Need-returns-2
-returns-2 c = ?
+unfolding endIn inputEnded
+returns-2 c = (c .bad-form2 .ensures .0 ∙ sym (ap (λ p. endIn p (c .before .before .before .args .state)) (c .before .enum-told2 .given .1)), c .bad-form2 .ensures .1)
 
 returns-3 : tie.Need-returns-3
-returns-3 c = ?
+unfolding endIn inputEnded
+returns-3 c = (c .finish .ensures .0 ∙ sym (ap (λ p. endIn p (c .before .before .before .args .state)) (c .before .enum-told3 .given .1)), c .finish .ensures .1)
 
 returns-4 : tie.Need-returns-4
-returns-4 c = ?
+unfolding endIn inputEnded
+returns-4 c = (c .silent .ensures .0 ∙ sym (ap (λ p. endIn p (c .before .before .before .args .state)) (c .before .enum-told4 .given .1)), c .silent .ensures .1)
 
 pub end-spec : {M : Type 1} → statement M
 end-spec =

@@ -1,13 +1,9 @@
+-- `text::input::take_formed` meets its contract.
 use borrow.Author.Needs.{needs}
+use mathlib.Core.Path.{sym, ap, _∙_}
+use Rattle.text.specs.Line.{widthTaken, formed}
 use Rattle.text.proofs.input.take_formed.Statement.{statement}
 use Rattle.text.proofs.input.take_formed.Tie as tie
-use Rattle.text.proofs.input.take_formed.Reads as reads
-use Rattle.text.proofs.input.take_formed.Lts as lts
-use Rattle.lines.proofs.read.number.Reads as number-reads
-use Rattle.text.proofs.refuse.bad_form.Reads as bad-form-reads
-use Rattle.text.proofs.refuse.silent.Reads as silent-reads
-use Rattle.text.proofs.row.take.Reads as row-take-reads
-use Rattle.text.proofs.width.take.Reads as width-take-reads
 
 enum-told : tie.Need-enum-told
 enum-told c = search needs
@@ -37,16 +33,20 @@ silent-requires : tie.Need-silent-requires
 silent-requires c κs = search needs
 
 returns : tie.Need-returns
-returns c = ?
+unfolding formed
+returns c = (c .take .ensures .0 ∙ ap (widthTaken (c .before .before .before .before .before .args .state)) (c .before .number .ensures) ∙ sym (ap (λ p. formed p (c .before .before .before .before .before .args .state) (c .before .before .before .before .before .args .line .now)) (c .before .before .enum-told .given .1)), c .take .ensures .1)
 
 returns-2 : tie.Need-returns-2
-returns-2 c = ?
+unfolding formed
+returns-2 c = (c .take2 .ensures .0 ∙ sym (ap (λ p. formed p (c .before .before .before .before .args .state) (c .before .before .before .before .args .line .now)) (c .before .enum-told2 .given .1)), c .take2 .ensures .1)
 
 returns-3 : tie.Need-returns-3
-returns-3 c = ?
+unfolding formed
+returns-3 c = (c .bad-form .ensures .0 ∙ sym (ap (λ p. formed p (c .before .before .before .before .args .state) (c .before .before .before .before .args .line .now)) (c .before .enum-told3 .given .1)), c .bad-form .ensures .1)
 
 returns-4 : tie.Need-returns-4
-returns-4 c = ?
+unfolding formed
+returns-4 c = (c .silent .ensures .0 ∙ sym (ap (λ p. formed p (c .before .before .before .before .args .state) (c .before .before .before .before .args .line .now)) (c .before .enum-told4 .given .1)), c .silent .ensures .1)
 
 pub take-formed-spec : {M : Type 1} → statement M
 take-formed-spec =

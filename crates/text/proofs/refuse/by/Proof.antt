@@ -1,11 +1,11 @@
+-- `text::refuse::by` meets its contract.
 use borrow.Author.Needs.{needs}
+use native.Mathlib.Omega.{arith}
+use mathlib.Core.Path.{_∙_}
+use Rattle.lines.proofs.PutLaws.{put-then}
+use Rattle.text.proofs.StepLaws.{given-text, refused-by}
 use Rattle.text.proofs.refuse.by.Statement.{statement}
 use Rattle.text.proofs.refuse.by.Tie as tie
-use Rattle.text.proofs.refuse.by.Reads as reads
-use Rattle.text.proofs.refuse.by.Lts as lts
-use Rattle.lines.proofs.print.bytes.Reads as bytes-reads
-use Rattle.lines.proofs.print.refused.Reads as refused-reads
-use Rattle.text.proofs.state.line_number.Reads as line-number-reads
 
 line-number-requires : tie.Need-line-number-requires
 line-number-requires c κs = search needs
@@ -23,10 +23,14 @@ slice-aggregate-bytes-2 : tie.Need-slice-aggregate-bytes-2
 slice-aggregate-bytes-2 c = search needs
 
 bytes-requires : tie.Need-bytes-requires
-bytes-requires c κs = ?
+bytes-requires c κs = search needs
 
 returns : tie.Need-returns
-returns c = ?
+returns c =
+    let s = c .before .before .before .before .before .before .before .before .before .args .state in
+    let p = c .before .before .before .before .before .refused .ensures in
+    let q = c .before .bytes .ensures in
+    (given-text _ _ _ _ (put-then (p .0) q .is) ∙ refused-by s _ _ _ (c .before .before .before .before .before .before .before .line-number .ensures), omega (arith, p .1, q .count))
 
 pub by-spec : {M : Type 1} → statement M
 by-spec =

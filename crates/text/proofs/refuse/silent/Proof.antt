@@ -1,10 +1,13 @@
+-- `text::refuse::silent` meets its contract.
+use native.Mathlib.Omega.{arith}
+use mathlib.Core.Path.{refl}
+use Rattle.text.specs.State.{given}
 use Rattle.text.proofs.refuse.silent.Statement.{statement}
 use Rattle.text.proofs.refuse.silent.Tie as tie
-use Rattle.text.proofs.refuse.silent.Reads as reads
-use Rattle.text.proofs.refuse.silent.Lts as lts
 
 returns : tie.Need-returns
-returns c = ?
+unfolding given
+returns c = (refl, omega arith)
 
 pub silent-spec : {M : Type 1} → statement M
 silent-spec = tie.close (tie.spec returns)

@@ -1,12 +1,12 @@
+-- `text::row::given_last` meets its contract.
 use borrow.Author.Needs.{needs}
+use native.Mathlib.Omega.{arith}
+use mathlib.Core.Path.{sym, ap, _∙_}
+use Rattle.text.specs.State.{withRun, refused}
+use Rattle.text.specs.Line.{finishGiven}
+use Rattle.text.proofs.StepLaws.{given-text, told-pair, works, works-not}
 use Rattle.text.proofs.row.given_last.Statement.{statement}
 use Rattle.text.proofs.row.given_last.Tie as tie
-use Rattle.text.proofs.row.given_last.Reads as reads
-use Rattle.text.proofs.row.given_last.Lts as lts
-use Rattle.lifting.proofs.gate.number.Reads as number-reads
-use Rattle.lifting.proofs.gate.place.Reads as place-reads
-use Rattle.text.proofs.refuse.by.Reads as by-reads
-use Rattle.text.proofs.way.shown_last.Reads as shown-last-reads
 
 number-requires : tie.Need-number-requires
 number-requires c κs = search needs
@@ -18,16 +18,21 @@ by-requires : tie.Need-by-requires
 by-requires c κs = search needs
 
 returns : tie.Need-returns
-returns c = ?
+unfolding finishGiven
+returns c =
+    let s = c .before .before .before .before in
+    (c .by .ensures .0 ∙ ap (refused (s .args .state)) (told-pair _ (c .before .before .before .number .ensures) (c .before .place .ensures)) ∙ works-not _ _ _ (λ e. c .before .before .if1 .taken (c .before .before .before .number .ensures ∙ e)), c .by .ensures .1)
 
 slice-aggregate-shown-last : tie.Need-slice-aggregate-shown-last
 slice-aggregate-shown-last c = search needs
 
 shown-last-requires : tie.Need-shown-last-requires
-shown-last-requires c κs = ?
+shown-last-requires c κs = let s = c .before .before .before .before .before in (omega (arith, s .pre .0), s .pre .1 (sym (c .before .before .before .before .number .ensures) ∙ c .before .before .before .if1 .left))
 
 returns-2 : tie.Need-returns-2
-returns-2 c = ?
+unfolding finishGiven withRun
+returns-2 c =
+    (given-text _ _ _ _ (c .before .shown-last .ensures .0) ∙ works _ _ _ (sym (c .before .before .before .before .before .before .number .ensures) ∙ c .before .before .before .before .before .if1 .left), omega (arith, c .before .shown-last .ensures .1))
 
 pub given-last-spec : {M : Type 1} → statement M
 given-last-spec =

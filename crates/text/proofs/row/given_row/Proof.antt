@@ -1,12 +1,12 @@
+-- `text::row::given_row` meets its contract.
 use borrow.Author.Needs.{needs}
+use native.Mathlib.Omega.{arith}
+use mathlib.Core.Path.{sym, ap, _∙_}
+use Rattle.text.specs.State.{withRun, refused}
+use Rattle.text.specs.Line.{rowGiven}
+use Rattle.text.proofs.StepLaws.{given-text, told-pair, works, works-not}
 use Rattle.text.proofs.row.given_row.Statement.{statement}
 use Rattle.text.proofs.row.given_row.Tie as tie
-use Rattle.text.proofs.row.given_row.Reads as reads
-use Rattle.text.proofs.row.given_row.Lts as lts
-use Rattle.lifting.proofs.gate.number.Reads as number-reads
-use Rattle.lifting.proofs.gate.place.Reads as place-reads
-use Rattle.text.proofs.refuse.by.Reads as by-reads
-use Rattle.text.proofs.way.shown.Reads as shown-reads
 
 number-requires : tie.Need-number-requires
 number-requires c κs = search needs
@@ -18,7 +18,10 @@ by-requires : tie.Need-by-requires
 by-requires c κs = search needs
 
 returns : tie.Need-returns
-returns c = ?
+unfolding rowGiven
+returns c =
+    let s = c .before .before .before .before in
+    (c .by .ensures .0 ∙ ap (refused (s .args .state)) (told-pair _ (c .before .before .before .number .ensures) (c .before .place .ensures)) ∙ works-not _ _ _ (λ e. c .before .before .if1 .taken (c .before .before .before .number .ensures ∙ e)), c .by .ensures .1)
 
 slice-aggregate-shown : tie.Need-slice-aggregate-shown
 slice-aggregate-shown c = search needs
@@ -27,7 +30,9 @@ shown-requires : tie.Need-shown-requires
 shown-requires c κs = search needs
 
 returns-2 : tie.Need-returns-2
-returns-2 c = ?
+unfolding rowGiven withRun
+returns-2 c =
+    (given-text _ _ _ _ (c .before .shown .ensures .0) ∙ works _ _ _ (sym (c .before .before .before .before .before .before .number .ensures) ∙ c .before .before .before .before .before .if1 .left), omega (arith, c .before .shown .ensures .1))
 
 pub given-row-spec : {M : Type 1} → statement M
 given-row-spec =

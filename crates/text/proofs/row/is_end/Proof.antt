@@ -1,10 +1,11 @@
+-- `text::row::is_end` meets its contract.
 use borrow.Author.Needs.{needs}
+use native.Mathlib.Omega.{arith}
+use mathlib.Core.Path.{sym, ap, _∙_}
+use lib.Seq.{length-take-le}
+use Rattle.lines.specs.Lines.{same}
 use Rattle.text.proofs.row.is_end.Statement.{statement}
 use Rattle.text.proofs.row.is_end.Tie as tie
-use Rattle.text.proofs.row.is_end.Reads as reads
-use Rattle.text.proofs.row.is_end.Lts as lts
-use Rattle.lines.proofs.compare.same.Reads as same-reads
-use Rattle.lines.proofs.print.end_line.Reads as end-line-reads
 
 slice-aggregate-end-line : tie.Need-slice-aggregate-end-line
 slice-aggregate-end-line c = search needs
@@ -16,13 +17,13 @@ array-share-prefix-end : tie.Need-array-share-prefix-end
 array-share-prefix-end c = search needs
 
 slice-aggregate-same : tie.Need-slice-aggregate-same
-slice-aggregate-same c = ?
+slice-aggregate-same c = sym (length-take-le _ _ (omega (arith, c .before .before .end-line .ensures .1, c .before .end2 .given)))
 
 same-requires : tie.Need-same-requires
 same-requires c κs = search needs
 
 returns : tie.Need-returns
-returns c = ?
+returns c = c .same .ensures ∙ ap (same (c .before .before .before .before .before .before .args .line .now)) (c .before .before .before .end-line .ensures .0 .is)
 
 pub is-end-spec : {M : Type 1} → statement M
 is-end-spec =

@@ -1,11 +1,10 @@
+-- `text::row::take` meets its contract.
 use borrow.Author.Needs.{needs}
+use mathlib.Core.Path.{sym, _∙_}
+use Rattle.text.specs.State.{inPhase}
+use Rattle.text.specs.Line.{betweenTaken}
 use Rattle.text.proofs.row.take.Statement.{statement}
 use Rattle.text.proofs.row.take.Tie as tie
-use Rattle.text.proofs.row.take.Reads as reads
-use Rattle.text.proofs.row.take.Lts as lts
-use Rattle.text.proofs.refuse.silent.Reads as silent-reads
-use Rattle.text.proofs.row.is_end.Reads as is-end-reads
-use Rattle.text.proofs.row.take_row.Reads as take-row-reads
 
 is-end-requires : tie.Need-is-end-requires
 is-end-requires c κs = search needs
@@ -14,13 +13,15 @@ silent-requires : tie.Need-silent-requires
 silent-requires c κs = search needs
 
 returns : tie.Need-returns
-returns c = ?
+unfolding betweenTaken inPhase
+returns c = (c .silent .ensures .0 ∙ rw (sym (c .before .before .is-end .ensures) ∙ c .before .if1 .taken), c .silent .ensures .1)
 
 take-row-requires : tie.Need-take-row-requires
 take-row-requires c κs = search needs
 
 returns-2 : tie.Need-returns-2
-returns-2 c = ?
+unfolding betweenTaken
+returns-2 c = (c .take-row .ensures .0 ∙ rw (sym (c .before .before .is-end .ensures) ∙ c .before .if1 .left), c .take-row .ensures .1)
 
 pub take-spec : {M : Type 1} → statement M
 take-spec =

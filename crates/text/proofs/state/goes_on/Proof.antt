@@ -1,8 +1,9 @@
+-- `text::state::goes_on` meets its contract.
 use borrow.Author.Needs.{needs}
+use mathlib.Core.Path.{sym, ap}
+use Rattle.text.specs.State.{goesOn}
 use Rattle.text.proofs.state.goes_on.Statement.{statement}
 use Rattle.text.proofs.state.goes_on.Tie as tie
-use Rattle.text.proofs.state.goes_on.Reads as reads
-use Rattle.text.proofs.state.goes_on.Lts as lts
 
 enum-told : tie.Need-enum-told
 enum-told c = search needs
@@ -17,16 +18,20 @@ enum-told-4 : tie.Need-enum-told-4
 enum-told-4 c = search needs
 
 returns : tie.Need-returns
-returns c = ?
+unfolding goesOn
+returns c = sym (ap goesOn (c .enum-told .given .1))
 
 returns-2 : tie.Need-returns-2
-returns-2 c = ?
+unfolding goesOn
+returns-2 c = sym (ap goesOn (c .enum-told2 .given .1))
 
 returns-3 : tie.Need-returns-3
-returns-3 c = ?
+unfolding goesOn
+returns-3 c = sym (ap goesOn (c .enum-told3 .given .1))
 
 returns-4 : tie.Need-returns-4
-returns-4 c = ?
+unfolding goesOn
+returns-4 c = sym (ap goesOn (c .enum-told4 .given .1))
 
 pub goes-on-spec : {M : Type 1} → statement M
 goes-on-spec =

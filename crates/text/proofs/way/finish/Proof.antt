@@ -1,10 +1,10 @@
+-- `text::way::finish` meets its contract.
 use borrow.Author.Needs.{needs}
+use mathlib.Core.Path.{sym, ap, _∙_}
+use Rattle.run.specs.Gate.{Given}
+use Rattle.text.specs.Way.{endedBy}
 use Rattle.text.proofs.way.finish.Statement.{statement}
 use Rattle.text.proofs.way.finish.Tie as tie
-use Rattle.text.proofs.way.finish.Reads as reads
-use Rattle.text.proofs.way.finish.Lts as lts
-use Rattle.run.proofs.forward.finish.Reads as forward-finish-reads
-use Rattle.run_back.proofs.back.finish.Reads as back-finish-reads
 
 enum-told : tie.Need-enum-told
 enum-told c = search needs
@@ -22,10 +22,14 @@ same-length : tie.Need-same-length
 same-length c = search needs
 
 returns : tie.Need-returns
-returns c = ?
+unfolding endedBy
+returns c = c .before .finish .ensures ∙ sym (ap (λ w. endedBy w (c .before .before .before .before .before .args .run) (c .before .before .before .before .before .args .out .now)) (c .before .before .before .enum-told .given .1))
 
 returns-2 : tie.Need-returns-2
-returns-2 c = ?
+unfolding endedBy
+returns-2 c =
+    ap (λ (g : Given). (g .0, g .1, c .before .before .before .args .out .now)) (c .finish2 .ensures)
+    ∙ sym (ap (λ w. endedBy w (c .before .before .before .args .run) (c .before .before .before .args .out .now)) (c .before .enum-told2 .given .1))
 
 pub finish-spec : {M : Type 1} → statement M
 finish-spec =

@@ -1,10 +1,10 @@
+-- `text::way::last_line` meets its contract.
 use borrow.Author.Needs.{needs}
+use native.Mathlib.Omega.{arith}
+use Rattle.lines.proofs.PutLaws.{put-then}
+use Rattle.text.specs.Way.{lastLine}
 use Rattle.text.proofs.way.last_line.Statement.{statement}
 use Rattle.text.proofs.way.last_line.Tie as tie
-use Rattle.text.proofs.way.last_line.Reads as reads
-use Rattle.text.proofs.way.last_line.Lts as lts
-use Rattle.lines.proofs.print.bytes.Reads as bytes-reads
-use Rattle.lines.proofs.print.end_line.Reads as end-line-reads
 
 end-line-requires : tie.Need-end-line-requires
 end-line-requires c κs = search needs
@@ -19,7 +19,11 @@ same-length : tie.Need-same-length
 same-length c = search needs
 
 returns : tie.Need-returns
-returns c = ?
+unfolding lastLine
+returns c =
+    let p = c .before .before .before .before .before .before .before .end-line .ensures in
+    let q = c .before .before .bytes .ensures in
+    (put-then (p .0) q, omega (arith, p .1, q .count))
 
 pub last-line-spec : {M : Type 1} → statement M
 last-line-spec =

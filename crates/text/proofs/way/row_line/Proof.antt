@@ -1,10 +1,10 @@
+-- `text::way::row_line` meets its contract.
 use borrow.Author.Needs.{needs}
+use native.Mathlib.Omega.{arith}
+use Rattle.lines.proofs.PutLaws.{put-then}
+use Rattle.text.specs.Way.{rowLine}
 use Rattle.text.proofs.way.row_line.Statement.{statement}
 use Rattle.text.proofs.way.row_line.Tie as tie
-use Rattle.text.proofs.way.row_line.Reads as reads
-use Rattle.text.proofs.way.row_line.Lts as lts
-use Rattle.lines.proofs.print.bytes.Reads as bytes-reads
-use Rattle.lines.proofs.print.numbers.Reads as numbers-reads
 
 numbers-requires : tie.Need-numbers-requires
 numbers-requires c κs = search needs
@@ -19,7 +19,11 @@ same-length : tie.Need-same-length
 same-length c = search needs
 
 returns : tie.Need-returns
-returns c = ?
+unfolding rowLine
+returns c =
+    let p = c .before .before .before .before .before .before .before .numbers .ensures in
+    let q = c .before .before .bytes .ensures in
+    (put-then (p .0) q, omega (arith, p .1, q .count))
 
 pub row-line-spec : {M : Type 1} → statement M
 row-line-spec =

@@ -1,10 +1,9 @@
+-- `text::way::take` meets its contract.
 use borrow.Author.Needs.{needs}
+use mathlib.Core.Path.{sym, ap, _∙_}
+use Rattle.text.specs.Way.{takenBy}
 use Rattle.text.proofs.way.take.Statement.{statement}
 use Rattle.text.proofs.way.take.Tie as tie
-use Rattle.text.proofs.way.take.Reads as reads
-use Rattle.text.proofs.way.take.Lts as lts
-use Rattle.run.proofs.forward.take.Reads as forward-take-reads
-use Rattle.run_back.proofs.back.take.Reads as back-take-reads
 
 enum-told : tie.Need-enum-told
 enum-told c = search needs
@@ -22,13 +21,15 @@ same-length : tie.Need-same-length
 same-length c = search needs
 
 returns : tie.Need-returns
-returns c = ?
+unfolding takenBy
+returns c = c .before .take .ensures ∙ sym (ap (λ w. takenBy w (c .before .before .before .before .before .args .run) (c .before .before .before .before .before .args .numbers .now) (c .before .before .before .before .before .args .out .now)) (c .before .before .before .enum-told .given .1))
 
 same-length-2 : tie.Need-same-length-2
 same-length-2 c = search needs
 
 returns-2 : tie.Need-returns-2
-returns-2 c = ?
+unfolding takenBy
+returns-2 c = c .before .take2 .ensures ∙ sym (ap (λ w. takenBy w (c .before .before .before .before .before .args .run) (c .before .before .before .before .before .args .numbers .now) (c .before .before .before .before .before .args .out .now)) (c .before .before .before .enum-told2 .given .1))
 
 pub take-spec : {M : Type 1} → statement M
 take-spec =

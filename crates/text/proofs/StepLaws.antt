@@ -1,0 +1,72 @@
+-- What one line gives, as the code decides it.
+use mathlib.Core.Path.{_≡_, refl, ap, _∙_}
+use mathlib.Core.Bool.{Bool, true, false, cond}
+use mathlib.Core.List.{List, [], _∷_, _++_}
+use Prim.Native.Nat.{ℕ, suc, _≤_, min}
+use native.Mathlib.Omega.{arith}
+use borrow.Author.Tests.{leb-true, ltb-true, eq-eqb, ne-eqb}
+use lib.Dec.{eqb}
+use lib.IntN.{ℤ}
+use lib.ListN.{take}
+use Rattle.run.specs.declared.record.Run.{Run}
+use Rattle.run.specs.Record.{zeros}
+use Rattle.run.specs.Gate as Gate
+use Rattle.run.specs.Gate.{ask, sound}
+use Rattle.run.specs.Forward.{ended}
+use Rattle.run.proofs.CallLaws.{every-answer}
+use Rattle.run.proofs.ReadyLaws.{zeros-part}
+use Rattle.run_back.specs.Back.{endedBack}
+use Rattle.lines.specs.Lines.{lineFeed, refusal}
+use Rattle.text.specs.declared.state.Way.{Way}
+use Rattle.text.specs.declared.state.State.{State}
+use Rattle.text.specs.declared.state.Way.the-variants.{Forward, Back}
+use Rattle.text.specs.declared.state.Phase.the-variants.{Over}
+use Rattle.text.specs.State.{Given, given, inPhase, lineNumber, refused}
+use Rattle.text.specs.Way.{output, endedBy, Closing}
+
+-- ---- what a call of the code gives
+pub given-text : (s : State) (n : ℕ) (text after : List ℕ) → take n after ≡ text → given (record { state = s; text = after; length = n }) ≡ (s, text)
+unfolding given
+given-text s n text after e = ap (λ (t : List ℕ). (s, t)) e
+
+pub told-pair : (answer : ℕ × ℕ) {a b : ℕ} → a ≡ answer .0 → b ≡ answer .1 → (a, b) ≡ answer
+told-pair (n, m) p q = rw (p, q)
+
+pub refused-by : (s : State) (number line place : ℕ) → line ≡ lineNumber (s .phase) (s .run)
+    → (record { way = s .way; phase = Over; run = s .run }, refusal number line place ++ (lineFeed ∷ [])) ≡ refused s (number, place)
+unfolding refused inPhase
+refused-by s number line place e = ap (λ n. (record { way = s .way; phase = Over; run = s .run }, refusal number n place ++ (lineFeed ∷ []))) e
+
+-- ---- an answer's number decides
+module _ (n : ℕ) (yes no : Given) where
+  pub works : n ≡ 0 → yes ≡ cond (eqb n 0) yes no
+  works e = rw (eq-eqb n 0 e)
+
+  pub works-not : (n ≡ 0 → ⊥) → no ≡ cond (eqb n 0) yes no
+  works-not e = rw (ne-eqb n 0 e)
+
+-- ---- a finish that works
+module _ (n : ℕ) (run : Run) (out : List ℤ) (next : Gate.Given) where
+  passed : (answer : Bool) → ask (suc n) answer run out next .0 .0 ≡ 0 → answer ≡ true
+  unfolding ask
+  passed true e = refl
+  passed false e = absurd (omega (arith, e))
+
+  follows : (answer : Bool) → ask (suc n) answer run out next .0 .0 ≡ 0 → next .0 .0 ≡ 0
+  unfolding ask
+  follows true e = e
+  follows false e = absurd (omega (arith, e))
+
+counted : (top : ℕ) (run : Run) → sound top run ≡ true → run .count ≤ top
+unfolding sound
+counted top run s = leb-true (run .count) top (every-answer _ s 1)
+
+pub closing : (way : Way) (run : Run) (out : List ℤ) → endedBy way run out .0 .0 ≡ 0 → Closing way (run .count)
+unfolding endedBy Closing ended endedBack
+closing Forward run out e = omega (arith, counted _ run (passed _ run out _ _ e))
+closing Back run out e = ltb-true 0 (run .count) (passed _ run [] _ _ (follows _ run [] _ _ (follows _ run [] _ _ e)))
+
+-- ---- the output that a call is lent
+pub output-room : (run : Run) (n : ℕ) (room : List ℤ) → n ≡ min (run .width) 128 → n ≤ 128 → room ≡ zeros 128 → take n room ≡ output run
+unfolding output
+output-room run n room e l z = ap (take n) z ∙ zeros-part n 128 l ∙ ap zeros e
