@@ -16,13 +16,14 @@ use Rattle.run.specs.Forward.{ended}
 use Rattle.run.proofs.CallLaws.{every-answer}
 use Rattle.run.proofs.ReadyLaws.{zeros-part}
 use Rattle.run_back.specs.Back.{endedBack}
-use Rattle.lines.specs.Lines.{lineFeed, refusal}
+use Rattle.lines.specs.Lines.{lineFeed, refusal, same, endLine, numbersIn}
 use Rattle.text.specs.declared.state.Way.{Way}
 use Rattle.text.specs.declared.state.State.{State}
 use Rattle.text.specs.declared.state.Way.the-variants.{Forward, Back}
-use Rattle.text.specs.declared.state.Phase.the-variants.{Over}
+use Rattle.text.specs.declared.state.Phase.the-variants.{Ended, Over}
 use Rattle.text.specs.State.{Given, given, inPhase, lineNumber, refused}
 use Rattle.text.specs.Way.{output, endedBy, Closing}
+use Rattle.text.specs.Line.{rowTaken, betweenTaken}
 
 -- ---- what a call of the code gives
 pub given-text : (s : State) (n : ℕ) (text after : List ℕ) → take n after ≡ text → given (record { state = s; text = after; length = n }) ≡ (s, text)
@@ -70,3 +71,13 @@ closing Back run out e = ltb-true 0 (run .count) (passed _ run [] _ _ (follows _
 pub output-room : (run : Run) (n : ℕ) (room : List ℤ) → n ≡ min (run .width) 128 → n ≤ 128 → room ≡ zeros 128 → take n room ≡ output run
 unfolding output
 output-room run n room e l z = ap (take n) z ∙ zeros-part n 128 l ∙ ap zeros e
+
+-- ---- a line between
+module _ (s : State) (bytes : List ℕ) where
+  pub end-taken : same bytes (endLine (s .run .count)) ≡ true → (inPhase Ended s, []) ≡ betweenTaken s bytes
+  unfolding betweenTaken
+  end-taken e = rw e
+
+  pub row-taken : same bytes (endLine (s .run .count)) ≡ false → rowTaken s (numbersIn bytes) ≡ betweenTaken s bytes
+  unfolding betweenTaken
+  row-taken e = rw e

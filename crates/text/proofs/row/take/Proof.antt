@@ -2,7 +2,7 @@
 use borrow.Author.Needs.{needs}
 use mathlib.Core.Path.{sym, _∙_}
 use Rattle.text.specs.State.{inPhase}
-use Rattle.text.specs.Line.{betweenTaken}
+use Rattle.text.proofs.StepLaws.{end-taken, row-taken}
 use Rattle.text.proofs.row.take.Statement.{statement}
 use Rattle.text.proofs.row.take.Tie as tie
 
@@ -13,15 +13,14 @@ silent-requires : tie.Need-silent-requires
 silent-requires c κs = search needs
 
 returns : tie.Need-returns
-unfolding betweenTaken inPhase
-returns c = (c .silent .ensures .0 ∙ rw (sym (c .before .before .is-end .ensures) ∙ c .before .if1 .taken), c .silent .ensures .1)
+unfolding inPhase
+returns c = (c .silent .ensures .0 ∙ end-taken _ _ (sym (c .before .before .is-end .ensures) ∙ c .before .if1 .taken), c .silent .ensures .1)
 
 take-row-requires : tie.Need-take-row-requires
 take-row-requires c κs = search needs
 
 returns-2 : tie.Need-returns-2
-unfolding betweenTaken
-returns-2 c = (c .take-row .ensures .0 ∙ rw (sym (c .before .before .is-end .ensures) ∙ c .before .if1 .left), c .take-row .ensures .1)
+returns-2 c = (c .take-row .ensures .0 ∙ row-taken _ _ (sym (c .before .before .is-end .ensures) ∙ c .before .if1 .left), c .take-row .ensures .1)
 
 pub take-spec : {M : Type 1} → statement M
 take-spec =
