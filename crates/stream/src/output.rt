@@ -15,7 +15,9 @@ pub struct Progress {
     pub waiting: usize,
 }
 
-fn over(state: State) -> State {
+// A program has no exit status, so it says so on standard error.
+fn failed(state: State) -> State {
+    io::write_all(2, b"the output cannot be written\n");
     let way = state.way;
     let run = state.run;
     State {
@@ -40,7 +42,7 @@ pub fn write(output: i32, printed: &[u8], progress: Progress) -> Progress
         };
     }
     Progress {
-        state: over(state),
+        state: failed(state),
         had: progress.had,
         waiting: 0,
     }

@@ -14,8 +14,8 @@ write-all-requires c κs = search needs
 returns : tie.Need-returns
 returns c = search needs
 
-over-requires : tie.Need-over-requires
-over-requires c κs = search needs
+failed-requires : tie.Need-failed-requires
+failed-requires c κs = search needs
 
 returns-2 : tie.Need-returns-2
 returns-2 c = search needs
@@ -23,4 +23,4 @@ returns-2 c = search needs
 pub write-spec : {M : Type 1} → statement M
 write-spec =
     tie.close
-    (tie.spec slice-aggregate-write-all write-all-requires returns over-requires returns-2)
+    (tie.spec slice-aggregate-write-all write-all-requires returns failed-requires returns-2)
