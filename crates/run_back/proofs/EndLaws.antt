@@ -1,4 +1,4 @@
--- The answer that a fault is given, and what the gate says to a finish back, question by question.
+-- What the gate says to a finish back, question by question.
 use mathlib.Core.Path.{_≡_, refl}
 use mathlib.Core.Bool.{true, false}
 use mathlib.Core.List.{[]}
@@ -15,28 +15,7 @@ use Rattle.run_back.specs.declared.undo.Fault.{Fault}
 use Rattle.run_back.specs.Faults.{toldFault}
 use Rattle.run_back.specs.Back.{firstHeld, endedBack}
 
-module _ (place : ℕ) where
-  pub told-range : told (Answer.Range place) ≡ toldFault (Fault.Range place)
-  unfolding told toldFault
-  told-range = refl
-
-  pub told-folded : told (Answer.Folded place) ≡ toldFault (Fault.Folded place)
-  unfolding told toldFault
-  told-folded = refl
-
-  pub told-halves : told (Answer.Halves place) ≡ toldFault (Fault.Halves place)
-  unfolding told toldFault
-  told-halves = refl
-
-  pub told-unfolded : told (Answer.Unfolded place) ≡ toldFault (Fault.Unfolded place)
-  unfolding told toldFault
-  told-unfolded = refl
-
-pub told-clear : told Answer.Done ≡ toldFault Fault.Clear
-unfolding told toldFault
-told-clear = refl
-
--- ---- questions 2, 3, 5 and 11 to a finish
+-- questions 2, 3, 5 and 11
 module _ (run : Run) where
   pub end-record-refused : sound frameLimit run ≡ false → (told Answer.Record, run, []) ≡ endedBack run
   unfolding told endedBack ask

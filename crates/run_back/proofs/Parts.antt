@@ -4,7 +4,7 @@ use mathlib.Core.List.{List, [], _∷_, _++_}
 use Prim.Native.Nat.{ℕ, zero, suc, _*_}
 use native.Mathlib.Omega.{arith}
 use lib.IntN.{ℤ}
-use lib.ListN.{length, take, drop, length-append, length-drop, take-append-drop}
+use lib.ListN.{length, take, drop, length-append, length-drop, take-append-drop, drop-of-length-le}
 use lib.Seq.{length-take-le, take-at, drop-at}
 use Rattle.integers.specs.Vectors.{AllAbs, Rows}
 use Rattle.integers.proofs.Products.{all-append}
@@ -30,8 +30,7 @@ length-parts N (suc b) xs = ap suc (length-parts N b (drop N xs))
 
 pub joined-parts : (N b : ℕ) (xs : List ℤ) → length xs ≡ b * N → joined (partsOf N b xs) ≡ xs
 unfolding joined partsOf
-joined-parts N zero [] l = refl
-joined-parts N zero (x ∷ xs) l = absurd (omega arith)
+joined-parts N zero xs l = sym (drop-of-length-le xs {i = 0} (omega arith))
 joined-parts N (suc b) xs l = ap (λ (ys : List ℤ). take N xs ++ ys) (joined-parts N b (drop N xs) (omega (arith, length-drop N xs))) ∙ take-append-drop N xs
 
 -- ---- blocks of readings in range
