@@ -10,12 +10,11 @@ use Rattle.steps.specs.Steps.{lower, held, frame, unfolded}
 use Rattle.steps.proofs.Undo.{width-half, lower-unfolded, held-unfolded}
 use Rattle.steps.proofs.ZeroBlock.{lower-zeros}
 use Rattle.distance.specs.Statement.{IsWidth}
-use Rattle.run.specs.declared.record.Run.{Run}
-use Rattle.run.specs.Record.{frameLimit, zeros, opened}
+use Rattle.run.specs.Record.{frameLimit, opened}
 use Rattle.run.specs.Calls.{blockAt}
 use Rattle.run.specs.Whole.{joined}
 use Rattle.run.proofs.EveryList.{AllBlocks, blocks-none, blocks-one}
-use Rattle.run_back.specs.Back.{takenBack, endedBack}
+use Rattle.run_back.specs.Back.{takenBack}
 use Rattle.run_back.specs.Whole.{placed, answerFrom, outputsFrom}
 use Rattle.run_back.proofs.BackLaws.{ReachedBack, back-block, lowHalf, highHalf, frame-long, later-taken, ended-works}
 use Rattle.run_back.proofs.LoopLaws.{answer-next, outputs-next, here-taken}
