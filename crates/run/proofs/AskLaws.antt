@@ -104,7 +104,7 @@ module _ (top : ℕ) (run : Run) (out : List ℤ) (next : Given) where
   unfolding told ask
   closed-refused s e = rw (s, e)
 
--- ---- and 4, 6 and 7
+-- ---- questions 4, 6 and 7 to a block or a frame
 module _ (top : ℕ) (run : Run) (given out : List ℤ) (next : Given) (s : sound top run ≡ true) (o : run .finished ≡ false) where
   pub full-refused : run .count ≡ top → (told Full, run, out) ≡ admitted top run given out next
   unfolding told admitted ask
@@ -128,7 +128,7 @@ module _ (top : ℕ) (run : Run) (given out : List ℤ) (next : Given) (s : soun
       unfolding admitted ask
       lengths-passed m = rw (s, o, lt-ltb (run .count) top (omega (arith, n, counted)), eq-eqb _ _ l, eq-eqb _ _ m)
 
--- ---- and 7 to a finish
+-- ---- question 7 to a finish
 module _ (run : Run) (out : List ℤ) (s : sound blockLimit run ≡ true) (o : run .finished ≡ false) where
   pub end-output-refused : (length out ≡ run .width → ⊥) → (told OutputLength, run, out) ≡ ended run out
   unfolding told ended ask

@@ -31,18 +31,18 @@ clear-told (Dead place) e = absurd (omega arith)
 clear-told (Beyond place) e = absurd (omega arith)
 clear-told Clear e = refl
 
-clear-both : (before : ℕ) (f rest : Fault) → toldFault (faultFrom before f rest) .0 ≡ 0 → (f ≡ Clear) × (rest ≡ Clear)
-unfolding toldFault faultFrom
-clear-both before (Dead place) rest e = absurd (omega arith)
-clear-both before (Beyond place) rest e = absurd (omega arith)
-clear-both before Clear rest e = (refl, clear-told rest e)
+clear-both : (before : ℕ) (f rest : Fault) → faultFrom before f rest ≡ Clear → (f ≡ Clear) × (rest ≡ Clear)
+unfolding faultFrom
+clear-both before (Dead place) rest e = (cc, cc)
+clear-both before (Beyond place) rest e = (cc, cc)
+clear-both before Clear rest e = (refl, e)
 
 clear-readings : (N b before : ℕ) (xs : List ℤ) → length xs ≡ b * N → firstFault N before b xs ≡ Clear → AllAbs readingLimit xs
-unfolding firstFault toldFault
+unfolding firstFault
 clear-readings N zero before [] l e = tt
 clear-readings N zero before (x ∷ xs) l e = absurd (omega arith)
 clear-readings N (suc b) before xs l e =
-    let both = clear-both before (faultOf (take N xs)) (firstFault N (before + N) b (drop N xs)) (ap (λ f. toldFault f .0) e) in
+    let both = clear-both before (faultOf (take N xs)) (firstFault N (before + N) b (drop N xs)) e in
     subst (AllAbs readingLimit) (take-append-drop N xs)
     (all-append readingLimit (take N xs) (drop N xs) (all-within readingLimit (take N xs) (clear-within (take N xs) (both .0))) (clear-readings N b (before + N) (drop N xs) (omega (arith, length-drop N xs)) (both .1)))
 

@@ -1,4 +1,4 @@
--- An answer's place counted through the run, answer by answer.
+-- An answer's place counted through the run.
 use mathlib.Core.Path.{_≡_, sym, ap, subst}
 use Prim.Native.Nat.{ℕ, _+_, _-_, _≤_, _<_}
 use native.Mathlib.Omega.{arith}

@@ -2,7 +2,7 @@
 use mathlib.Core.Path.{_≡_, refl, sym, ap, ap₂, _∙_}
 use mathlib.Core.Bool.{Bool, true, false, cond, _&&_, and-eq-true-iff}
 use mathlib.Core.List.{List, _++_}
-use Prim.Native.Nat.{ℕ, zero, suc, _+_, _*_, _/_, _%_, _≤_, _<_}
+use Prim.Native.Nat.{ℕ, suc, _+_, _-_, _*_, _/_, _%_, _≤_, _<_}
 use native.Mathlib.Nat.{div-add-mod', mul-div-cancel}
 use native.Mathlib.Omega.{arith}
 use borrow.Author.Tests.{ltb-true, leb-true, eqb-true, ne-eqb}
@@ -25,11 +25,11 @@ use Rattle.run.specs.Calls.{blockAt, frameAt}
 use Rattle.run.specs.Whole.{joined}
 use Rattle.run.proofs.EveryList.{AllBlocks}
 use Rattle.run.proofs.FaultLaws.{width-pos}
-use Rattle.run.proofs.WholeLaws.{whole-blocks, frames-long}
+use Rattle.run.proofs.WholeLaws.{frames-long}
 use Rattle.run_back.specs.Back.{takenBack}
 use Rattle.run_back.specs.Whole.{allOutputs, firstAnswer, oneByOne, wholeBack}
 use Rattle.run_back.proofs.BackLaws.{started-back, lowHalf, back-one, frame-long, first-taken}
-use Rattle.run_back.proofs.LoopLaws.{first-yes, first-behind, outputs-behind}
+use Rattle.run_back.proofs.LoopLaws.{frames-whole, first-yes, first-behind, outputs-behind}
 use Rattle.run_back.proofs.WholeBackLaws.{first-zero, lengths-passed, whole-done}
 use Rattle.run_back.proofs.MadeFrames.{framesAfter, allFrames, all-frames}
 use Rattle.run_back.proofs.Parts.{length-joined}
@@ -138,11 +138,10 @@ module _ (N : ℕ) (w : IsWidth N) (frames out : List ℤ) (right : LengthsRight
       }
 
   pub made-of : MadeOf N frames out
-  made-of = by (length frames / N) refl
-    where
-      by : (b : ℕ) → length frames / N ≡ b → MadeOf N frames out
-      by zero d = let l = rw d at (whole-blocks N frames (right .even)) in absurd (omega (arith, right .some))
-      by (suc n) d = made-by n (rw d at (whole-blocks N frames (right .even))) (omega (arith, right .few))
+  made-of =
+      let f = frames-whole N frames w (right .even) (right .few) (right .some) in
+      let d : length frames / N ≡ suc (length frames / N - 1) = omega (arith, f .some) in
+      made-by (length frames / N - 1) (rw d at (f .whole)) (omega (arith, right .few))
 
 pub accepted-whole : (N : ℕ) → IsWidth N → (frames out : List ℤ) → wholeBack N frames out .0 ≡ (0, 0) → MadeOf N frames out
 unfolding oneByOne
