@@ -1,4 +1,4 @@
-// A frame from its folded values, and the fold of a block; each with its way back. The tables are expanded for each call.
+// A frame from its folded values by the five stages, and its way back. The tables are expanded for each call.
 ghost use mathlib.Core.Bool.{cond};
 ghost use mathlib.Core.Path.{_≡_};
 ghost use Prim.Native.Nat.{_+_, _<_};

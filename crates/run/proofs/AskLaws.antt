@@ -1,6 +1,6 @@
 -- What the gate says to a fresh start, to a block and to a finish, question by question; and a block's fault.
 use mathlib.Core.Path.{_≡_, refl, sym, ap, _∙_}
-use mathlib.Core.Bool.{Bool, true, false, false≢true}
+use mathlib.Core.Bool.{true, false, not}
 use mathlib.Core.List.{List, []}
 use Prim.Native.Nat.{ℕ, _≤_}
 use native.Mathlib.Omega.{arith}
@@ -56,15 +56,10 @@ module _ (block : List ℤ) where
     unfolding faultOf faultBy
     none-found e = rw (d, e)
 
-isClear : Fault → Bool
-isClear (Dead place) = false
-isClear (Beyond place) = false
-isClear Clear = true
-
 clear-inside : (f g : Found) → faultBy f g ≡ Clear → g ≡ Nothing
-unfolding faultBy isClear
-clear-inside (At place) g e = absurd (false≢true (ap isClear e))
-clear-inside Nothing (At place) e = absurd (false≢true (ap isClear e))
+unfolding faultBy
+clear-inside (At place) g e = cc
+clear-inside Nothing (At place) e = cc
 clear-inside Nothing Nothing e = refl
 
 pub clear-within : (block : List ℤ) → faultOf block ≡ Clear → Within readingLimit block
@@ -99,56 +94,46 @@ module _ (run : Run) (block out : List ℤ) where
   unfolding told byFault
   taken-done e = by-fault Clear e
 
--- ---- questions 2, 3, 4, 6 and 7
-module _ (top : ℕ) (run : Run) (given out : List ℤ) (next : Given) where
-  pub record-refused : sound top run ≡ false → (told Record, run, out) ≡ admitted top run given out next
-  unfolding told admitted ask
+-- ---- questions 2 and 3, to a block, a frame or a finish
+module _ (top : ℕ) (run : Run) (out : List ℤ) (next : Given) where
+  pub record-refused : sound top run ≡ false → (told Record, run, out) ≡ ask 2 (sound top run) run out next
+  unfolding told ask
   record-refused e = rw e
 
-  module _ (s : sound top run ≡ true) where
-    pub closed-refused : run .finished ≡ true → (told Closed, run, out) ≡ admitted top run given out next
+  pub closed-refused : sound top run ≡ true → run .finished ≡ true → (told Closed, run, out) ≡ ask 2 (sound top run) run out (ask 3 (not (run .finished)) run out next)
+  unfolding told ask
+  closed-refused s e = rw (s, e)
+
+-- ---- questions 4, 6 and 7 to a block or a frame
+module _ (top : ℕ) (run : Run) (given out : List ℤ) (next : Given) (s : sound top run ≡ true) (o : run .finished ≡ false) where
+  pub full-refused : run .count ≡ top → (told Full, run, out) ≡ admitted top run given out next
+  unfolding told admitted ask
+  full-refused e = rw (s, o, le-ltb (run .count) top (omega (arith, e)))
+
+  module _ (n : run .count ≡ top → ⊥) where
+    counted : run .count ≤ top
+    unfolding sound
+    counted = leb-true _ _ (every-answer _ s 1)
+
+    pub input-refused : (length given ≡ run .width → ⊥) → (told InputLength, run, out) ≡ admitted top run given out next
     unfolding told admitted ask
-    closed-refused e = rw (s, e)
+    input-refused e = rw (s, o, lt-ltb (run .count) top (omega (arith, n, counted)), ne-eqb _ _ e)
 
-    module _ (o : run .finished ≡ false) where
-      pub full-refused : run .count ≡ top → (told Full, run, out) ≡ admitted top run given out next
+    module _ (l : length given ≡ run .width) where
+      pub output-refused : (length out ≡ run .width → ⊥) → (told OutputLength, run, out) ≡ admitted top run given out next
       unfolding told admitted ask
-      full-refused e = rw (s, o, le-ltb (run .count) top (omega (arith, e)))
+      output-refused e = rw (s, o, lt-ltb (run .count) top (omega (arith, n, counted)), eq-eqb _ _ l, ne-eqb _ _ e)
 
-      module _ (n : run .count ≡ top → ⊥) where
-        counted : run .count ≤ top
-        unfolding sound
-        counted = leb-true _ _ (every-answer _ s 1)
+      pub lengths-passed : length out ≡ run .width → next ≡ admitted top run given out next
+      unfolding admitted ask
+      lengths-passed m = rw (s, o, lt-ltb (run .count) top (omega (arith, n, counted)), eq-eqb _ _ l, eq-eqb _ _ m)
 
-        pub input-refused : (length given ≡ run .width → ⊥) → (told InputLength, run, out) ≡ admitted top run given out next
-        unfolding told admitted ask
-        input-refused e = rw (s, o, lt-ltb (run .count) top (omega (arith, n, counted)), ne-eqb _ _ e)
-
-        module _ (l : length given ≡ run .width) where
-          pub output-refused : (length out ≡ run .width → ⊥) → (told OutputLength, run, out) ≡ admitted top run given out next
-          unfolding told admitted ask
-          output-refused e = rw (s, o, lt-ltb (run .count) top (omega (arith, n, counted)), eq-eqb _ _ l, ne-eqb _ _ e)
-
-          pub lengths-passed : length out ≡ run .width → next ≡ admitted top run given out next
-          unfolding admitted ask
-          lengths-passed m = rw (s, o, lt-ltb (run .count) top (omega (arith, n, counted)), eq-eqb _ _ l, eq-eqb _ _ m)
-
--- ---- questions 2, 3 and 7 to a finish
-module _ (run : Run) (out : List ℤ) where
-  pub end-record-refused : sound blockLimit run ≡ false → (told Record, run, out) ≡ ended run out
+-- ---- question 7 to a finish
+module _ (run : Run) (out : List ℤ) (s : sound blockLimit run ≡ true) (o : run .finished ≡ false) where
+  pub end-output-refused : (length out ≡ run .width → ⊥) → (told OutputLength, run, out) ≡ ended run out
   unfolding told ended ask
-  end-record-refused e = rw e
+  end-output-refused e = rw (s, o, ne-eqb _ _ e)
 
-  module _ (s : sound blockLimit run ≡ true) where
-    pub end-closed-refused : run .finished ≡ true → (told Closed, run, out) ≡ ended run out
-    unfolding told ended ask
-    end-closed-refused e = rw (s, e)
-
-    module _ (o : run .finished ≡ false) where
-      pub end-output-refused : (length out ≡ run .width → ⊥) → (told OutputLength, run, out) ≡ ended run out
-      unfolding told ended ask
-      end-output-refused e = rw (s, o, ne-eqb _ _ e)
-
-      pub ended-done : length out ≡ run .width → (told Done, closed run, frameOn run (zeros (run .width))) ≡ ended run out
-      unfolding told ended ask
-      ended-done e = rw (s, o, eq-eqb _ _ e)
+  pub ended-done : length out ≡ run .width → (told Done, closed run, frameOn run (zeros (run .width))) ≡ ended run out
+  unfolding told ended ask
+  ended-done e = rw (s, o, eq-eqb _ _ e)

@@ -5,9 +5,10 @@ use mathlib.Core.List.{List, [], _∷_, _++_}
 use Prim.Native.Nat.{ℕ, zero, suc, _+_, _-_, _≤_}
 use native.Mathlib.Omega.{arith}
 use borrow.Author.Tests.{ltb-true, leb-true}
-use lib.IntN.{ℤ, pos, negsuc, natAbs}
+use lib.IntN.{ℤ, pos}
 use lib.ListN.{length, take, drop, length-drop}
 use Rattle.integers.specs.Vectors.{AllAbs}
+use Rattle.integers.proofs.Order.{natAbs-zero}
 use Rattle.integers.proofs.PlaceLaws.{within-all}
 use Rattle.tables.specs.Widths.{halfWidth}
 use Rattle.steps.specs.Limits.{foldedLimit}
@@ -21,14 +22,9 @@ use Rattle.run.specs.Ready.{Ready}
 use Rattle.run.proofs.Searches.{all-inside}
 use Rattle.run.proofs.CallLaws.{every-answer}
 
-zero-size : (x : ℤ) → natAbs x ≤ 0 → x ≡ pos 0
-zero-size (pos zero) h = refl
-zero-size (pos (suc n)) h = absurd (omega arith)
-zero-size (negsuc n) h = absurd (omega arith)
-
 pub zeros-are : (xs : List ℤ) → AllAbs 0 xs → xs ≡ zeros (length xs)
 zeros-are [] h = refl
-zeros-are (x ∷ xs) h = ap₂ (λ (y : ℤ) (ys : List ℤ). y ∷ ys) (zero-size x (h .0)) (zeros-are xs (h .1))
+zeros-are (x ∷ xs) h = ap₂ (λ (y : ℤ) (ys : List ℤ). y ∷ ys) (natAbs-zero x (omega (arith, h .0))) (zeros-are xs (h .1))
 
 -- zeros in front of zeros
 pub zeros-part : (n m : ℕ) → n ≤ m → take n (zeros m) ≡ zeros n

@@ -8,9 +8,10 @@ use borrow.Author.Tests.{lt-ltb, le-leb, eqb-true}
 use lib.Dec.{eqb, lit≤}
 use lib.IntN.{ℤ, pos}
 use lib.ListN.{length, take, drop, length-replicate, replicate-append-replicate}
-use lib.Seq.{take-at, drop-at, getD-drop}
+use lib.Seq.{take-at, drop-at}
 use Rattle.integers.specs.Vectors.{AllAbs}
-use Rattle.integers.proofs.Products.{all-append, all-getD, getD-all}
+use Rattle.integers.proofs.PlaceLaws.{within-all}
+use Rattle.integers.proofs.Products.{all-append}
 use Rattle.tables.specs.Widths.{halfWidth}
 use Rattle.tables.proofs.ByWidth.{half-width-le}
 use Rattle.steps.specs.Limits.{readingLimit, foldedLimit}
@@ -18,11 +19,13 @@ use Rattle.steps.specs.Steps.{held}
 use Rattle.steps.proofs.Undo.{length-held}
 use Rattle.steps.proofs.Rotation.{held-gate}
 use Rattle.steps.proofs.ZeroBlock.{held-zeros}
+use Rattle.lifting.proofs.FrameLaws.{take-within, drop-within}
 use Rattle.distance.specs.Statement.{IsWidth, Block}
 use Rattle.distance.proofs.ZeroBlock.{zero-block}
 use Rattle.run.specs.declared.record.Run.{Run}
 use Rattle.run.specs.Record.{blockLimit, zeros, filled, opened, closed}
 use Rattle.run.specs.Gate.{every, sound}
+use Rattle.run.proofs.StepLaws.{all-within}
 use Rattle.run.proofs.Searches.{inside-all}
 
 -- ---- held values, with zeros up to 64
@@ -57,8 +60,11 @@ all-filled : (l : ℕ) (xs : List ℤ) → AllAbs l xs → AllAbs l (filled xs)
 unfolding filled
 all-filled l xs h = all-append l xs (zeros (64 - length xs)) h (all-zeros l (64 - length xs))
 
-all-drop : (l n : ℕ) (xs : List ℤ) → AllAbs l xs → AllAbs l (drop n xs)
-all-drop l n xs h = all-getD l (drop n xs) (λ i _. rw getD-drop (getD-all l xs h (n + i)))
+pub all-take : (l n : ℕ) (xs : List ℤ) → AllAbs l xs → AllAbs l (take n xs)
+all-take l n xs h = all-within l _ (take-within n l xs (within-all l xs h) n)
+
+pub all-drop : (l n : ℕ) (xs : List ℤ) → AllAbs l xs → AllAbs l (drop n xs)
+all-drop l n xs h = all-within l _ (drop-within n l xs (within-all l xs h) n)
 
 unless : (a b : Bool) → (a ≡ true → b ≡ true) → (not a || b) ≡ true
 unless true b h = h refl

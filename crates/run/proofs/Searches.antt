@@ -6,12 +6,12 @@ use Prim.Native.Nat.{ℕ, suc}
 use borrow.Author.Tests.{le-ltb}
 use lib.IntN.{ℤ, pos, natAbs}
 use Rattle.integers.specs.Vectors.{AllAbs}
-use Rattle.integers.proofs.Products.{all-getD}
 use Rattle.lifting.specs.Gate.{first, beyond, firstBeyond}
 use Rattle.lifting.specs.declared.gate.Found.{Found}
 use Rattle.lifting.specs.declared.gate.Found.the-variants.{At, Nothing}
 use Rattle.lifting.proofs.GateLaws.{none-within}
 use Rattle.run.specs.Gate.{nothing, inside}
+use Rattle.run.proofs.StepLaws.{all-within}
 
 -- each number of a list has a property
 abbrev pub All : (ℤ → Type 0) → List ℤ → Type 0
@@ -39,4 +39,4 @@ nothing-is (At i) e = absurd (false≢true e)
 nothing-is Nothing e = refl
 
 pub all-inside : (l : ℕ) (xs : List ℤ) → nothing (firstBeyond (pos l) xs 0) ≡ true → AllAbs l xs
-all-inside l xs e = all-getD l xs (λ i h. none-within l xs (nothing-is _ e) .size i)
+all-inside l xs e = all-within l xs (none-within l xs (nothing-is _ e))

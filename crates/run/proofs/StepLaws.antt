@@ -18,13 +18,13 @@ use Rattle.lifting.proofs.FrameLaws.{stages-within}
 pub all-within : (B : ℕ) (xs : List ℤ) → Within B xs → AllAbs B xs
 all-within B xs h = all-getD B xs (λ i l. h .size i)
 
+pub length-frame : (N : ℕ) (previous block : List ℤ) → 0 < halfWidth N → length (frame N previous block) ≡ N
+unfolding frame
+length-frame N previous block wide = length-stages N (lower N block ++ previous) ∙ width-half N wide
+
 module _ (N : ℕ) (previous block : List ℤ) (wide : 0 < halfWidth N) (long : length previous ≡ halfWidth N) where
   pub folded-long : length (lower N block ++ previous) ≡ N
   folded-long = length-append (lower N block) previous ∙ ap₂ _+_ (length-lower N block) long ∙ width-half N wide
-
-  pub frame-long : length (frame N previous block) ≡ N
-  unfolding frame
-  frame-long = length-stages N (lower N block ++ previous) ∙ width-half N wide
 
   module _ (p : Within foldedLimit previous) (b : Within readingLimit block) where
     pub folded-within : Within foldedLimit (lower N block ++ previous)

@@ -15,19 +15,18 @@ use Rattle.integers.specs.Vectors.{Rows}
 use Rattle.integers.proofs.PlaceLaws.{length-tab}
 use Rattle.tables.specs.Widths.{halfWidth}
 use Rattle.lifting.specs.Gate.{told}
-use Rattle.steps.specs.Steps.{frame}
-use Rattle.lifting.specs.declared.gate.Answer.the-variants.{Done, Width, InputLength, OutputLength, DeadMark, Range}
-use Rattle.steps.proofs.Undo.{length-stages, width-half}
+use Rattle.lifting.specs.declared.gate.Answer.the-variants.{Width, InputLength, OutputLength}
 use Rattle.distance.specs.Statement.{IsWidth}
 use Rattle.run.specs.declared.record.Run.{Run}
 use Rattle.run.specs.declared.gate.Fault.{Fault}
-use Rattle.run.specs.declared.gate.Fault.the-variants.{Dead, Beyond, Clear}
+use Rattle.run.specs.declared.gate.Fault.the-variants.{Clear}
 use Rattle.run.specs.Record.{blockLimit, zeros}
 use Rattle.run.specs.Forward.{started}
 use Rattle.run.specs.Calls.{Call, Made, made, works, workings, framesGiven, kept, working, blocksOf, frameAt}
 use Rattle.run.specs.Whole.{callsOf, firstRefusal, outputs, oneByOne, wholeForward, partsOf, blocksIn, joined, WholeRun}
 use Rattle.run.specs.Lists.{madeFrom, blocksTaken}
 use Rattle.run.specs.Faults.{toldFault, firstFault}
+use Rattle.run.proofs.StepLaws.{length-frame}
 use Rattle.run.proofs.RecordLaws.{reached-first}
 use Rattle.run.proofs.EveryList.{started-open, every-list}
 use Rattle.run.proofs.FirstRefusal.{first-refusal}
@@ -85,8 +84,8 @@ rows-tab N f h zero i = tt
 rows-tab N f h (suc n) i = (h i, rows-tab N f h n (suc i))
 
 pub frames-long : (N : ℕ) → IsWidth N → (blocks : List (List ℤ)) (n : ℕ) → Rows N (tab (frameAt N blocks) n 0)
-unfolding frameAt frame
-frames-long N w blocks n = rows-tab N (frameAt N blocks) (λ i. length-stages N _ ∙ width-half N w) n 0
+unfolding frameAt
+frames-long N w blocks n = rows-tab N (frameAt N blocks) (λ i. length-frame N _ _ w) n 0
 
 module _ (N : ℕ) (w : IsWidth N) (readings out : List ℤ) (whole : length readings ≡ length readings / N * N) (few : length readings / N ≤ blockLimit)
     (room : length out ≡ length readings + N) where
@@ -128,41 +127,9 @@ module _ (N : ℕ) (w : IsWidth N) (readings out : List ℤ) (whole : length rea
         }
 
 -- ---- what the gate says of a whole run
-pub told-dead : (place : ℕ) → told (DeadMark place) ≡ toldFault (Dead place)
-unfolding told toldFault
-told-dead place = refl
-
-pub told-beyond : (place : ℕ) → told (Range place) ≡ toldFault (Beyond place)
-unfolding told toldFault
-told-beyond place = refl
-
-pub told-done : told Done ≡ (0, 0)
-unfolding told
-told-done = refl
-
 -- a refusal is no (0, 0)
-numbered : (n place : ℕ) → _≡_ {A = ℕ × ℕ} (suc n, place) (0, 0) → ⊥
+pub numbered : (n place : ℕ) → _≡_ {A = ℕ × ℕ} (suc n, place) (0, 0) → ⊥
 numbered n place e = let z : suc n ≡ 0 = ap (λ (p : ℕ × ℕ). p .0) e in omega arith
-
-pub width-numbered : told Width ≡ (0, 0) → ⊥
-unfolding told
-width-numbered = numbered 0 0
-
-pub input-numbered : told InputLength ≡ (0, 0) → ⊥
-unfolding told
-input-numbered = numbered 5 0
-
-pub output-numbered : told OutputLength ≡ (0, 0) → ⊥
-unfolding told
-output-numbered = numbered 6 0
-
-pub dead-numbered : (place : ℕ) → told (DeadMark place) ≡ (0, 0) → ⊥
-unfolding told
-dead-numbered place = numbered 7 place
-
-pub range-numbered : (place : ℕ) → told (Range place) ≡ (0, 0) → ⊥
-unfolding told
-range-numbered place = numbered 8 place
 
 pub whole-blocks : (N : ℕ) (readings : List ℤ) → length readings % N ≡ 0 → length readings ≡ length readings / N * N
 whole-blocks N readings e = omega (arith, div-add-mod' (length readings) N)
@@ -197,14 +164,6 @@ module _ (N : ℕ) (readings out : List ℤ) where
         pub by-fault : (f : Fault) → firstFault N 0 (length readings / N) readings ≡ f → (toldFault f, cond (eqb (toldFault f .0) 0) (outputs (callsMade N readings out)) out) ≡ wholeForward N readings out
         unfolding oneByOne
         by-fault f d = rw (← lengths-passed, refusal-is N (omega (arith, w)) readings out (whole-blocks N readings e) few room, d)
-
-        pub dead-refused : (place : ℕ) → firstFault N 0 (length readings / N) readings ≡ Dead place → (toldFault (Dead place), out) ≡ wholeForward N readings out
-        unfolding toldFault
-        dead-refused place d = by-fault (Dead place) d
-
-        pub beyond-refused : (place : ℕ) → firstFault N 0 (length readings / N) readings ≡ Beyond place → (toldFault (Beyond place), out) ≡ wholeForward N readings out
-        unfolding toldFault
-        beyond-refused place d = by-fault (Beyond place) d
 
         pub whole-done : firstFault N 0 (length readings / N) readings ≡ Clear → ((0, 0), outputs (callsMade N readings out)) ≡ wholeForward N readings out
         unfolding toldFault

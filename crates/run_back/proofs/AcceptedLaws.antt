@@ -19,11 +19,11 @@ use Rattle.run.specs.declared.record.Run.{Run}
 use Rattle.run.specs.Record.{frameLimit, zeros, opened}
 use Rattle.run.specs.Gate.{Given, inside}
 use Rattle.run.proofs.Searches.{all-inside}
+use Rattle.run.proofs.RecordLaws.{all-take}
 use Rattle.run.proofs.CallLaws.{Decided, every-answer}
 use Rattle.run.proofs.ReadyLaws.{zeros-are}
 use Rattle.run_back.specs.Back.{takenBack, endedBack}
 use Rattle.run_back.proofs.BackLaws.{ReachedBack, back-first, back-next, taken-undone, lowHalf, highHalf, first-undone, later-undone, ended-decided, nothing-anywhere}
-use Rattle.run_back.proofs.Parts.{all-parts}
 
 -- what gives an answer 0 was answered yes
 answered-yes : {yes : Bool} {run : Run} {out : List ℤ} {good given : Given} → Decided yes run out good given → given .0 .0 ≡ 0 → yes ≡ true
@@ -37,7 +37,7 @@ zeros-inside n xs l e = zeros-are xs (all-inside 0 xs e) ∙ ap zeros l
 -- ---- a frame of N numbers undone
 low-within : (N : ℕ) (c : List ℤ) → inside (pos foldedLimit) (unstages N c) ≡ true → AllAbs foldedLimit (lowHalf N c)
 unfolding inside
-low-within N c e = all-parts foldedLimit (halfWidth N) (unstages N c) (all-inside foldedLimit (unstages N c) e) .0
+low-within N c e = all-take foldedLimit (halfWidth N) (unstages N c) (all-inside foldedLimit (unstages N c) e)
 
 module _ (N : ℕ) (w : IsWidth N) (c : List ℤ) where
   pub low-long : length (lowHalf N c) ≡ halfWidth N

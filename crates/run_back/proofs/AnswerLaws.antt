@@ -12,7 +12,7 @@ use Rattle.tables.specs.Widths.{halfWidth}
 use Rattle.tables.proofs.ByWidth.{half-width-le}
 use Rattle.steps.specs.Limits.{readingLimit, foldedLimit, coefficientLimit}
 use Rattle.steps.specs.Steps.{unstages}
-use Rattle.steps.proofs.Undo.{length-unstages, length-unfolded, width-half}
+use Rattle.steps.proofs.Undo.{length-unstages, width-half}
 use Rattle.lifting.specs.Gate.{beyond}
 use Rattle.lifting.specs.declared.gate.Found.{Found}
 use Rattle.lifting.specs.declared.gate.Found.the-variants.{At, Nothing}
@@ -21,21 +21,21 @@ use Rattle.run.specs.Gate.{Given, ask, askEach, sound, admitted}
 use Rattle.run.proofs.CallLaws.{every-answer}
 use Rattle.run.proofs.FaultLaws.{placeFound, found-place, width-le}
 use Rattle.run_back.specs.Back.{blockOn, firstUpper, firstFrame, laterFrame, unfoldedIn, undoneIn, takenBack, firstHeld, endedBack}
+use Rattle.run_back.proofs.UndoLaws.{length-block}
 
 -- ---- the same answer and the same record
 pub record Alike (g h : Given) : Type 0 where
-  pub same-answer : g .0 ≡ h .0
-  pub same-record : g .1 ≡ h .1
+  pub same : (g .0, g .1, h .2) ≡ h
 
 module _ {g h : Given} (n : ℕ) (run : Run) (o p : List ℤ) where
   alike-asked : (answer : Bool) → Alike g h → Alike (ask n answer run o g) (ask n answer run p h)
   unfolding ask
   alike-asked true a = a
-  alike-asked false a = record { same-answer = refl; same-record = refl }
+  alike-asked false a = record { same = refl }
 
   alike-each : (found : Found) → Alike g h → Alike (askEach n found run o g) (askEach n found run p h)
   unfolding askEach
-  alike-each (At place) a = record { same-answer = refl; same-record = refl }
+  alike-each (At place) a = record { same = refl }
   alike-each Nothing a = a
 
 alike-either : {g h i k : Given} (b : Bool) → Alike g h → Alike i k → Alike (cond b g i) (cond b h k)
@@ -47,8 +47,8 @@ module _ (run : Run) (frame o p : List ℤ) where
   unfolding undoneIn unfoldedIn firstFrame laterFrame
   undone-alike =
       alike-each 9 run o p _ (alike-each 10 run o p _ (alike-either (eqb (run .count) 0)
-      (alike-each 11 run o p _ (record { same-answer = refl; same-record = refl }))
-      (alike-each 12 run o p _ (record { same-answer = refl; same-record = refl }))))
+      (alike-each 11 run o p _ (record { same = refl }))
+      (alike-each 12 run o p _ (record { same = refl }))))
 
   pub taken-alike : length o ≡ length p → Alike (takenBack run frame o) (takenBack run frame p)
   unfolding takenBack admitted
@@ -75,10 +75,6 @@ unfolding sound
 sound-wide top run e = ltb-true 0 _ (every-answer _ e 0)
 
 module _ (run : Run) (frame out : List ℤ) where
-  block-long : length (blockOn run (unstages (run .width) frame)) ≡ run .width
-  unfolding blockOn
-  block-long = length-unfolded (run .width) _ _
-
   undone-place : 0 < halfWidth (run .width) → length frame ≡ run .width → undoneIn run frame out .0 .1 ≤ 128
   unfolding undoneIn unfoldedIn firstFrame firstUpper laterFrame
   undone-place w l =
@@ -90,7 +86,7 @@ module _ (run : Run) (frame out : List ℤ) where
       (place-either 128 _ _ (eqb (run .count) 0)
       (place-each 128 _ 11 run out _
       (omega (arith, few, width-half N w, found-place (beyond (pos 0)) (drop (halfWidth N) folded) (halfWidth N), length-drop (halfWidth N) folded, length-unstages N frame)) zero-le)
-      (place-each 128 _ 12 run out _ (omega (arith, few, found-place (beyond (pos readingLimit)) (blockOn run folded) 0, block-long)) zero-le)))
+      (place-each 128 _ 12 run out _ (omega (arith, few, found-place (beyond (pos readingLimit)) (blockOn run folded) 0, length-block run folded)) zero-le)))
 
   pub taken-place : takenBack run frame out .0 .1 ≤ 128
   unfolding takenBack admitted

@@ -14,7 +14,7 @@ use Rattle.integers.proofs.Products.{all-append, all-getD}
 use Rattle.tables.specs.Widths.{halfWidth}
 use Rattle.steps.specs.Limits.{readingLimit, foldedLimit, coefficientLimit}
 use Rattle.steps.specs.Steps.{lower, held, frame, unstages, unfolded}
-use Rattle.steps.proofs.Undo.{length-lower, length-held, length-stages, unstages-stages, unfolded-fold, width-half}
+use Rattle.steps.proofs.Undo.{length-lower, length-held, unstages-stages, unfolded-fold, width-half}
 use Rattle.steps.proofs.Rotation.{lower-gate, held-gate}
 use Rattle.steps.proofs.ZeroBlock.{lower-zeros, held-zeros}
 use Rattle.lifting.specs.Gate.{first, beyond, firstBeyond}
@@ -26,6 +26,7 @@ use Rattle.run.specs.Record.{frameLimit, zeros, opened, closed}
 use Rattle.run.specs.Forward.{started}
 use Rattle.run.specs.Gate.{Given, ask, every, sound, inside, nothing, admitted}
 use Rattle.run.proofs.Searches.{inside-all}
+use Rattle.run.proofs.StepLaws.{length-frame}
 use Rattle.run.proofs.RecordLaws.{take-filled, open-sound}
 use Rattle.run.proofs.CallLaws.{Decided, granted, asked-each}
 use Rattle.run.proofs.EveryList.{started-open}
@@ -117,8 +118,7 @@ module _ (N : ℕ) (w : IsWidth N) (p x : List ℤ) (hp : Block N readingLimit p
   of-both = frame N (held N p) x
 
   pub frame-long : length of-both ≡ N
-  unfolding frame
-  frame-long = length-stages N _ ∙ width-half N w
+  frame-long = length-frame N (held N p) x w
 
   frame-undone : unstages N of-both ≡ lower N x ++ held N p
   unfolding frame

@@ -1,5 +1,5 @@
--- The answer that a fault is given, and what the gate says to a finish back, question by question.
-use mathlib.Core.Path.{_≡_, refl}
+-- What questions 5 and 11 say to a finish back.
+use mathlib.Core.Path.{_≡_}
 use mathlib.Core.Bool.{true, false}
 use mathlib.Core.List.{[]}
 use Prim.Native.Nat.{ℕ}
@@ -11,52 +11,18 @@ use Rattle.lifting.specs.declared.gate.Found.the-variants.{At, Nothing}
 use Rattle.run.specs.declared.record.Run.{Run}
 use Rattle.run.specs.Record.{frameLimit, closed}
 use Rattle.run.specs.Gate.{ask, askEach, sound}
-use Rattle.run_back.specs.declared.undo.Fault.{Fault}
-use Rattle.run_back.specs.Faults.{toldFault}
 use Rattle.run_back.specs.Back.{firstHeld, endedBack}
 
-module _ (place : ℕ) where
-  pub told-range : told (Answer.Range place) ≡ toldFault (Fault.Range place)
-  unfolding told toldFault
-  told-range = refl
-
-  pub told-folded : told (Answer.Folded place) ≡ toldFault (Fault.Folded place)
-  unfolding told toldFault
-  told-folded = refl
-
-  pub told-halves : told (Answer.Halves place) ≡ toldFault (Fault.Halves place)
-  unfolding told toldFault
-  told-halves = refl
-
-  pub told-unfolded : told (Answer.Unfolded place) ≡ toldFault (Fault.Unfolded place)
-  unfolding told toldFault
-  told-unfolded = refl
-
-pub told-clear : told Answer.Done ≡ toldFault Fault.Clear
-unfolding told toldFault
-told-clear = refl
-
--- ---- questions 2, 3, 5 and 11 to a finish
-module _ (run : Run) where
-  pub end-record-refused : sound frameLimit run ≡ false → (told Answer.Record, run, []) ≡ endedBack run
+module _ (run : Run) (s : sound frameLimit run ≡ true) (o : run .finished ≡ false) where
+  pub end-empty-refused : run .count ≡ 0 → (told Answer.Empty, run, []) ≡ endedBack run
   unfolding told endedBack ask
-  end-record-refused e = rw e
+  end-empty-refused e = rw (s, o, le-ltb 0 (run .count) (omega (arith, e)))
 
-  module _ (s : sound frameLimit run ≡ true) where
-    pub end-closed-refused : run .finished ≡ true → (told Answer.Closed, run, []) ≡ endedBack run
-    unfolding told endedBack ask
-    end-closed-refused e = rw (s, e)
+  module _ (n : run .count ≡ 0 → ⊥) where
+    pub end-held-refused : (place : ℕ) → firstHeld run ≡ At place → (told (Answer.Halves place), run, []) ≡ endedBack run
+    unfolding told endedBack ask askEach firstHeld
+    end-held-refused place e = rw (s, o, lt-ltb 0 (run .count) (omega (arith, n)), e)
 
-    module _ (o : run .finished ≡ false) where
-      pub end-empty-refused : run .count ≡ 0 → (told Answer.Empty, run, []) ≡ endedBack run
-      unfolding told endedBack ask
-      end-empty-refused e = rw (s, o, le-ltb 0 (run .count) (omega (arith, e)))
-
-      module _ (n : run .count ≡ 0 → ⊥) where
-        pub end-held-refused : (place : ℕ) → firstHeld run ≡ At place → (told (Answer.Halves place), run, []) ≡ endedBack run
-        unfolding told endedBack ask askEach firstHeld
-        end-held-refused place e = rw (s, o, lt-ltb 0 (run .count) (omega (arith, n)), e)
-
-        pub ended-done : firstHeld run ≡ Nothing → (told Answer.Done, closed run, []) ≡ endedBack run
-        unfolding told endedBack ask askEach firstHeld
-        ended-done e = rw (s, o, lt-ltb 0 (run .count) (omega (arith, n)), e)
+    pub ended-done : firstHeld run ≡ Nothing → (told Answer.Done, closed run, []) ≡ endedBack run
+    unfolding told endedBack ask askEach firstHeld
+    ended-done e = rw (s, o, lt-ltb 0 (run .count) (omega (arith, n)), e)

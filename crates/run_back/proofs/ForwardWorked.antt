@@ -12,16 +12,14 @@ use Rattle.integers.specs.Vectors.{AllAbs}
 use Rattle.integers.proofs.Products.{all-append}
 use Rattle.tables.specs.Widths.{halfWidth}
 use Rattle.steps.specs.Limits.{readingLimit}
-use Rattle.lifting.specs.declared.gate.Found.{Found}
-use Rattle.lifting.specs.declared.gate.Found.the-variants.{At, Nothing}
 use Rattle.distance.specs.Statement.{IsWidth}
 use Rattle.run.specs.declared.gate.Fault.{Fault}
 use Rattle.run.specs.declared.gate.Fault.the-variants.{Dead, Beyond, Clear}
 use Rattle.run.specs.Record.{blockLimit}
-use Rattle.run.specs.Gate.{nothing, firstDead, firstOut}
 use Rattle.run.specs.Whole.{oneByOne, wholeForward}
-use Rattle.run.specs.Faults.{toldFault, faultBy, faultOf, faultFrom, firstFault}
-use Rattle.run.proofs.Searches.{all-inside}
+use Rattle.run.specs.Faults.{toldFault, faultOf, faultFrom, firstFault}
+use Rattle.run.proofs.StepLaws.{all-within}
+use Rattle.run.proofs.AskLaws.{clear-within}
 use Rattle.run.proofs.WholeLaws.{whole-blocks, by-fault, whole-done, whole-run}
 use Rattle.run_back.specs.Return.{Readings, framesOf}
 use Rattle.run_back.proofs.WholeReturn.{lengths-asked}
@@ -33,29 +31,20 @@ clear-told (Dead place) e = absurd (omega arith)
 clear-told (Beyond place) e = absurd (omega arith)
 clear-told Clear e = refl
 
-clear-both : (before : ℕ) (f rest : Fault) → toldFault (faultFrom before f rest) .0 ≡ 0 → (f ≡ Clear) × (rest ≡ Clear)
-unfolding toldFault faultFrom
-clear-both before (Dead place) rest e = absurd (omega arith)
-clear-both before (Beyond place) rest e = absurd (omega arith)
-clear-both before Clear rest e = (refl, clear-told rest e)
+clear-both : (before : ℕ) (f rest : Fault) → faultFrom before f rest ≡ Clear → (f ≡ Clear) × (rest ≡ Clear)
+unfolding faultFrom
+clear-both before (Dead place) rest e = (cc, cc)
+clear-both before (Beyond place) rest e = (cc, cc)
+clear-both before Clear rest e = (refl, e)
 
-clear-block : (xs : List ℤ) → toldFault (faultOf xs) .0 ≡ 0 → AllAbs readingLimit xs
-unfolding toldFault faultOf faultBy nothing
-clear-block xs e = by (firstDead xs 0) (firstOut xs 0) refl e
-  where
-    by : (f g : Found) → firstOut xs 0 ≡ g → toldFault (faultBy f g) .0 ≡ 0 → AllAbs readingLimit xs
-    by (At place) g d e = absurd (omega arith)
-    by Nothing (At place) d e = absurd (omega arith)
-    by Nothing Nothing d e = all-inside readingLimit xs (ap nothing d)
-
-clear-within : (N b before : ℕ) (xs : List ℤ) → length xs ≡ b * N → firstFault N before b xs ≡ Clear → AllAbs readingLimit xs
-unfolding firstFault toldFault
-clear-within N zero before [] l e = tt
-clear-within N zero before (x ∷ xs) l e = absurd (omega arith)
-clear-within N (suc b) before xs l e =
-    let both = clear-both before (faultOf (take N xs)) (firstFault N (before + N) b (drop N xs)) (ap (λ f. toldFault f .0) e) in
+clear-readings : (N b before : ℕ) (xs : List ℤ) → length xs ≡ b * N → firstFault N before b xs ≡ Clear → AllAbs readingLimit xs
+unfolding firstFault
+clear-readings N zero before [] l e = tt
+clear-readings N zero before (x ∷ xs) l e = absurd (omega arith)
+clear-readings N (suc b) before xs l e =
+    let both = clear-both before (faultOf (take N xs)) (firstFault N (before + N) b (drop N xs)) e in
     subst (AllAbs readingLimit) (take-append-drop N xs)
-    (all-append readingLimit (take N xs) (drop N xs) (clear-block (take N xs) (ap (λ f. toldFault f .0) (both .0))) (clear-within N b (before + N) (drop N xs) (omega (arith, length-drop N xs)) (both .1)))
+    (all-append readingLimit (take N xs) (drop N xs) (all-within readingLimit (take N xs) (clear-within (take N xs) (both .0))) (clear-readings N b (before + N) (drop N xs) (omega (arith, length-drop N xs)) (both .1)))
 
 -- ---- a run that works
 module _ (N : ℕ) (w : IsWidth N) (readings out : List ℤ) (worked : wholeForward N readings out .0 ≡ (0, 0)) where
@@ -79,7 +68,7 @@ module _ (N : ℕ) (w : IsWidth N) (readings out : List ℤ) (worked : wholeForw
   worked-readings = record {
     whole = whole-blocks N readings no-remainder;
     some = few;
-    within = clear-within N (length readings / N) 0 readings (whole-blocks N readings no-remainder) clear;
+    within = clear-readings N (length readings / N) 0 readings (whole-blocks N readings no-remainder) clear;
   }
 
   pub worked-frames : wholeForward N readings out .1 ≡ framesOf N readings

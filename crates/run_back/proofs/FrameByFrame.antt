@@ -1,58 +1,25 @@
 -- The frames of a whole run back one by one, as they lie: those that blocks make go back to these, and those that are accepted are such.
 use mathlib.Core.Path.{_≡_, refl, sym, ap, ap₂, _∙_}
-use mathlib.Core.Bool.{Bool, true, false, cond}
 use mathlib.Core.List.{List, [], _∷_, _++_}
 use Prim.Native.Nat.{ℕ, zero, suc, _+_, _*_, _≤_}
 use native.Mathlib.Omega.{arith}
-use borrow.Author.Tests.{eqb-true}
-use lib.Dec.{eqb}
 use lib.IntN.{ℤ}
-use lib.ListN.{length, take, drop, length-drop, take-append-drop}
+use lib.ListN.{length, take, drop, length-drop, take-append-drop, drop-of-length-le}
 use lib.Seq.{length-take-le, take-at, drop-at}
 use Rattle.steps.specs.Steps.{lower, held, frame, unfolded}
 use Rattle.steps.proofs.Undo.{width-half, lower-unfolded, held-unfolded}
 use Rattle.steps.proofs.ZeroBlock.{lower-zeros}
 use Rattle.distance.specs.Statement.{IsWidth}
-use Rattle.run.specs.declared.record.Run.{Run}
-use Rattle.run.specs.Record.{frameLimit, zeros, opened}
-use Rattle.run.specs.Gate.{Given}
+use Rattle.run.specs.Record.{frameLimit, opened}
 use Rattle.run.specs.Calls.{blockAt}
 use Rattle.run.specs.Whole.{joined}
 use Rattle.run.proofs.EveryList.{AllBlocks, blocks-none, blocks-one}
-use Rattle.run_back.specs.Back.{takenBack, endedBack}
+use Rattle.run_back.specs.Back.{takenBack}
 use Rattle.run_back.specs.Whole.{placed, answerFrom, outputsFrom}
 use Rattle.run_back.proofs.BackLaws.{ReachedBack, back-block, lowHalf, highHalf, frame-long, later-taken, ended-works}
+use Rattle.run_back.proofs.LoopLaws.{answer-next, outputs-next, here-taken}
 use Rattle.run_back.proofs.MadeFrames.{framesAfter}
 use Rattle.run_back.proofs.AcceptedLaws.{high-long, halves-frame, later-accepted, ended-accepted}
-
-no-length : (xs : List ℤ) → length xs ≡ 0 → xs ≡ []
-no-length [] e = refl
-no-length (x ∷ xs) e = absurd (omega arith)
-
--- ---- one frame, and those behind it
-module _ (N before : ℕ) (run : Run) (b : ℕ) (frames out : List ℤ) where
-  abbrev here : Given
-  here = takenBack run (take N frames) (take N out)
-
-  pub answer-next : (after : Run) (y : List ℤ) → here ≡ ((0, 0), after, y) → answerFrom N before run (suc b) frames out ≡ answerFrom N (before + N) after b (drop N frames) (drop N out)
-  unfolding answerFrom
-  answer-next after y e = rw e
-
-  pub outputs-next : (after : Run) (y : List ℤ) → here ≡ ((0, 0), after, y) → outputsFrom N run (suc b) frames out ≡ y ++ outputsFrom N after b (drop N frames) (drop N out)
-  unfolding outputsFrom
-  outputs-next after y e = rw e
-
-  pub here-taken : answerFrom N before run (suc b) frames out .0 ≡ 0 → here .0 .0 ≡ 0
-  unfolding answerFrom placed
-  here-taken e = by (answerFrom N (before + N) (here .1) b (drop N frames) (drop N out)) (eqb (here .0 .0) 0) refl e
-    where
-      by : (rest : ℕ × ℕ) (t : Bool) → eqb (here .0 .0) 0 ≡ t → cond t rest (placed N before (here .0)) .0 ≡ 0 → here .0 .0 ≡ 0
-      by rest true d e = eqb-true _ 0 d
-      by rest false d e = e
-
-pub ended-here : (N before : ℕ) (run : Run) (frames out : List ℤ) → answerFrom N before run 0 frames out .0 ≡ endedBack run .0 .0
-unfolding answerFrom placed
-ended-here N before run frames out = refl
 
 -- ---- the frames behind the first that blocks make
 pub record MadeFrom (N before k : ℕ) (xs : List (List ℤ)) (out : List ℤ) : Type 0 where
@@ -62,9 +29,9 @@ pub record MadeFrom (N before k : ℕ) (xs : List (List ℤ)) (out : List ℤ) :
 module _ (N : ℕ) (w : IsWidth N) where
   pub made-from : (xs : List (List ℤ)) (out : List ℤ) (before k : ℕ) → AllBlocks N xs → length out ≡ length xs * N → suc k + length xs ≤ frameLimit
       → ReachedBack N (suc k) (lower N (blockAt N xs 0)) → MadeFrom N before k xs out
-  unfolding framesAfter blockAt joined outputsFrom
+  unfolding framesAfter blockAt joined answerFrom outputsFrom placed
   made-from [] out before k hs l h r = record {
-    answer = ended-here N before (opened N (suc k) (lower N (zeros N))) [] out ∙ ap (λ (a : ℕ × ℕ). a .0) (ended-works N k r);
+    answer = ap (λ (a : ℕ × ℕ). a .0) (ended-works N k r);
     blocks = refl;
   }
   made-from (x ∷ xs) out before k hs l h r =
@@ -77,8 +44,8 @@ module _ (N : ℕ) (w : IsWidth N) where
       rw (take-at f fs N long) (later-taken N w x y (hs 0) (hs 1) k (take N out) r (omega arith) (length-take-le N out (omega arith))) in
       let rest = made-from xs (drop N out) (before + N) (suc k) (λ i. hs (suc i)) (omega (arith, length-drop N out)) (omega arith) (back-block N w x y (hs 0) (hs 1) (suc k) r (omega arith)) in
       record {
-        answer = ap (λ (a : ℕ × ℕ). a .0) (answer-next N before run (length xs) (f ++ fs) out _ x e) ∙ rw (drop-at f fs N long) (rest .answer);
-        blocks = outputs-next N before run (length xs) (f ++ fs) out _ x e ∙ rw (drop-at f fs N long) (ap (λ (ys : List ℤ). x ++ ys) (rest .blocks));
+        answer = ap (λ (a : ℕ × ℕ). a .0) (answer-next N (length xs) run (f ++ fs) out refl e before refl) ∙ rw (drop-at f fs N long) (rest .answer);
+        blocks = outputs-next N (length xs) run (f ++ fs) out refl e ∙ rw (drop-at f fs N long) (ap (λ (ys : List ℤ). x ++ ys) (rest .blocks));
       }
 
 -- ---- frames behind the first that are accepted: the blocks that made them are given
@@ -92,13 +59,13 @@ pub record AcceptedFrom (N k n : ℕ) (low frames out : List ℤ) : Type 0 where
 
 pub accepted-from : (N n k before : ℕ) (low frames out : List ℤ) → ReachedBack N (suc k) low → suc k + n ≤ frameLimit → length frames ≡ n * N → length out ≡ n * N
     → answerFrom N before (opened N (suc k) low) n frames out .0 ≡ 0 → AcceptedFrom N k n low frames out
-unfolding framesAfter blockAt joined outputsFrom
+unfolding framesAfter blockAt joined answerFrom outputsFrom placed
 accepted-from N zero k before low frames out r h l m e = record {
   xs = [];
   blocks = blocks-none N;
   many = refl;
-  lower-is = lower-zeros N N ∙ sym (ended-accepted N k low r (sym (ended-here N before (opened N (suc k) low) frames out) ∙ e));
-  frames-are = no-length frames (omega arith);
+  lower-is = lower-zeros N N ∙ sym (ended-accepted N k low r e);
+  frames-are = drop-of-length-le frames {i = 0} (omega arith);
   outputs-are = refl;
 }
 accepted-from N (suc n) k before low frames out r h l m e =
@@ -106,9 +73,9 @@ accepted-from N (suc n) k before low frames out r h l m e =
     let run = opened N (suc k) low in
     let long : length c ≡ N = length-take-le N frames (omega arith) in
     let x = unfolded N low (highHalf N c) in
-    let a = later-accepted N k low r c (take N out) long (length-take-le N out (omega arith)) (omega arith) (here-taken N before run n frames out e) in
+    let a = later-accepted N k low r c (take N out) long (length-take-le N out (omega arith)) (omega arith) (here-taken N n run frames out refl refl before e) in
     let rest = accepted-from N n (suc k) (before + N) (lowHalf N c) (drop N frames) (drop N out) (a .reached) (omega arith) (omega (arith, length-drop N frames)) (omega (arith, length-drop N out))
-    (rw (answer-next N before run n frames out _ _ (a .given)) at e) in
+    (rw (answer-next N n run frames out refl (a .given) before refl) at e) in
     let half = width-half N (r .wide) in
     let same : frame N (held N x) (blockAt N (rest .xs) 0) ≡ c =
     halves-frame N (r .wide) c x (blockAt N (rest .xs) 0) long (sym (held-unfolded N half low (highHalf N c) (high-long N (r .wide) c))) (sym (rest .lower-is)) in
@@ -118,5 +85,5 @@ accepted-from N (suc n) k before low frames out r h l m e =
       many = ap suc (rest .many);
       lower-is = lower-unfolded N half low (highHalf N c) (r .long);
       frames-are = sym (take-append-drop N frames) ∙ ap₂ (λ (f g : List ℤ). f ++ g) (sym same) (rest .frames-are);
-      outputs-are = outputs-next N before run n frames out _ _ (a .given) ∙ ap (λ (ys : List ℤ). x ++ ys) (rest .outputs-are);
+      outputs-are = outputs-next N n run frames out refl (a .given) ∙ ap (λ (ys : List ℤ). x ++ ys) (rest .outputs-are);
     }

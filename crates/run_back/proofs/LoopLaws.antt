@@ -1,11 +1,12 @@
--- The calls of a whole run back, one by one, as the code makes them: the answer of the calls left, and their outputs.
-use mathlib.Core.Path.{_≡_, refl, sym, ap, ap₂, _∙_}
+-- The calls of a whole run back, one by one: the answer of the calls left, and their outputs.
+use mathlib.Core.Path.{_≡_, refl, sym, ap, _∙_}
 use mathlib.Core.Bool.{Bool, true, false, cond}
 use mathlib.Core.List.{List, [], _++_, append-assoc, append-nil}
 use Prim.Native.Nat.{ℕ, zero, suc, _+_, _-_, _*_, _/_, _%_, _≤_, _<_}
 use native.Mathlib.Nat.{mul-le-mul-right, add-div-right}
+use native.Mathlib.Numerals.{add-one}
 use native.Mathlib.Omega.{arith}
-use borrow.Author.Tests.{eq-eqb, ne-eqb}
+use borrow.Author.Tests.{eqb-true, eqb-false, eq-eqb, ne-eqb}
 use lib.Dec.{eqb}
 use lib.IntN.{ℤ, pos}
 use lib.ListN.{length, take, drop, length-replicate}
@@ -30,11 +31,7 @@ module _ (N : ℕ) (frames : List ℤ) (f : Frames N frames) where
   few-numbers = omega (arith, f .whole, mul-le-mul-right N (f .few), width-le N (f .wide))
 
   pub one-frame : N ≤ length frames
-  one-frame = by (length frames / N) (f .some) (f .whole)
-    where
-      by : (q : ℕ) → 0 < q → length frames ≡ q * N → N ≤ length frames
-      by zero h e = absurd (omega arith)
-      by (suc q) h e = omega arith
+  one-frame = omega (arith, f .whole, mul-le-mul-right N (f .some))
 
 pub frames-whole : (N : ℕ) (frames : List ℤ) → 0 < halfWidth N → length frames % N ≡ 0 → length frames / N ≤ frameLimit → 0 < length frames → Frames N frames
 frames-whole N frames w e few some =
@@ -47,45 +44,38 @@ frames-whole N frames w e few some =
 
 -- readings are one block less
 module _ (N : ℕ) (frames out : List ℤ) (f : Frames N frames) (r : length out + N ≡ length frames) where
-  pub one-block-less : length frames / N ≡ length out / N + 1
-  one-block-less = ap (λ (n : ℕ). n / N) (sym r) ∙ add-div-right (length out) (width-pos N (f .wide))
+  pub one-block-less : length frames / N ≡ suc (length out / N)
+  one-block-less = ap (λ (n : ℕ). n / N) (sym r) ∙ add-div-right (length out) (width-pos N (f .wide)) ∙ add-one (length out / N)
 
   pub readings-whole : length out / N * N ≡ length out
   readings-whole = let e = rw one-block-less at (f .whole) in omega (arith, e, r)
 
--- ---- the answer of the calls left
-module _ (N before left : ℕ) (run : Run) (frames out : List ℤ) where
-  abbrev here : Given
-  here = takenBack run (take N (drop before frames)) (take N (drop before out))
-
-  abbrev there : ℕ × ℕ
-  there = answerFrom N before run left (drop before frames) (drop before out)
-
-  module _ (h : 0 < left) (answer : ℕ × ℕ) (a : answer ≡ here .0) where
-    pub answer-here : (answer .0 ≡ 0 → ⊥) → placed N before answer ≡ there
-    unfolding answerFrom
-    answer-here e = by left h
-      where
-        by : (l : ℕ) → 0 < l → placed N before answer ≡ answerFrom N before run l (drop before frames) (drop before out)
-        by zero h = absurd (omega arith)
-        by (suc l) h = rw (← a, ne-eqb _ _ e)
-
-    pub answer-later : (after : Run) → after ≡ here .1 → answer .0 ≡ 0
-        → there ≡ answerFrom N (before + N) after (left - 1) (drop (before + N) frames) (drop (before + N) out)
-    unfolding answerFrom
-    answer-later after r e = by left h
-      where
-        by : (l : ℕ) → 0 < l → answerFrom N before run l (drop before frames) (drop before out) ≡ answerFrom N (before + N) after (l - 1) (drop (before + N) frames) (drop (before + N) out)
-        by zero h = absurd (omega arith)
-        by (suc l) h = let d : suc l - 1 ≡ l = omega arith in rw (d, ← a, eq-eqb _ _ e, ← r, drop-drop N before frames, drop-drop N before out)
-
-  pub answer-end : left ≡ 0 → placed N (before - N) (endedBack run .0) ≡ there
+-- ---- one call, and those behind it
+module _ {left : ℕ} {given : Given} (N b : ℕ) (run : Run) (frames out : List ℤ) (l : left ≡ suc b) (e : takenBack run (take N frames) (take N out) ≡ given) where
+  pub answer-here : (before : ℕ) → (given .0 .0 ≡ 0 → ⊥) → placed N before (given .0) ≡ answerFrom N before run left frames out
   unfolding answerFrom
-  answer-end e = rw e
+  answer-here before n = rw (l, e, ne-eqb _ _ n)
 
-pub first-is : (N : ℕ) (frames out : List ℤ) → firstAnswer N frames out ≡ answerFrom N 0 (started N .1) (length frames / N) frames (zeros N ++ out)
-unfolding firstAnswer
-first-is N frames out = refl
+  pub answer-next : (before : ℕ) → given .0 .0 ≡ 0 → answerFrom N before run left frames out ≡ answerFrom N (before + N) (given .1) b (drop N frames) (drop N out)
+  unfolding answerFrom
+  answer-next before z = rw (l, e, eq-eqb _ _ z)
+
+  pub outputs-next : outputsFrom N run left frames out ≡ given .2 ++ outputsFrom N (given .1) b (drop N frames) (drop N out)
+  unfolding outputsFrom
+  outputs-next = rw (l, e)
+
+  -- where no call is refused, this one is not
+  pub here-taken : (before : ℕ) → answerFrom N before run left frames out .0 ≡ 0 → given .0 .0 ≡ 0
+  unfolding placed
+  here-taken before z = by (eqb (given .0 .0) 0) refl
+    where
+      by : (t : Bool) → eqb (given .0 .0) 0 ≡ t → given .0 .0 ≡ 0
+      by true d = eqb-true _ 0 d
+      by false d = ap (λ (a : ℕ × ℕ). a .0) (answer-here before (eqb-false _ 0 d)) ∙ z
+
+pub answer-end : (N before left : ℕ) (run : Run) (frames out : List ℤ) → left ≡ 0 → placed N (before - N) (endedBack run .0) ≡ answerFrom N before run left frames out
+unfolding answerFrom
+answer-end N before left run frames out e = rw e
 
 -- ---- the first frame leaves its output as it was
 module _ (run : Run) (out : List ℤ) (next : Given) (e : next .2 ≡ out) where
@@ -112,37 +102,39 @@ started-count N = by (eqb (halfWidth N) 0)
     by true = refl
     by false = refl
 
--- ---- the outputs of the calls left
-module _ (N left : ℕ) (run after : Run) (answer : ℕ × ℕ) (frames out ys : List ℤ) where
-  outputs-here : 0 < left → (answer, after, ys) ≡ takenBack run (take N frames) (take N out)
-      → outputsFrom N run left frames out ≡ ys ++ outputsFrom N after (left - 1) (drop N frames) (drop N out)
-  unfolding outputsFrom
-  outputs-here h e = by left h
-    where
-      by : (l : ℕ) → 0 < l → outputsFrom N run l frames out ≡ ys ++ outputsFrom N after (l - 1) (drop N frames) (drop N out)
-      by zero h = absurd (omega arith)
-      by (suc l) h = let d : suc l - 1 ≡ l = omega arith in rw (d, ← e)
-
+-- ---- the outputs of the calls left, behind those that are written
 pub blocks-next : (N place left : ℕ) (run after : Run) (answer : ℕ × ℕ) (frames out ys : List ℤ) → 0 < left → place + N ≤ length out → length ys ≡ N
     → (answer, after, ys) ≡ takenBack run (take N (drop (place + N) frames)) (take N (drop place out))
     → take place out ++ outputsFrom N run left (drop (place + N) frames) (drop place out)
     ≡ take (place + N) (written place N out ys) ++ outputsFrom N after (left - 1) (drop (place + N + N) frames) (drop (place + N) (written place N out ys))
 blocks-next N place left run after answer frames out ys h i l e =
-    ap (λ (zs : List ℤ). take place out ++ zs) (outputs-here N left run after answer (drop (place + N) frames) (drop place out) ys h e)
+    let d : left ≡ suc (left - 1) = omega arith in
+    ap (λ (zs : List ℤ). take place out ++ zs) (outputs-next N (left - 1) run (drop (place + N) frames) (drop place out) d (sym e))
     ∙ rw (written-front place N out ys i l, written-rest place N out ys i l, drop-drop N (place + N) frames, drop-drop N place out, append-assoc)
 
 pub no-blocks : (N place left : ℕ) (run : Run) (frames out : List ℤ) → left ≡ 0 → length out ≤ place → take place out ++ outputsFrom N run left frames (drop place out) ≡ out
 unfolding outputsFrom
 no-blocks N place left run frames out z h = rw (z, append-nil) (take-all place out h)
 
--- behind the first frame
-pub outputs-first : (N : ℕ) (frames out : List ℤ) (after : Run) → after ≡ takenBack (started N .1) (take N frames) (zeros N) .1 → 0 < length frames / N
-    → drop N (allOutputs N frames out) ≡ outputsFrom N after (length frames / N - 1) (drop N frames) out
-unfolding allOutputs
-outputs-first N frames out after r h =
-    ap (drop N)
-    (outputs-here N (length frames / N) (started N .1) after _ frames (zeros N ++ out) (zeros N) h
-    (ap₂ (λ (x : Run) (y : List ℤ). (takenBack (started N .1) (take N frames) (zeros N) .0, x, y)) r (sym (first-kept (started N .1) (take N frames) (zeros N) (started-count N)))
-    ∙ ap (takenBack (started N .1) (take N frames)) (sym (take-at (zeros N) out N (length-replicate N (pos 0))))))
-    ∙ drop-at (zeros N) _ N (length-replicate N (pos 0))
-    ∙ ap (outputsFrom N after (length frames / N - 1) (drop N frames)) (drop-at (zeros N) out N (length-replicate N (pos 0)))
+-- ---- from a fresh start, with zeros for the output of the first frame
+module _ (N b : ℕ) (frames out : List ℤ) (l : length frames / N ≡ suc b) where
+  abbrev first : Given
+  first = takenBack (started N .1) (take N frames) (zeros N)
+
+  given : takenBack (started N .1) (take N frames) (take N (zeros N ++ out)) ≡ first
+  given = rw (take-at (zeros N) out N (length-replicate N (pos 0)))
+
+  pub first-yes : firstAnswer N frames out .0 ≡ 0 → first .0 .0 ≡ 0
+  unfolding firstAnswer
+  first-yes = here-taken N b (started N .1) frames (zeros N ++ out) l given 0
+
+  module _ (after : Run) (r : after ≡ first .1) where
+    pub first-behind : first .0 .0 ≡ 0 → firstAnswer N frames out ≡ answerFrom N (0 + N) after b (drop N frames) out
+    unfolding firstAnswer
+    first-behind z = answer-next N b (started N .1) frames (zeros N ++ out) l given 0 z ∙ rw (r, drop-at (zeros N) out N (length-replicate N (pos 0)))
+
+    pub outputs-behind : drop N (allOutputs N frames out) ≡ outputsFrom N after b (drop N frames) out
+    unfolding allOutputs
+    outputs-behind =
+        ap (drop N) (outputs-next N b (started N .1) frames (zeros N ++ out) l given)
+        ∙ rw (r, first-kept (started N .1) (take N frames) (zeros N) (started-count N), drop-at (zeros N) out N (length-replicate N (pos 0))) (drop-at (zeros N) _ N (length-replicate N (pos 0)))

@@ -1,16 +1,17 @@
 -- Lists one behind the other, and a list taken apart into parts of N.
-use mathlib.Core.Path.{_≡_, refl, sym, ap, subst, _∙_}
+use mathlib.Core.Path.{_≡_, refl, sym, ap, _∙_}
 use mathlib.Core.List.{List, [], _∷_, _++_}
 use Prim.Native.Nat.{ℕ, zero, suc, _*_}
 use native.Mathlib.Omega.{arith}
 use lib.IntN.{ℤ}
-use lib.ListN.{length, take, drop, length-append, length-drop, take-append-drop}
+use lib.ListN.{length, take, drop, length-append, length-drop, take-append-drop, drop-of-length-le}
 use lib.Seq.{length-take-le, take-at, drop-at}
 use Rattle.integers.specs.Vectors.{AllAbs, Rows}
 use Rattle.integers.proofs.Products.{all-append}
 use Rattle.steps.specs.Limits.{readingLimit}
 use Rattle.run.specs.Calls.{blockAt}
 use Rattle.run.specs.Whole.{partsOf, joined}
+use Rattle.run.proofs.RecordLaws.{all-take, all-drop}
 use Rattle.run.proofs.EveryList.{AllBlocks, blocks-none, blocks-one}
 
 pub length-joined : (N : ℕ) (xs : List (List ℤ)) → Rows N xs → length (joined xs) ≡ length xs * N
@@ -30,25 +31,16 @@ length-parts N (suc b) xs = ap suc (length-parts N b (drop N xs))
 
 pub joined-parts : (N b : ℕ) (xs : List ℤ) → length xs ≡ b * N → joined (partsOf N b xs) ≡ xs
 unfolding joined partsOf
-joined-parts N zero [] l = refl
-joined-parts N zero (x ∷ xs) l = absurd (omega arith)
+joined-parts N zero xs l = sym (drop-of-length-le xs {i = 0} (omega arith))
 joined-parts N (suc b) xs l = ap (λ (ys : List ℤ). take N xs ++ ys) (joined-parts N b (drop N xs) (omega (arith, length-drop N xs))) ∙ take-append-drop N xs
 
 -- ---- blocks of readings in range
-all-both : (B : ℕ) (xs ys : List ℤ) → AllAbs B (xs ++ ys) → AllAbs B xs × AllAbs B ys
-all-both B [] ys h = (tt, h)
-all-both B (x ∷ xs) ys h = let r = all-both B xs ys (h .1) in ((h .0, r .0), r .1)
-
-pub all-parts : (B n : ℕ) (xs : List ℤ) → AllAbs B xs → AllAbs B (take n xs) × AllAbs B (drop n xs)
-all-parts B n xs h = all-both B (take n xs) (drop n xs) (subst (AllAbs B) (sym (take-append-drop n xs)) h)
-
 pub parts-blocks : (N b : ℕ) (xs : List ℤ) → length xs ≡ b * N → AllAbs readingLimit xs → AllBlocks N (partsOf N b xs)
 unfolding partsOf
 parts-blocks N zero xs l h = blocks-none N
 parts-blocks N (suc b) xs l h =
-    let both = all-parts readingLimit N xs h in
-    blocks-one N (take N xs) _ (record { long = length-take-le N xs (omega arith); within = both .0 })
-    (parts-blocks N b (drop N xs) (omega (arith, length-drop N xs)) (both .1))
+    blocks-one N (take N xs) _ (record { long = length-take-le N xs (omega arith); within = all-take readingLimit N xs h })
+    (parts-blocks N b (drop N xs) (omega (arith, length-drop N xs)) (all-drop readingLimit N xs h))
 
 pub blocks-rows : (N : ℕ) (xs : List (List ℤ)) → AllBlocks N xs → Rows N xs
 unfolding blockAt

@@ -2,7 +2,7 @@
 use mathlib.Core.Path.{_≡_, refl, sym, ap, _∙_}
 use mathlib.Core.Bool.{Bool, true, false, cond}
 use mathlib.Core.List.{List, [], _∷_}
-use Prim.Native.Nat.{ℕ, suc, _+_, _<_}
+use Prim.Native.Nat.{ℕ, suc, _+_}
 use native.Mathlib.Nat.{add-suc, add-zero}
 use borrow.Author.Tests.{eq-eqb, ne-eqb}
 use lib.IntN.{ℤ, pos}
@@ -94,6 +94,6 @@ pub block-is : (run : Run) (half : ℕ) (folded : List ℤ) → half ≡ halfWid
 unfolding blockOn
 block-is run half folded h = ap (λ n. unfolded (run .width) (take n (run .held)) (drop n folded)) h
 
-pub length-block : (run : Run) (folded : List ℤ) → 0 < halfWidth (run .width) → length (blockOn run folded) ≡ run .width
+pub length-block : (run : Run) (folded : List ℤ) → length (blockOn run folded) ≡ run .width
 unfolding blockOn
-length-block run folded w = length-unfolded (run .width) _ _
+length-block run folded = length-unfolded (run .width) _ _

@@ -44,8 +44,7 @@ answer-alike N zero before run frames o p l = refl
 answer-alike N (suc b) before run frames o p l =
     let m : length (take N o) ≡ length (take N p) = rw (length-take, length-take, l) in
     let k : length (drop N o) ≡ length (drop N p) = rw (length-drop, length-drop, l) in
-    let a = taken-alike run (take N frames) (take N o) (take N p) m in
-    rw (a .same-answer, a .same-record, answer-alike N b (before + N) (takenBack run (take N frames) (take N p) .1) (drop N frames) (drop N o) (drop N p) k)
+    rw (← (taken-alike run (take N frames) (take N o) (take N p) m .same), answer-alike N b (before + N) (takenBack run (take N frames) (take N o) .1) (drop N frames) (drop N o) (drop N p) k)
 
 pub first-alike : (N : ℕ) (frames o p : List ℤ) → length o ≡ length p → firstAnswer N frames o ≡ firstAnswer N frames p
 unfolding firstAnswer

@@ -2,7 +2,7 @@
 use mathlib.Core.Path.{_≡_, refl, sym, ap, ap₂, _∙_}
 use mathlib.Core.Bool.{Bool, true, false, cond, _&&_, and-eq-true-iff}
 use mathlib.Core.List.{List, _++_}
-use Prim.Native.Nat.{ℕ, zero, suc, _+_, _*_, _/_, _%_, _≤_, _<_}
+use Prim.Native.Nat.{ℕ, suc, _+_, _-_, _*_, _/_, _%_, _≤_, _<_}
 use native.Mathlib.Nat.{div-add-mod', mul-div-cancel}
 use native.Mathlib.Omega.{arith}
 use borrow.Author.Tests.{ltb-true, leb-true, eqb-true, ne-eqb}
@@ -18,21 +18,23 @@ use Rattle.steps.specs.Steps.{lower, held, frame}
 use Rattle.steps.proofs.ZeroBlock.{held-zeros}
 use Rattle.distance.specs.Statement.{IsWidth}
 use Rattle.distance.proofs.ZeroBlock.{zero-block}
-use Rattle.run.specs.declared.record.Run.{Run}
 use Rattle.run.specs.Record.{blockLimit, frameLimit, zeros, opened}
+use Rattle.run.specs.Gate.{Given}
+use Rattle.run.specs.Forward.{started}
 use Rattle.run.specs.Calls.{blockAt, frameAt}
 use Rattle.run.specs.Whole.{joined}
 use Rattle.run.proofs.EveryList.{AllBlocks}
 use Rattle.run.proofs.FaultLaws.{width-pos}
-use Rattle.run.proofs.WholeLaws.{whole-blocks, frames-long}
+use Rattle.run.proofs.WholeLaws.{frames-long}
 use Rattle.run_back.specs.Back.{takenBack}
-use Rattle.run_back.specs.Whole.{answerFrom, outputsFrom, allOutputs, firstAnswer, oneByOne, wholeBack}
+use Rattle.run_back.specs.Whole.{allOutputs, firstAnswer, oneByOne, wholeBack}
 use Rattle.run_back.proofs.BackLaws.{started-back, lowHalf, back-one, frame-long, first-taken}
+use Rattle.run_back.proofs.LoopLaws.{frames-whole, first-yes, first-behind, outputs-behind}
 use Rattle.run_back.proofs.WholeBackLaws.{first-zero, lengths-passed, whole-done}
 use Rattle.run_back.proofs.MadeFrames.{framesAfter, allFrames, all-frames}
 use Rattle.run_back.proofs.Parts.{length-joined}
 use Rattle.run_back.proofs.AcceptedLaws.{halves-frame, first-accepted}
-use Rattle.run_back.proofs.FrameByFrame.{answer-next, outputs-next, here-taken, made-from, accepted-from}
+use Rattle.run_back.proofs.FrameByFrame.{made-from, accepted-from}
 
 -- ---- n times N numbers
 module _ (N n : ℕ) (w : IsWidth N) (xs : List ℤ) (l : length xs ≡ n * N) where
@@ -41,35 +43,6 @@ module _ (N n : ℕ) (w : IsWidth N) (xs : List ℤ) (l : length xs ≡ n * N) w
 
   pub none-over : length xs % N ≡ 0
   none-over = let e = rw parts-counted at (div-add-mod' (length xs) N) in omega arith
-
--- ---- from a fresh start, with zeros for the output of the first frame
-module _ (N n : ℕ) (w : IsWidth N) (frames out : List ℤ) (l : length frames ≡ suc n * N) where
-  abbrev fresh : Run
-  fresh = opened N 0 (zeros (halfWidth N))
-
-  first-is : firstAnswer N frames out ≡ answerFrom N 0 fresh (suc n) frames (zeros N ++ out)
-  unfolding firstAnswer
-  first-is = rw (started-back N w, parts-counted N (suc n) w frames l)
-
-  outputs-are : allOutputs N frames out ≡ outputsFrom N fresh (suc n) frames (zeros N ++ out)
-  unfolding allOutputs
-  outputs-are = rw (started-back N w, parts-counted N (suc n) w frames l)
-
-  pub first-yes : firstAnswer N frames out .0 ≡ 0 → takenBack fresh (take N frames) (zeros N) .0 .0 ≡ 0
-  first-yes e = rw (take-at (zeros N) out N (length-replicate N (pos 0))) at (here-taken N 0 fresh n frames (zeros N ++ out) (rw first-is at e))
-
-  module _ (after : Run) (e : takenBack fresh (take N frames) (zeros N) ≡ ((0, 0), after, zeros N)) where
-    given : takenBack fresh (take N frames) (take N (zeros N ++ out)) ≡ ((0, 0), after, zeros N)
-    given = rw (take-at (zeros N) out N (length-replicate N (pos 0))) e
-
-    pub first-behind : firstAnswer N frames out ≡ answerFrom N (0 + N) after n (drop N frames) out
-    first-behind = first-is ∙ answer-next N 0 fresh n frames (zeros N ++ out) after (zeros N) given ∙ rw (drop-at (zeros N) out N (length-replicate N (pos 0)))
-
-    pub outputs-behind : drop N (allOutputs N frames out) ≡ outputsFrom N after n (drop N frames) out
-    outputs-behind =
-        ap (drop N) (outputs-are ∙ outputs-next N 0 fresh n frames (zeros N ++ out) after (zeros N) given)
-        ∙ drop-at (zeros N) _ N (length-replicate N (pos 0))
-        ∙ rw (drop-at (zeros N) out N (length-replicate N (pos 0)))
 
 -- ---- the frames of blocks
 module _ (N : ℕ) (w : IsWidth N) (xs : List (List ℤ)) (hs : AllBlocks N xs) where
@@ -87,9 +60,9 @@ module _ (N : ℕ) (w : IsWidth N) (xs : List (List ℤ)) (hs : AllBlocks N xs) 
   first-long : length (frame N (held N (zeros N)) x) ≡ N
   first-long = frame-long N w (zeros N) x (zero-block N readingLimit) (hs 0)
 
-  first-here : takenBack (opened N 0 (zeros (halfWidth N))) (take N frames) (zeros N) ≡ ((0, 0), opened N 1 (lower N x), zeros N)
+  first-here : takenBack (started N .1) (take N frames) (zeros N) ≡ ((0, 0), opened N 1 (lower N x), zeros N)
   unfolding joined
-  first-here = rw (take-at (frame N (held N (zeros N)) x) (joined (framesAfter N xs)) N first-long) (first-taken N w x (hs 0) (zeros N) (length-replicate N (pos 0)))
+  first-here = rw (started-back N w, take-at (frame N (held N (zeros N)) x) (joined (framesAfter N xs)) N first-long) (first-taken N w x (hs 0) (zeros N) (length-replicate N (pos 0)))
 
   others-here : drop N frames ≡ joined (framesAfter N xs)
   unfolding joined
@@ -99,11 +72,12 @@ module _ (N : ℕ) (w : IsWidth N) (xs : List (List ℤ)) (hs : AllBlocks N xs) 
   made-whole out few l =
       let n = length xs in
       let rest = made-from N w xs out (0 + N) 0 hs l (omega arith) (back-one N w x (hs 0)) in
-      let a : firstAnswer N frames out .0 ≡ 0 = ap (λ (p : ℕ × ℕ). p .0) (first-behind N n w frames out frames-length (opened N 1 (lower N x)) first-here) ∙ rw others-here (rest .answer) in
-      let o : drop N (allOutputs N frames out) ≡ joined xs = outputs-behind N n w frames out frames-length (opened N 1 (lower N x)) first-here ∙ rw others-here (rest .blocks) in
-      let count : length frames / N ≤ frameLimit = omega (arith, parts-counted N (suc n) w frames frames-length) in
+      let count = parts-counted N (suc n) w frames frames-length in
+      let taken = ap (λ (g : Given). g .1) (sym first-here) in
+      let a : firstAnswer N frames out .0 ≡ 0 = ap (λ (p : ℕ × ℕ). p .0) (first-behind N n frames out count _ taken (ap (λ (g : Given). g .0 .0) first-here)) ∙ rw others-here (rest .answer) in
+      let o : drop N (allOutputs N frames out) ≡ joined xs = outputs-behind N n frames out count _ taken ∙ rw others-here (rest .blocks) in
       let some : 0 < length frames = omega (arith, frames-length, width-pos N w) in
-      sym (whole-done N frames out (λ e. omega arith) (none-over N (suc n) w frames frames-length) count some (omega (arith, frames-length)) a)
+      sym (whole-done N frames out (λ e. omega arith) (none-over N (suc n) w frames frames-length) (omega (arith, count)) some (omega (arith, frames-length)) a)
       ∙ ap₂ (λ (p : ℕ × ℕ) (ys : List ℤ). (p, ys)) (first-zero N frames out a) o
 
 -- ---- frames that are accepted: the lengths are right,
@@ -148,24 +122,26 @@ module _ (N : ℕ) (w : IsWidth N) (frames out : List ℤ) (right : LengthsRight
   made-by n l few =
       let c = take N frames in
       let long : length c ≡ N = length-take-le N frames (omega arith) in
-      let a = first-accepted N w c (zeros N) long (length-replicate N (pos 0)) (first-yes N n w frames out l yes) in
+      let count = parts-counted N (suc n) w frames l in
+      let a = first-accepted N w c (zeros N) long (length-replicate N (pos 0)) (rw (started-back N w) at (first-yes N n frames out count yes)) in
+      let given : takenBack (started N .1) c (zeros N) ≡ ((0, 0), opened N 1 (lowHalf N c), zeros N) = rw (started-back N w) (a .given) in
+      let taken = ap (λ (g : Given). g .1) (sym given) in
       let r = accepted-from N n 0 (0 + N) (lowHalf N c) (drop N frames) out (a .reached) (omega arith) (omega (arith, length-drop N frames)) (omega (arith, right .room))
-      (rw (first-behind N n w frames out l (opened N 1 (lowHalf N c)) (a .given)) at yes) in
+      (rw (first-behind N n frames out count _ taken (ap (λ (g : Given). g .0 .0) given)) at yes) in
       let same : frame N (held N (zeros N)) (blockAt N (r .xs) 0) ≡ c = halves-frame N w c (zeros N) (blockAt N (r .xs) 0) long (a .upper ∙ sym (held-zeros N N)) (sym (r .lower-is)) in
       record {
         xs = r .xs;
         blocks = r .blocks;
         few = omega (arith, r .many);
         frames-are = sym (take-append-drop N frames) ∙ ap₂ (λ (f g : List ℤ). f ++ g) (sym same) (r .frames-are);
-        given = outputs-given ∙ outputs-behind N n w frames out l (opened N 1 (lowHalf N c)) (a .given) ∙ r .outputs-are;
+        given = outputs-given ∙ outputs-behind N n frames out count _ taken ∙ r .outputs-are;
       }
 
   pub made-of : MadeOf N frames out
-  made-of = by (length frames / N) refl
-    where
-      by : (b : ℕ) → length frames / N ≡ b → MadeOf N frames out
-      by zero d = let l = rw d at (whole-blocks N frames (right .even)) in absurd (omega (arith, right .some))
-      by (suc n) d = made-by n (rw d at (whole-blocks N frames (right .even))) (omega (arith, right .few))
+  made-of =
+      let f = frames-whole N frames w (right .even) (right .few) (right .some) in
+      let d : length frames / N ≡ suc (length frames / N - 1) = omega (arith, f .some) in
+      made-by (length frames / N - 1) (rw d at (f .whole)) (omega (arith, right .few))
 
 pub accepted-whole : (N : ℕ) → IsWidth N → (frames out : List ℤ) → wholeBack N frames out .0 ≡ (0, 0) → MadeOf N frames out
 unfolding oneByOne

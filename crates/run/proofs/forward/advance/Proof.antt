@@ -10,9 +10,9 @@ use Rattle.integers.specs.Places.{Within}
 use Rattle.tables.proofs.ByWidth.{half-width-le}
 use Rattle.steps.specs.Limits.{readingLimit, foldedLimit}
 use Rattle.steps.specs.Steps.{held, frame}
-use Rattle.steps.proofs.Undo.{width-half}
 use Rattle.lifting.proofs.Parts.{part-long, front, front-le}
 use Rattle.lifting.proofs.FrameLaws.{take-within}
+use Rattle.run.proofs.FaultLaws.{width-le}
 use Rattle.run.proofs.ReadyLaws.{advanced-is, frame-on}
 use Rattle.run.proofs.forward.advance.Statement.{statement}
 use Rattle.run.proofs.forward.advance.Tie as tie
@@ -33,9 +33,6 @@ module _ (s : tie.Start) where
   half-le : s .args .half ≤ length before
   half-le = omega (arith, held-long, s .pre .0 .good .half-is, half-width-le N)
 
-  width-le : N ≤ 128
-  width-le = omega (arith, width-half N (s .pre .0 .good .wide), half-width-le N)
-
 -- the block widened
 module _ (w : tie.After-widen) where
   abbrev from : tie.Start
@@ -51,13 +48,13 @@ module _ (w : tie.After-widen) where
   wide-front = front (N from) _ _ wide-long ∙ wide
 
 room : (c : tie.After-of-128) → N (c .before .before .before) ≡ length (take (N (c .before .before .before)) (c .of-128 .result))
-room c = part-long _ (c .of-128 .result) (omega (arith, c .of-128 .ensures, width-le (c .before .before .before)))
+room c = part-long _ (c .of-128 .result) (omega (arith, c .of-128 .ensures, width-le _ (c .before .before .before .pre .0 .good .wide)))
 
 of-128-requires : tie.Need-of-128-requires
 of-128-requires c κs = search needs
 
 array-borrow-prefix-wide : tie.Need-array-borrow-prefix-wide
-array-borrow-prefix-wide c = omega (arith, c .of-128 .ensures, width-le (c .before .before .before))
+array-borrow-prefix-wide c = omega (arith, c .of-128 .ensures, width-le _ (c .before .before .before .pre .0 .good .wide))
 
 slice-aggregate-widen : tie.Need-slice-aggregate-widen
 slice-aggregate-widen c = room (c .before)

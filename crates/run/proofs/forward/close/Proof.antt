@@ -12,11 +12,11 @@ use Rattle.integers.proofs.PlaceLaws.{within-all}
 use Rattle.tables.proofs.ByWidth.{half-width-le}
 use Rattle.steps.specs.Limits.{readingLimit, foldedLimit}
 use Rattle.steps.specs.Steps.{frame}
-use Rattle.steps.proofs.Undo.{width-half}
 use Rattle.lifting.proofs.Parts.{part-long}
 use Rattle.lifting.proofs.FrameLaws.{take-within}
 use Rattle.distance.proofs.ZeroBlock.{zero-block}
 use Rattle.run.specs.Record.{zeros, closed}
+use Rattle.run.proofs.FaultLaws.{width-le}
 use Rattle.run.proofs.ReadyLaws.{frame-on, zeros-part}
 use Rattle.run.proofs.forward.close.Statement.{statement}
 use Rattle.run.proofs.forward.close.Tie as tie
@@ -34,12 +34,9 @@ module _ (s : tie.Start) where
   half-le : s .args .half ≤ 64
   half-le = omega (arith, s .pre .0 .good .half-is, half-width-le N)
 
-  width-le : N ≤ 128
-  width-le = omega (arith, width-half N (s .pre .0 .good .wide), half-width-le N)
-
 -- a block of zeros, as long as the width
 zero-part : (z : tie.After-zero-block) → take (N (z .before .before)) (z .zero-block .result) ≡ zeros (N (z .before .before))
-zero-part z = ap (take (N (z .before .before))) (z .zero-block .ensures) ∙ zeros-part _ 128 (width-le (z .before .before))
+zero-part z = ap (take (N (z .before .before))) (z .zero-block .ensures) ∙ zeros-part _ 128 (width-le _ (z .before .before .pre .0 .good .wide))
 
 zero-block-requires : tie.Need-zero-block-requires
 zero-block-requires c κs = search needs
@@ -54,7 +51,7 @@ slice-aggregate-step : tie.Need-slice-aggregate-step
 slice-aggregate-step c = let s = c .before .before .before .before in part-long _ (before s) (omega (arith, held-long s, half-le s))
 
 array-share-prefix-zeros : tie.Need-array-share-prefix-zeros
-array-share-prefix-zeros c = let z = c .before .before in omega (arith, ap length (z .zero-block .ensures), length-replicate 128 (pos 0), width-le (z .before .before))
+array-share-prefix-zeros c = let z = c .before .before in omega (arith, ap length (z .zero-block .ensures), length-replicate 128 (pos 0), width-le _ (z .before .before .pre .0 .good .wide))
 
 slice-aggregate-step-2 : tie.Need-slice-aggregate-step-2
 slice-aggregate-step-2 c = let z = c .before .before .before in sym (ap length (zero-part z) ∙ length-replicate (N (z .before .before)) (pos 0))

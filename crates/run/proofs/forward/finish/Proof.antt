@@ -12,8 +12,9 @@ use Rattle.lifting.specs.declared.gate.Answer.the-variants.{Done}
 use Rattle.run.specs.declared.record.Run.{Run}
 use Rattle.run.specs.Record.{blockLimit}
 use Rattle.run.specs.Gate.{sound}
+use Rattle.run.specs.Forward.{ended}
 use Rattle.run.proofs.ReadyLaws.{passed}
-use Rattle.run.proofs.AskLaws.{end-record-refused, end-closed-refused, end-output-refused, ended-done}
+use Rattle.run.proofs.AskLaws.{record-refused, closed-refused, end-output-refused, ended-done}
 use Rattle.run.proofs.forward.finish.Statement.{statement}
 use Rattle.run.proofs.forward.finish.Tie as tie
 
@@ -34,10 +35,12 @@ sound-requires : tie.Need-sound-requires
 sound-requires c κs = search needs
 
 returns : tie.Need-returns
-returns c = let s = c .before .before in end-record-refused (run s) (out s) (sym (c .before .sound .ensures) ∙ not-true _ (c .if1 .taken))
+unfolding ended
+returns c = let s = c .before .before in record-refused blockLimit (run s) (out s) _ (sym (c .before .sound .ensures) ∙ not-true _ (c .if1 .taken))
 
 returns-2 : tie.Need-returns-2
-returns-2 c = let e = c .before in let s = e .before .before in end-closed-refused (run s) (out s) (is-sound e) (c .if2 .taken)
+unfolding ended
+returns-2 c = let e = c .before in let s = e .before .before in closed-refused blockLimit (run s) (out s) _ (is-sound e) (c .if2 .taken)
 
 returns-3 : tie.Need-returns-3
 returns-3 c = let e = c .before .before in let s = e .before .before in end-output-refused (run s) (out s) (is-sound e) (c .before .if2 .left) (c .if3 .taken)

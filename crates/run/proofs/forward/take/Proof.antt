@@ -9,7 +9,7 @@ use lib.IntN.{ℤ}
 use lib.ListN.{length}
 use Rattle.run.specs.declared.record.Run.{Run}
 use Rattle.run.specs.Record.{blockLimit}
-use Rattle.run.specs.Gate.{Given, sound}
+use Rattle.run.specs.Gate.{Given, sound, admitted}
 use Rattle.run.specs.Forward.{takenIn, taken}
 use Rattle.run.proofs.ReadyLaws.{passed}
 use Rattle.run.proofs.AskLaws.{record-refused, closed-refused, full-refused, input-refused, output-refused, lengths-passed}
@@ -39,12 +39,12 @@ sound-requires : tie.Need-sound-requires
 sound-requires c κs = search needs
 
 returns : tie.Need-returns
-unfolding taken
-returns c = let s = c .before .before in record-refused blockLimit (run s) (block s) (out s) (next s) (sym (c .before .sound .ensures) ∙ not-true _ (c .if1 .taken))
+unfolding taken admitted
+returns c = let s = c .before .before in record-refused blockLimit (run s) (out s) _ (sym (c .before .sound .ensures) ∙ not-true _ (c .if1 .taken))
 
 returns-2 : tie.Need-returns-2
-unfolding taken
-returns-2 c = let e = c .before in let s = e .before .before in closed-refused blockLimit (run s) (block s) (out s) (next s) (is-sound e) (c .if2 .taken)
+unfolding taken admitted
+returns-2 c = let e = c .before in let s = e .before .before in closed-refused blockLimit (run s) (out s) _ (is-sound e) (c .if2 .taken)
 
 returns-3 : tie.Need-returns-3
 unfolding taken

@@ -5,17 +5,14 @@ use mathlib.Core.Path.{_≡_, sym, _∙_}
 use Prim.Native.Nat.{_≤_}
 use lib.ListN.{length, take}
 use Rattle.tables.proofs.ByWidth.{half-width-le}
-use Rattle.steps.proofs.Undo.{width-half}
 use Rattle.lifting.proofs.Parts.{part-long}
+use Rattle.run.proofs.FaultLaws.{width-le}
 use Rattle.run.proofs.step.step.Statement.{statement}
 use Rattle.run.proofs.step.step.Tie as tie
 
 module _ (s : tie.Start) where
   half-le : s .args .half ≤ 64
   half-le = omega (arith, s .pre .0 .half-is, half-width-le (s .args .width))
-
-  width-le : s .args .width ≤ 128
-  width-le = omega (arith, width-half (s .args .width) (s .pre .0 .wide), half-width-le (s .args .width))
 
 -- the room lent
 module _ (c : tie.After-of-128) where
@@ -26,7 +23,7 @@ module _ (c : tie.After-of-128) where
   half-room = part-long _ (c .before .of-64 .result) (omega (arith, c .before .of-64 .ensures, half-le from))
 
   width-room : from .args .width ≡ length (take (from .args .width) (c .of-128 .result))
-  width-room = part-long _ (c .of-128 .result) (omega (arith, c .of-128 .ensures, width-le from))
+  width-room = part-long _ (c .of-128 .result) (omega (arith, c .of-128 .ensures, width-le _ (from .pre .0 .wide)))
 
 of-64-requires : tie.Need-of-64-requires
 of-64-requires c κs = search needs
@@ -41,7 +38,7 @@ slice-aggregate-stepped : tie.Need-slice-aggregate-stepped
 slice-aggregate-stepped c = half-room (c .before)
 
 array-borrow-prefix-folded : tie.Need-array-borrow-prefix-folded
-array-borrow-prefix-folded c = omega (arith, c .before .of-128 .ensures, width-le (from (c .before)))
+array-borrow-prefix-folded c = omega (arith, c .before .of-128 .ensures, width-le _ (from (c .before) .pre .0 .wide))
 
 slice-aggregate-stepped-2 : tie.Need-slice-aggregate-stepped-2
 slice-aggregate-stepped-2 c = width-room (c .before .before)

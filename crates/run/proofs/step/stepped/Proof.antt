@@ -11,7 +11,7 @@ use Rattle.integers.proofs.PlaceLaws.{within-up}
 use Rattle.steps.specs.Limits.{foldedLimit}
 use Rattle.steps.specs.Steps.{lower, stages, frame}
 use Rattle.steps.proofs.Undo.{width-half, length-lower}
-use Rattle.run.proofs.StepLaws.{folded-long, folded-within, frame-long, frame-within, frame-is}
+use Rattle.run.proofs.StepLaws.{length-frame, folded-long, folded-within, frame-within, frame-is}
 use Rattle.run.proofs.step.stepped.Statement.{statement}
 use Rattle.run.proofs.step.stepped.Tie as tie
 
@@ -72,7 +72,7 @@ narrow-requires : tie.Need-narrow-requires
 narrow-requires c κs =
     let t = c .before .before .before in
     let s = start t in (
-      ap length (made t) ∙ frame-long (N s) (previous s) (block s) (s .pre .0 .wide) (s .pre .1 .0 .0) ∙ sym (s .pre .1 .0 .5),
+      ap length (made t) ∙ length-frame (N s) (previous s) (block s) (s .pre .0 .wide) ∙ sym (s .pre .1 .0 .5),
       subst (Within (2 ^ 30)) (sym (made t)) (frame-within (N s) (previous s) (block s) (s .pre .0 .wide) (s .pre .1 .0 .0) (s .pre .1 .1 .0) (s .pre .1 .1 .1)),
     )
 

@@ -1,18 +1,19 @@
 -- `run::whole::forward` meets its contract.
 use borrow.Author.Needs.{needs}
 use native.Mathlib.Omega.{arith}
-use mathlib.Core.Path.{_≡_, sym, ap, ap₂, subst, _∙_}
+use mathlib.Core.Path.{_≡_, sym, ap, subst, _∙_}
 use mathlib.Core.List.{List}
 use Prim.Native.Nat.{ℕ, _/_, _<_}
 use lib.IntN.{ℤ}
 use lib.ListN.{length}
 use Rattle.tables.specs.Widths.{halfWidth}
+use Rattle.lifting.specs.Gate.{told}
 use Rattle.run.specs.declared.gate.Fault.the-variants.{Clear}
-use Rattle.run.specs.Faults.{firstFault}
+use Rattle.run.specs.Faults.{toldFault, firstFault}
 use Rattle.run.specs.Ready.{Blocks}
 use Rattle.run.specs.Whole.{WholeRun}
 use Rattle.run.proofs.FaultLaws.{width-le, width-pos, few-readings}
-use Rattle.run.proofs.WholeLaws.{told-done, told-dead, told-beyond, width-numbered, input-numbered, output-numbered, dead-numbered, range-numbered, whole-blocks, whole-width-refused, remainder-refused, count-refused, whole-output-refused, dead-refused, beyond-refused, whole-done, whole-run}
+use Rattle.run.proofs.WholeLaws.{numbered, whole-blocks, whole-width-refused, remainder-refused, count-refused, whole-output-refused, by-fault, whole-done, whole-run}
 use Rattle.run.proofs.whole.forward.Statement.{statement}
 use Rattle.run.proofs.whole.forward.Tie as tie
 
@@ -62,28 +63,32 @@ half-width-requires : tie.Need-half-width-requires
 half-width-requires c κs = search needs
 
 returns : tie.Need-returns
-returns c = let s = c .before .before in (whole-width-refused (N s) (readings s) (out s) (sym (c .before .half-width .ensures) ∙ c .if1 .taken), λ e. absurd (width-numbered e))
+unfolding told
+returns c = let s = c .before .before in (whole-width-refused (N s) (readings s) (out s) (sym (c .before .half-width .ensures) ∙ c .if1 .taken), λ e. absurd (numbered 0 0 e))
 
 rem-if2 : tie.Need-rem-if2
 rem-if2 c = width-pos (N (start c)) (wide c)
 
 returns-2 : tie.Need-returns-2
-returns-2 c = let e = c .before in let s = start e in (remainder-refused (N s) (readings s) (out s) (has-width e) (c .if2 .taken), λ d. absurd (input-numbered d))
+unfolding told
+returns-2 c = let e = c .before in let s = start e in (remainder-refused (N s) (readings s) (out s) (has-width e) (c .if2 .taken), λ d. absurd (numbered 5 0 d))
 
 div-if3 : tie.Need-div-if3
 div-if3 c = width-pos (N (start (c .before))) (wide (c .before))
 
 returns-3 : tie.Need-returns-3
-returns-3 c = let e = c .before .before in let s = start e in (count-refused (N s) (readings s) (out s) (has-width e) (c .if3 .taken), λ d. absurd (input-numbered d))
+unfolding told
+returns-3 c = let e = c .before .before in let s = start e in (count-refused (N s) (readings s) (out s) (has-width e) (c .if3 .taken), λ d. absurd (numbered 5 0 d))
 
 add-if4 : tie.Need-add-if4
 add-if4 c = let s = start (first c) in record { fits = omega (arith, few-readings (N s) (readings s) (blocks c), width-le (N s) (wide (first c))) }
 
 returns-4 : tie.Need-returns-4
+unfolding told
 returns-4 c =
     let l = c .before in
     let s = start (first l) in
-    (whole-output-refused (N s) (readings s) (out s) (has-width (first l)) (l .before .if2 .left) (l .if3 .left) (c .if4 .taken), λ d. absurd (output-numbered d))
+    (whole-output-refused (N s) (readings s) (out s) (has-width (first l)) (l .before .if2 .left) (l .if3 .left) (c .if4 .taken), λ d. absurd (numbered 6 0 d))
 
 first-fault-requires : tie.Need-first-fault-requires
 first-fault-requires c κs = blocks (c .before)
@@ -101,34 +106,37 @@ frames-of-requires : tie.Need-frames-of-requires
 frames-of-requires c κs = let f = c .before .before .before in (blocks (third f), f .before .if4 .left)
 
 returns-5 : tie.Need-returns-5
+unfolding told toldFault
 returns-5 c =
     let f = c .before .before .before in
     let l = third f in
     let s = from f in (
-      ap (λ (a : ℕ × ℕ). (a, out s)) (told-dead _) ∙ dead-refused (N s) (readings s) (out s) (has-width (first l)) (l .before .if2 .left) (l .if3 .left) (f .before .if4 .left) _ (seen f ∙ c .before .fault .given .1),
-      λ d. absurd (dead-numbered _ d),
+      by-fault (N s) (readings s) (out s) (has-width (first l)) (l .before .if2 .left) (l .if3 .left) (f .before .if4 .left) _ (seen f ∙ c .before .fault .given .1),
+      λ d. absurd (numbered 7 _ d),
     )
 
 returns-6 : tie.Need-returns-6
+unfolding told toldFault
 returns-6 c =
     let f = c .before .before .before in
     let l = third f in
     let s = from f in (
-      ap (λ (a : ℕ × ℕ). (a, out s)) (told-beyond _) ∙ beyond-refused (N s) (readings s) (out s) (has-width (first l)) (l .before .if2 .left) (l .if3 .left) (f .before .if4 .left) _ (seen f ∙ c .before .fault2 .given .1),
-      λ d. absurd (range-numbered _ d),
+      by-fault (N s) (readings s) (out s) (has-width (first l)) (l .before .if2 .left) (l .if3 .left) (f .before .if4 .left) _ (seen f ∙ c .before .fault2 .given .1),
+      λ d. absurd (numbered 8 _ d),
     )
 
 same-length : tie.Need-same-length
 same-length c = search needs
 
 returns-7 : tie.Need-returns-7
+unfolding told
 returns-7 c =
     let n = c .before .before .before in
     let f = n .before .before in
     let l = third f in
     let s = from f in
     let made = c .before .frames-of .ensures in (
-      ap₂ (λ (a : ℕ × ℕ) (w : List ℤ). (a, w)) told-done made ∙ whole-done (N s) (readings s) (out s) (has-width (first l)) (l .before .if2 .left) (l .if3 .left) (f .before .if4 .left) (clear n),
+      ap (λ (w : List ℤ). ((0, 0), w)) made ∙ whole-done (N s) (readings s) (out s) (has-width (first l)) (l .before .if2 .left) (l .if3 .left) (f .before .if4 .left) (clear n),
       λ d. subst (WholeRun (N s) (readings s)) (sym made) (whole-run (N s) (wide (first l)) (readings s) (out s) (blocks l .whole) (l .if3 .left) (f .before .if4 .left) (clear n)),
     )
 

@@ -1,8 +1,8 @@
 -- `run_back::back::answered` meets its contract.
 use borrow.Author.Needs.{needs}
-use mathlib.Core.Path.{sym, ap, _∙_}
+use mathlib.Core.Path.{sym, ap}
+use Rattle.lifting.specs.Gate.{told}
 use Rattle.run_back.specs.Faults.{toldFault}
-use Rattle.run_back.proofs.EndLaws.{told-range, told-folded, told-halves, told-unfolded, told-clear}
 use Rattle.run_back.proofs.back.answered.Statement.{statement}
 use Rattle.run_back.proofs.back.answered.Tie as tie
 
@@ -22,19 +22,24 @@ enum-told : tie.Need-enum-told
 enum-told c = search needs
 
 returns : tie.Need-returns
-returns c = told-range _ ∙ ap toldFault (sym (c .before .fault .given .1))
+unfolding told toldFault
+returns c = ap toldFault (sym (c .before .fault .given .1))
 
 returns-2 : tie.Need-returns-2
-returns-2 c = told-folded _ ∙ ap toldFault (sym (c .before .fault2 .given .1))
+unfolding told toldFault
+returns-2 c = ap toldFault (sym (c .before .fault2 .given .1))
 
 returns-3 : tie.Need-returns-3
-returns-3 c = told-halves _ ∙ ap toldFault (sym (c .before .fault3 .given .1))
+unfolding told toldFault
+returns-3 c = ap toldFault (sym (c .before .fault3 .given .1))
 
 returns-4 : tie.Need-returns-4
-returns-4 c = told-unfolded _ ∙ ap toldFault (sym (c .before .fault4 .given .1))
+unfolding told toldFault
+returns-4 c = ap toldFault (sym (c .before .fault4 .given .1))
 
 returns-5 : tie.Need-returns-5
-returns-5 c = told-clear ∙ ap toldFault (sym (c .enum-told .given .1))
+unfolding told toldFault
+returns-5 c = ap toldFault (sym (c .enum-told .given .1))
 
 pub answered-spec : {M : Type 1} → statement M
 answered-spec =

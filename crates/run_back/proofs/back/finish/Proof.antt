@@ -13,7 +13,9 @@ use Rattle.run.specs.declared.record.Run.{Run}
 use Rattle.run.specs.Record.{frameLimit, closed}
 use Rattle.run.specs.Gate.{sound}
 use Rattle.run.proofs.ReadyLaws.{passed}
-use Rattle.run_back.proofs.EndLaws.{end-record-refused, end-closed-refused, end-empty-refused, end-held-refused, ended-done}
+use Rattle.run.proofs.AskLaws.{record-refused, closed-refused}
+use Rattle.run_back.specs.Back.{endedBack}
+use Rattle.run_back.proofs.EndLaws.{end-empty-refused, end-held-refused, ended-done}
 use Rattle.run_back.proofs.back.finish.Statement.{statement}
 use Rattle.run_back.proofs.back.finish.Tie as tie
 
@@ -31,10 +33,12 @@ sound-requires : tie.Need-sound-requires
 sound-requires c κs = search needs
 
 returns : tie.Need-returns
-returns c = end-record-refused (run (c .before .before)) (sym (c .before .sound .ensures) ∙ not-true _ (c .if1 .taken))
+unfolding endedBack
+returns c = record-refused frameLimit (run (c .before .before)) [] _ (sym (c .before .sound .ensures) ∙ not-true _ (c .if1 .taken))
 
 returns-2 : tie.Need-returns-2
-returns-2 c = let e = c .before in end-closed-refused (run (e .before .before)) (is-sound e) (c .if2 .taken)
+unfolding endedBack
+returns-2 c = let e = c .before in closed-refused frameLimit (run (e .before .before)) [] _ (is-sound e) (c .if2 .taken)
 
 returns-3 : tie.Need-returns-3
 returns-3 c = let e = c .before .before .before in end-empty-refused (run (e .before .before)) (is-sound e) (c .before .before .if2 .left) (c .if3 .taken)

@@ -12,7 +12,7 @@ use Rattle.steps.proofs.Undo.{width-half}
 use Rattle.lifting.specs.Gate.{firstBeyond}
 use Rattle.run.specs.declared.record.Run.{Run}
 use Rattle.run.proofs.GateLaws.{rest-part}
-use Rattle.run.proofs.FaultLaws.{beyond-at}
+use Rattle.run.proofs.FaultLaws.{width-le, beyond-at}
 use Rattle.run_back.specs.Faults.{toldFault}
 use Rattle.run_back.specs.declared.undo.Fault.the-variants.{Clear}
 use Rattle.run_back.proofs.UndoLaws.{upper-refused, first-done}
@@ -33,7 +33,7 @@ module _ (s : tie.Start) where
   short = omega (arith, s .pre .0 .good .half-is, half-width-le (run .width))
 
   folded-le : length folded ≤ 128
-  folded-le = omega (arith, s .pre .1, width-half (run .width) (s .pre .0 .good .wide), half-width-le (run .width))
+  folded-le = omega (arith, s .pre .1, width-le (run .width) (s .pre .0 .good .wide))
 
 seen : (f : tie.After-first-beyond) → let s = f .before .before in firstBeyond (pos 0) (drop (halfWidth (run s .width)) (folded s)) 0 ≡ f .first-beyond .result
 seen f =

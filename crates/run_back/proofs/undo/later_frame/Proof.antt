@@ -132,7 +132,7 @@ narrow-requires c κs =
     let n = c .before .before in
     let u = block-made (n .before .before) in
     let s = from u in
-    (ap length (made u) ∙ length-block (run s) (folded s) (s .pre .0 .good .wide) ∙ sym (s .pre .1 .0 .2), subst (Within (2 ^ 30)) (sym (made u)) (within-up (none-within readingLimit _ (none n)) (omega arith)))
+    (ap length (made u) ∙ length-block (run s) (folded s) ∙ sym (s .pre .1 .0 .2), subst (Within (2 ^ 30)) (sym (made u)) (within-up (none-within readingLimit _ (none n)) (omega arith)))
 
 hold-requires : tie.Need-hold-requires
 hold-requires c κs = let n = c .before .before .before .before in let s = from (block-made (n .before .before)) in (s .pre .0, s .pre .1 .0 .0)

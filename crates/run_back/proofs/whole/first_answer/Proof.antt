@@ -1,21 +1,21 @@
 -- `run_back::whole::first_answer` meets its contract: the answer of all calls is that of the calls left.
 use native.Mathlib.Omega.{arith}
-use mathlib.Core.Path.{_≡_, sym, ap, _∙_}
+use mathlib.Core.Path.{_≡_, sym, ap, ap₂, _∙_}
 use mathlib.Core.List.{List, _++_}
-use Prim.Native.Nat.{ℕ, _+_, _-_, _*_, _/_, _≤_}
+use Prim.Native.Nat.{ℕ, suc, _+_, _-_, _*_, _/_, _≤_}
 use lib.IntN.{ℤ, pos}
 use lib.ListN.{length, take, drop, length-append, length-drop, length-replicate}
+use lib.Seq.{drop-drop}
 use Rattle.lifting.specs.Gate.{told}
 use Rattle.lifting.proofs.Parts.{part-long}
 use Rattle.run.specs.declared.record.Run.{Run}
 use Rattle.run.specs.Record.{zeros}
 use Rattle.run.specs.Gate.{Given}
-use Rattle.run.specs.Forward.{started}
 use Rattle.run.proofs.FaultLaws.{width-le, width-pos, block-next, block-in, block-long, part-is}
 use Rattle.run_back.specs.Back.{takenBack, endedBack}
-use Rattle.run_back.specs.Whole.{placed, answerFrom}
+use Rattle.run_back.specs.Whole.{placed, answerFrom, firstAnswer}
 use Rattle.run_back.proofs.AnswerLaws.{taken-alike, taken-place, ended-place}
-use Rattle.run_back.proofs.LoopLaws.{few-numbers, one-frame, answer-here, answer-later, answer-end, first-is}
+use Rattle.run_back.proofs.LoopLaws.{few-numbers, one-frame, answer-here, answer-next, answer-end}
 use Rattle.run_back.proofs.whole.first_answer.Statement.{statement}
 use Rattle.run_back.proofs.whole.first_answer.Tie as tie
 
@@ -27,7 +27,7 @@ abbrev Inv-loop : tie.InvT-loop
 Inv-loop width frames run₀ block₀ at₀ left₀ run block at left =
     (at + left * width ≡ length frames)
     × (length block ≡ 128)
-    × (answerFrom width 0 (started width .1) (length frames / width) frames (outs width frames) ≡ answerFrom width at run left (drop at frames) (drop at (outs width frames)))
+    × (firstAnswer width frames (zeros (length frames - width)) ≡ answerFrom width at run left (drop at frames) (drop at (outs width frames)))
 
 abbrev μ-loop : tie.MeasureT-loop
 μ-loop width frames run₀ block₀ at₀ left₀ run block at left = left
@@ -77,17 +77,20 @@ module _ (t : tie.After-take Inv-loop μ-loop) where
   abbrev part : List ℤ
   part = take (N (from here)) (drop (place here) (frames (from here)))
 
-  given : _≡_ {A = Given} (told (t .take .result .answer), t .take .result .run, t .take .last .1 .1 .0) (takenBack (here .loop .run) part (take (N (from here)) (here .loop .block)))
-  given = t .take .ensures ∙ ap (λ (f : List ℤ). takenBack (here .loop .run) f (take (N (from here)) (here .loop .block))) (part-is (place here) (N (from here)) (frames (from here)))
+  abbrev asked : Given
+  asked = takenBack (here .loop .run) part (take (N (from here)) (drop (place here) (others here)))
 
   same-room : length (take (N (from here)) (here .loop .block)) ≡ length (take (N (from here)) (drop (place here) (others here)))
   same-room = sym (room here) ∙ sym (block-long (place here) (N (from here)) (others here) (omega (arith, outs-long (from here), inner inside)))
 
-  answer-is : told (t .take .result .answer) ≡ takenBack (here .loop .run) part (take (N (from here)) (drop (place here) (others here))) .0
-  answer-is = ap (λ (g : Given). g .0) given ∙ taken-alike (here .loop .run) part _ _ same-room .same-answer
+  given : _≡_ {A = Given} asked (told (t .take .result .answer), t .take .result .run, asked .2)
+  given =
+      sym
+      (ap (λ (g : Given). (g .0, g .1, asked .2)) (t .take .ensures ∙ ap (λ (f : List ℤ). takenBack (here .loop .run) f (take (N (from here)) (here .loop .block))) (part-is (place here) (N (from here)) (frames (from here))))
+      ∙ taken-alike (here .loop .run) part _ _ same-room .same)
 
-  record-is : t .take .result .run ≡ takenBack (here .loop .run) part (take (N (from here)) (drop (place here) (others here))) .1
-  record-is = ap (λ (g : Given). g .1) given ∙ taken-alike (here .loop .run) part _ _ same-room .same-record
+  more : here .loop .left ≡ suc (here .loop .left - 1)
+  more = omega (arith, inside .loop-test .taken)
 
 ended : (e : tie.After-finish Inv-loop μ-loop) → told (e .finish .result .answer) ≡ endedBack (e .before .before .loop .run) .0
 ended e = ap (λ (g : Given). g .0) (e .finish .ensures)
@@ -102,6 +105,7 @@ div-left : tie.Need-div-left Inv-loop μ-loop
 div-left c = let s = c .before .before .before in width-pos (N s) (s .pre .wide)
 
 loop-holds : tie.Need-loop-holds Inv-loop μ-loop
+unfolding firstAnswer
 loop-holds c =
     let s = c .before .before .before in (
       omega (arith, s .pre .whole),
@@ -139,7 +143,7 @@ number-requires c κs = tt
 placed-requires : tie.Need-placed-requires Inv-loop μ-loop
 placed-requires c κs =
     let t = c .before .before .before in
-    (omega (arith, end-le (inside t)), omega (arith, ap (λ (p : ℕ × ℕ). p .1) (answer-is t), taken-place (here t .loop .run) (part t) (take (N (from (here t))) (drop (place (here t)) (others (here t))))))
+    (omega (arith, end-le (inside t)), omega (arith, ap (λ (g : Given). g .0 .1) (given t), taken-place (here t .loop .run) (part t) (take (N (from (here t))) (drop (place (here t)) (others (here t))))))
 
 returns : tie.Need-returns Inv-loop μ-loop
 returns c =
@@ -148,8 +152,8 @@ returns c =
     let k = here t in
     let s = from k in
     c .placed .ensures
-    ∙ answer-here (N s) (place k) (k .loop .left) (k .loop .run) (frames s) (others k) (inside t .loop-test .taken) _ (answer-is t) (λ e. c .before .if1 .taken (n .number .ensures ∙ e))
-    ∙ sym (first-is (N s) (frames s) (zeros (length (frames s) - N s)) ∙ k .loop .inv .2)
+    ∙ answer-here (N s) _ (k .loop .run) (drop (place k) (frames s)) (drop (place k) (others k)) (more t) (given t) (place k) (λ e. c .before .if1 .taken (n .number .ensures ∙ e))
+    ∙ sym (k .loop .inv .2)
 
 sub-left : tie.Need-sub-left Inv-loop μ-loop
 sub-left c = omega arith
@@ -165,7 +169,9 @@ loop-again c =
     let s = from k in (
       block-next (place k) (k .loop .left) (N s) _ (k .loop .inv .0) (inside t .loop-test .taken),
       omega (arith, n .before .block2 .given, room k, length-append (t .take .last .1 .1 .0) (drop (N s) (k .loop .block)), length-drop (N s) (k .loop .block), k .loop .inv .1, width-le (N s) (s .pre .wide)),
-      k .loop .inv .2 ∙ answer-later (N s) (place k) (k .loop .left) (k .loop .run) (frames s) (others k) (inside t .loop-test .taken) _ (answer-is t) _ (record-is t) (sym (n .number .ensures) ∙ c .before .if1 .left),
+      k .loop .inv .2
+          ∙ answer-next (N s) _ (k .loop .run) (drop (place k) (frames s)) (drop (place k) (others k)) (more t) (given t) (place k) (sym (n .number .ensures) ∙ c .before .if1 .left)
+          ∙ ap₂ (answerFrom (N s) (place k + N s) (t .take .result .run) (k .loop .left - 1)) (drop-drop (N s) (place k) (frames s)) (drop-drop (N s) (place k) (others k)),
     )
 
 finish-requires : tie.Need-finish-requires Inv-loop μ-loop
@@ -191,8 +197,8 @@ returns-2 c =
     let e : k .loop .left ≡ 0 = omega (arith, f .before .loop-test .left) in
     c .placed2 .ensures
     ∙ ap (placed (N s) (place k - N s)) (ended f)
-    ∙ answer-end (N s) (place k) (k .loop .left) (k .loop .run) (frames s) (others k) e
-    ∙ sym (first-is (N s) (frames s) (zeros (length (frames s) - N s)) ∙ k .loop .inv .2)
+    ∙ answer-end (N s) (place k) (k .loop .left) (k .loop .run) (drop (place k) (frames s)) (drop (place k) (others k)) e
+    ∙ sym (k .loop .inv .2)
 
 pub first-answer-spec : {M : Type 1} → statement M
 first-answer-spec =

@@ -4,7 +4,7 @@ use native.Mathlib.Omega.{arith}
 use mathlib.Core.Path.{refl}
 use Rattle.lifting.specs.Gate.{told}
 use Rattle.run_back.specs.Whole.{placed}
-use Rattle.run_back.proofs.PlacedLaws.{place-le, known, placed-dead, placed-range, placed-folded, placed-halves, placed-unfolded, placed-first}
+use Rattle.run_back.proofs.PlacedLaws.{place-le, known, placed-first}
 use Rattle.run_back.proofs.whole.placed.Statement.{statement}
 use Rattle.run_back.proofs.whole.placed.Tie as tie
 
@@ -16,7 +16,8 @@ unfolding told
 add-t10 c = let s = c .before .before .before in record { fits = omega (arith, s .pre .0, place-le _ _ (c .before .answer .given .1) (s .pre .1)) }
 
 returns-2 : tie.Need-returns-2
-returns-2 c = let s = c .before .before .before in known (s .args .width) (s .args .offset) _ _ _ (c .before .answer .given .1) (placed-dead (s .args .width) (s .args .offset) _)
+unfolding told placed
+returns-2 c = let s = c .before .before .before in known (s .args .width) (s .args .offset) _ _ _ (c .before .answer .given .1) refl
 
 enum-known-answer-2 : tie.Need-enum-known-answer-2
 enum-known-answer-2 c = search needs
@@ -26,7 +27,8 @@ unfolding told
 add-t11 c = let s = c .before .before .before in record { fits = omega (arith, s .pre .0, place-le _ _ (c .before .answer2 .given .1) (s .pre .1)) }
 
 returns-3 : tie.Need-returns-3
-returns-3 c = let s = c .before .before .before in known (s .args .width) (s .args .offset) _ _ _ (c .before .answer2 .given .1) (placed-range (s .args .width) (s .args .offset) _)
+unfolding told placed
+returns-3 c = let s = c .before .before .before in known (s .args .width) (s .args .offset) _ _ _ (c .before .answer2 .given .1) refl
 
 enum-known-answer-3 : tie.Need-enum-known-answer-3
 enum-known-answer-3 c = search needs
@@ -36,7 +38,8 @@ unfolding told
 add-t12 c = let s = c .before .before .before in record { fits = omega (arith, s .pre .0, place-le _ _ (c .before .answer3 .given .1) (s .pre .1)) }
 
 returns-4 : tie.Need-returns-4
-returns-4 c = let s = c .before .before .before in known (s .args .width) (s .args .offset) _ _ _ (c .before .answer3 .given .1) (placed-folded (s .args .width) (s .args .offset) _)
+unfolding told placed
+returns-4 c = let s = c .before .before .before in known (s .args .width) (s .args .offset) _ _ _ (c .before .answer3 .given .1) refl
 
 enum-known-answer-4 : tie.Need-enum-known-answer-4
 enum-known-answer-4 c = search needs
@@ -46,7 +49,8 @@ unfolding told
 add-t13 c = let s = c .before .before .before in record { fits = omega (arith, s .pre .0, place-le _ _ (c .before .answer4 .given .1) (s .pre .1)) }
 
 returns-5 : tie.Need-returns-5
-returns-5 c = let s = c .before .before .before in known (s .args .width) (s .args .offset) _ _ _ (c .before .answer4 .given .1) (placed-halves (s .args .width) (s .args .offset) _)
+unfolding told placed
+returns-5 c = let s = c .before .before .before in known (s .args .width) (s .args .offset) _ _ _ (c .before .answer4 .given .1) refl
 
 enum-known-answer-5 : tie.Need-enum-known-answer-5
 enum-known-answer-5 c = search needs
@@ -59,7 +63,8 @@ unfolding told
 add-t16 c = let a = c .before in let s = a .before .before .before in record { fits = omega (arith, s .pre .0, place-le _ _ (a .before .answer5 .given .1) (s .pre .1)) }
 
 returns-6 : tie.Need-returns-6
-returns-6 c = let a = c .before in let s = a .before .before .before in known (s .args .width) (s .args .offset) _ _ _ (a .before .answer5 .given .1) (placed-unfolded (s .args .width) (s .args .offset) _)
+unfolding told placed
+returns-6 c = let a = c .before in let s = a .before .before .before in known (s .args .width) (s .args .offset) _ _ _ (a .before .answer5 .given .1) refl
 
 enum-told : tie.Need-enum-told
 enum-told c = search needs

@@ -2,7 +2,7 @@
 use native.Mathlib.Omega.{arith}
 use mathlib.Core.Path.{_≡_, refl, sym, ap, ap₂, _∙_}
 use mathlib.Core.List.{List, _++_}
-use Prim.Native.Nat.{ℕ, _+_, _-_, _*_, _/_, _≤_}
+use Prim.Native.Nat.{ℕ, _+_, _*_, _/_, _≤_}
 use lib.IntN.{ℤ, pos}
 use lib.ListN.{length, take, drop, length-replicate}
 use Rattle.lifting.specs.Gate.{told}
@@ -15,7 +15,7 @@ use Rattle.run.proofs.FaultLaws.{width-le, width-pos, block-next, block-in, blo
 use Rattle.run_back.specs.Back.{takenBack}
 use Rattle.run_back.specs.Whole.{outputsFrom, allOutputs}
 use Rattle.run_back.proofs.AnswerLaws.{taken-alike}
-use Rattle.run_back.proofs.LoopLaws.{few-numbers, one-frame, one-block-less, readings-whole, blocks-next, no-blocks, outputs-first}
+use Rattle.run_back.proofs.LoopLaws.{few-numbers, one-frame, one-block-less, readings-whole, blocks-next, no-blocks, outputs-behind}
 use Rattle.run_back.proofs.whole.readings_of.Statement.{statement}
 use Rattle.run_back.proofs.whole.readings_of.Tie as tie
 
@@ -53,7 +53,7 @@ module _ (t : tie.After-take Inv-loop μ-loop) where
   first-record =
       ap (λ (g : Given). g .1) (t .take .ensures)
       ∙ ap (λ (r : Run). takenBack r (take (N begun) (frames begun)) (take (N begun) (t .before .before .before .spare .result)) .1) fresh
-      ∙ taken-alike (started (N begun) .1) (take (N begun) (frames begun)) _ _ (sym (room) ∙ sym (length-replicate (N begun) (pos 0))) .same-record
+      ∙ ap (λ (g : Given). g .1) (taken-alike (started (N begun) .1) (take (N begun) (frames begun)) _ _ (sym room ∙ sym (length-replicate (N begun) (pos 0))) .same)
 
 module _ (k : tie.At-loop Inv-loop μ-loop) where
   abbrev from : tie.Start Inv-loop μ-loop
@@ -117,12 +117,11 @@ loop-holds : tie.Need-loop-holds Inv-loop μ-loop
 loop-holds c =
     let t = c .before .before in
     let s = begun t in
-    let n : length (frames s) / N s - 1 ≡ length (old s) / N s = omega (arith, one-block-less (N s) (frames s) (old s) (s .pre .0) (s .pre .1)) in
     let z : N s ≡ 0 + N s = omega arith in (
       omega (arith, readings-whole (N s) (frames s) (old s) (s .pre .0) (s .pre .1)),
       refl,
-      outputs-first (N s) (frames s) (old s) _ (first-record t) (s .pre .0 .some)
-          ∙ ap₂ (λ (k d : ℕ). outputsFrom (N s) (t .take .result .run) k (drop d (frames s)) (old s)) n z,
+      outputs-behind (N s) _ (frames s) (old s) (one-block-less (N s) (frames s) (old s) (s .pre .0) (s .pre .1)) _ (first-record t)
+          ∙ ap (λ (d : ℕ). outputsFrom (N s) (t .take .result .run) (length (old s) / N s) (drop d (frames s)) (old s)) z,
     )
 
 add-end : tie.Need-add-end Inv-loop μ-loop
