@@ -122,11 +122,8 @@ three (x ∷ y ∷ z ∷ l) a b c held e = refl
 
 module _ (run : Run) (numbers : List ℤ) (p : Packable run numbers) where
   -- as the code leaves the numbers before the held values are copied
-  abbrev pub begun : List ℤ
+  abbrev begun : List ℤ
   begun = set (set (set numbers 0 (toZ w64 (run .width))) 1 (toZ w64 (run .count))) 2 (toZ w64 (boolByte (run .finished)))
-
-  pub begun-long : length begun ≡ runLength
-  begun-long = simp length-set (p .room)
 
   pub packed-is : (held : List ℤ) → held ≡ run .held → putMid 3 (length begun - 3) begun held ≡ packed run
   unfolding packed
@@ -134,11 +131,7 @@ module _ (run : Run) (numbers : List ℤ) (p : Packable run numbers) where
       let w = number (run .width) (p .narrow) in
       let c = number (run .count) (p .few) in
       let f = bit (run .finished) in
-      written-end 3 begun held (omega (arith, begun-long)) ∙ three numbers _ _ _ held (p .room) ∙ cc
-
-  pub packed-long : (held : List ℤ) → held ≡ run .held → length (run .held) ≡ 64 → length (putMid 3 (length begun - 3) begun held) ≡ length numbers
-  unfolding packed
-  packed-long held h l = ap length (packed-is held h) ∙ ap (λ n. suc (suc (suc n))) l ∙ sym (p .room)
+      written-end 3 begun held (simp length-set (omega (arith, p .room))) ∙ three numbers _ _ _ held (p .room) ∙ cc
 
 -- ---- there and back: a record with 64 held values, and numbers that are those of a record
 pub unpacked-packed : (run : Run) → length (run .held) ≡ 64 → unpacked (packed run) ≡ run

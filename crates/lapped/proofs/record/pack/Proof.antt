@@ -3,11 +3,10 @@ use borrow.Author.Needs.{needs}
 use native.Mathlib.Omega.{arith}
 use mathlib.Core.Path.{_≡_, sym, _∙_}
 use mathlib.Core.List.{List}
-use Prim.Native.Nat.{_≤_}
 use lib.IntN.{ℤ}
-use lib.ListN.{length}
+use lib.ListN.{length, length-take, length-drop, length-set}
 use Rattle.run.specs.declared.record.Run.{Run}
-use Rattle.lapped.proofs.RecordLaws.{rest-long, begun, begun-long, packed-is, packed-long}
+use Rattle.lapped.proofs.RecordLaws.{packed-is}
 use Rattle.lapped.proofs.record.pack.Statement.{statement}
 use Rattle.lapped.proofs.record.pack.Tie as tie
 
@@ -20,9 +19,6 @@ module _ (s : tie.Start) where
 
   held-long : length (run .held) ≡ 64
   held-long = search needs
-
-  long : 3 ≤ length (begun run numbers (s .pre))
-  long = omega (arith, begun-long run numbers (s .pre))
 
 cast-numbers : tie.Need-cast-numbers
 cast-numbers c = search needs
@@ -46,10 +42,10 @@ slice-aggregate-copy : tie.Need-slice-aggregate-copy
 slice-aggregate-copy c = search needs
 
 sub-copy : tie.Need-sub-copy
-sub-copy c = long (c .before .before .before .before .before)
+sub-copy c = let s = c .before .before .before .before .before in simp length-set (omega (arith, s .pre .room))
 
 part-copy-start : tie.Need-part-copy-start
-part-copy-start c = long (c .before .before .before .before .before)
+part-copy-start c = let s = c .before .before .before .before .before in simp length-set (omega (arith, s .pre .room))
 
 part-copy-end : tie.Need-part-copy-end
 part-copy-end c = search needs
@@ -57,12 +53,10 @@ part-copy-end c = search needs
 copy-requires : tie.Need-copy-requires
 copy-requires c κs =
     let s = c .before .before .before .before .before .before in
-    held-long s ∙ sym (rest-long (begun (run s) (numbers s) (s .pre)) (begun-long (run s) (numbers s) (s .pre)))
+    held-long s ∙ sym (simp (length-take, length-drop, length-set, s .pre .room))
 
 same-length : tie.Need-same-length
-same-length c =
-    let s = c .before .before .before .before .before .before .before .before in
-    packed-long (run s) (numbers s) (s .pre) _ (c .before .copy .ensures) (held-long s)
+same-length c = c .numbers .given .1 ∙ simp length-set
 
 returns : tie.Need-returns
 returns c =

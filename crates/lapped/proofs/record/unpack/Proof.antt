@@ -40,10 +40,10 @@ returns : tie.Need-returns
 returns c = no-record (numbers (c .before .before .before)) _ (c .before .before .nothing-held .ensures) (sym (c .before .is-record .ensures) ∙ not-true _ (c .if1 .taken))
 
 sub-copy : tie.Need-sub-copy
-sub-copy c = long c
+sub-copy c = omega (arith, long c)
 
 part-copy-start : tie.Need-part-copy-start
-part-copy-start c = long c
+part-copy-start c = omega (arith, long c)
 
 part-copy-end : tie.Need-part-copy-end
 part-copy-end c = search needs
