@@ -1,0 +1,72 @@
+-- `lapped::calls::lapped_start` meets its contract.
+use borrow.Author.Needs.{needs}
+use mathlib.Core.Path.{sym, ap, subst, _∙_}
+use mathlib.Core.List.{List}
+use Prim.Native.Nat.{ℕ}
+use lib.IntN.{ℤ}
+use Rattle.lifting.specs.Gate.{told}
+use Rattle.run.specs.declared.record.Run.{Run}
+use Rattle.lapped.specs.Ready.{Packable}
+use Rattle.lapped.proofs.CallLaws.{start-fits, start-packed, start-no-room, start-refused}
+use Rattle.lapped.proofs.calls.lapped_start.Statement.{statement}
+use Rattle.lapped.proofs.calls.lapped_start.Tie as tie
+
+abbrev numbers : tie.Start → List ℤ
+numbers s = s .args .run .now
+
+start-requires : tie.Need-start-requires
+start-requires c κs = search needs
+
+pack-requires : tie.Need-pack-requires
+pack-requires c κs =
+    let f = c .before .before .before in
+    subst (λ (r : Run). Packable r (numbers (f .before))) (sym (ap (λ (g : (ℕ × ℕ) × Run). g .1) (f .start .ensures))) (start-fits (f .before .args .width) (numbers (f .before)) (c .before .before .if1 .taken))
+
+tell-requires : tie.Need-tell-requires
+tell-requires c κs = search needs
+
+same-length : tie.Need-same-length
+same-length c = search needs
+
+returns : tie.Need-returns
+returns c =
+    let p = c .before .before .before in
+    let f = p .before .before .before .before in
+    start-packed (f .before .args .width) (numbers (f .before)) _ _ _ (f .start .ensures) _ (p .before .before .before .if1 .taken) (c .tell .ensures) (p .pack .ensures)
+
+number-requires : tie.Need-number-requires
+number-requires c κs = search needs
+
+tell-requires-2 : tie.Need-tell-requires-2
+tell-requires-2 c κs = search needs
+
+returns-2 : tie.Need-returns-2
+unfolding told
+returns-2 c =
+    let n = c .before .before .before in
+    let f = n .before .before in
+    start-no-room (f .before .args .width) (numbers (f .before)) _ _ _ (f .start .ensures) (n .before .if1 .left) (sym (n .number .ensures) ∙ c .before .before .if2 .taken) (c .tell2 .ensures)
+
+tell-requires-3 : tie.Need-tell-requires-3
+tell-requires-3 c κs = search needs
+
+returns-3 : tie.Need-returns-3
+returns-3 c =
+    let n = c .before .before .before in
+    let f = n .before .before in
+    start-refused (f .before .args .width) (numbers (f .before)) _ _ _ (f .start .ensures) (n .before .if1 .left) (λ e. c .before .before .if2 .left (n .number .ensures ∙ e)) (c .tell3 .ensures)
+
+pub lapped-start-spec : {M : Type 1} → statement M
+lapped-start-spec =
+    tie.close
+    (tie.spec
+    start-requires
+    pack-requires
+    tell-requires
+    same-length
+    returns
+    number-requires
+    tell-requires-2
+    returns-2
+    tell-requires-3
+    returns-3)

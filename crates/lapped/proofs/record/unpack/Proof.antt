@@ -1,0 +1,104 @@
+-- `lapped::record::unpack` meets its contract.
+use borrow.Author.Needs.{needs}
+use borrow.Author.Tests.{not-true, not-false}
+use native.Mathlib.Omega.{arith}
+use mathlib.Core.Path.{_≡_, sym, ap, _∙_}
+use mathlib.Core.Bool.{true}
+use mathlib.Core.List.{List}
+use Prim.Native.Nat.{_≤_}
+use lib.IntN.{ℤ, pos}
+use lib.ListN.{length, length-replicate}
+use lib.Signed.{natAbs-le}
+use mir.Syntax.{w64}
+use Rattle.integers.specs.Places.{at}
+use Rattle.integers.proofs.Held.{held-ok, asks-nat}
+use Rattle.lapped.specs.Record.{isRecord}
+use Rattle.lapped.proofs.RecordLaws.{has-room, has-width, has-count, rest-long, no-record, some-record}
+use Rattle.lapped.proofs.record.unpack.Statement.{statement}
+use Rattle.lapped.proofs.record.unpack.Tie as tie
+
+abbrev numbers : tie.Start → List ℤ
+numbers s = s .args .numbers .now
+
+module _ (e : tie.Else1) where
+  abbrev from : tie.Start
+  from = e .before .before .before
+
+  is-record : isRecord (numbers from) ≡ true
+  is-record = sym (e .before .is-record .ensures) ∙ not-false _ (e .if1 .left)
+
+  long : 3 ≤ length (numbers from)
+  long = omega (arith, has-room (numbers from) is-record)
+
+nothing-held-requires : tie.Need-nothing-held-requires
+nothing-held-requires c κs = search needs
+
+is-record-requires : tie.Need-is-record-requires
+is-record-requires c κs = search needs
+
+returns : tie.Need-returns
+returns c = no-record (numbers (c .before .before .before)) _ (c .before .before .nothing-held .ensures) (sym (c .before .is-record .ensures) ∙ not-true _ (c .if1 .taken))
+
+sub-copy : tie.Need-sub-copy
+sub-copy c = omega (arith, long c)
+
+part-copy-start : tie.Need-part-copy-start
+part-copy-start c = omega (arith, long c)
+
+part-copy-end : tie.Need-part-copy-end
+part-copy-end c = search needs
+
+slice-aggregate-copy : tie.Need-slice-aggregate-copy
+slice-aggregate-copy c = search needs
+
+copy-requires : tie.Need-copy-requires
+copy-requires c κs =
+    let e = c .before .before in
+    rest-long (numbers (from e)) (has-room (numbers (from e)) (is-record e)) ∙ sym (ap length (e .before .before .nothing-held .ensures) ∙ length-replicate 64 (pos 0))
+
+shared-slice-copy-out-t15 : tie.Need-shared-slice-copy-out-t15
+shared-slice-copy-out-t15 c = omega (arith, long (c .before .before .before .before))
+
+cast-t9 : tie.Need-cast-t9
+cast-t9 c =
+    let e = c .before .before .before .before .before in
+    let x = at (numbers (from e)) 0 in
+    asks-nat w64 (held-ok w64 x (c .t15 .given)) (has-width (numbers (from e)) (is-record e)) (omega (arith, natAbs-le x (c .t15 .given)))
+
+shared-slice-copy-out-t17 : tie.Need-shared-slice-copy-out-t17
+shared-slice-copy-out-t17 c = omega (arith, long (c .before .before .before .before .before))
+
+cast-t18 : tie.Need-cast-t18
+cast-t18 c =
+    let e = c .before .before .before .before .before .before in
+    let x = at (numbers (from e)) 1 in
+    asks-nat w64 (held-ok w64 x (c .t17 .given)) (has-count (numbers (from e)) (is-record e)) (omega (arith, natAbs-le x (c .t17 .given)))
+
+shared-slice-copy-out-t20 : tie.Need-shared-slice-copy-out-t20
+shared-slice-copy-out-t20 c = omega (arith, long (c .before .before .before .before .before .before))
+
+returns-2 : tie.Need-returns-2
+returns-2 c =
+    let w = c .before .before in
+    let e = w .before .before .before .before .before in
+    let l = numbers (from e) in
+    some-record l _ _ _ (held-ok w64 (at l 0) (w .t15 .given) .is) (held-ok w64 (at l 1) (c .before .t17 .given) .is) (w .before .before .copy .ensures) (is-record e)
+
+pub unpack-spec : {M : Type 1} → statement M
+unpack-spec =
+    tie.close
+    (tie.spec
+    nothing-held-requires
+    is-record-requires
+    returns
+    sub-copy
+    part-copy-start
+    part-copy-end
+    slice-aggregate-copy
+    copy-requires
+    shared-slice-copy-out-t15
+    cast-t9
+    shared-slice-copy-out-t17
+    cast-t18
+    shared-slice-copy-out-t20
+    returns-2)

@@ -1,0 +1,38 @@
+-- The run record as a program in C holds it: 67 numbers, which the program owns.
+use mathlib.Core.Bool.{Bool, cond}
+use mathlib.Core.List.{List, [], _∷_}
+use Prim.Native.Nat.{ℕ}
+use lib.Dec.{eqb, leb}
+use lib.IntN.{ℤ, pos, natAbs}
+use lib.ListN.{length, drop}
+use lib.Signed.{nonNeg}
+use Rattle.integers.specs.Places.{at}
+use Rattle.run.specs.declared.record.Run.{Run}
+use Rattle.run.specs.Record.{opened}
+use Rattle.run.specs.Gate.{every}
+
+-- three numbers and 64 held values
+abbrev pub runLength : ℕ
+runLength = 67
+
+-- the width, the count, 1 where the run is finished and 0 where it is open, and the held values
+unfoldable pub packed : Run → List ℤ
+packed run = pos (run .width) ∷ pos (run .count) ∷ pos (cond (run .finished) 1 0) ∷ run .held
+
+-- whether numbers are those of some record: 67 of them, a width and a count from 0 up, and 0 or 1
+unfoldable pub isRecord : List ℤ → Bool
+isRecord numbers =
+    every
+    (eqb (length numbers) runLength
+    ∷ nonNeg (at numbers 0)
+    ∷ nonNeg (at numbers 1)
+    ∷ nonNeg (at numbers 2)
+    ∷ leb (natAbs (at numbers 2)) 1
+    ∷ [])
+
+-- the record of numbers; any others are a record of width 0, which question 2 refuses
+unfoldable pub unpacked : List ℤ → Run
+unpacked numbers =
+    cond (isRecord numbers)
+    (record { width = natAbs (at numbers 0); count = natAbs (at numbers 1); held = drop 3 numbers; finished = eqb (natAbs (at numbers 2)) 1 })
+    (opened 0 0 [])
