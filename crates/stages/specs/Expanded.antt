@@ -1,10 +1,12 @@
 -- The tables of a width expanded into lists, and the row sums of the stages.
 use mathlib.Core.Path.{_≡_}
+use mathlib.Core.Bool.{cond}
+use lib.Dec.{eqb}
 use mathlib.Core.List.{List}
-use Prim.Native.Nat.{ℕ, _+_, _-_, _*_, _/_, _^_, _<_}
+use Prim.Native.Nat.{ℕ, _+_, _-_, _*_, _/_, _%_, _^_, _<_}
 use lib.IntN.{ℤ, pos, negℤ, _+ℤ_, _-ℤ_, _*ℤ_}
 use lib.ListN.{length}
-use Rattle.integers.specs.Places.{places, at, sum}
+use Rattle.integers.specs.Places.{places, at, sum, Within}
 use Rattle.tables.specs.Widths.{halfWidth}
 use Rattle.tables.specs.Numbers.{cosineOf, secantOf}
 use Rattle.steps.specs.Steps.{rootLog, cosine, secant, tangent, sine, stage1, stage2, stage3, stage4, stage5, unstage1, unstage2, unstage3, unstage4, unstage5}
@@ -15,13 +17,42 @@ cosineSums N x = places (halfWidth N) (λ m. sum (halfWidth N) (λ n. cosine N m
 unfoldable pub secantSums : ℕ → List ℤ → List ℤ
 secantSums N x = places (halfWidth N) (λ m. sum (halfWidth N) (λ n. secant N m n *ℤ at x n))
 
--- the cosines of a whole turn, in parts of π/(4M)
-pub record Turn (N : ℕ) (xs : List ℤ) : Type 0 where
-  pub is : xs ≡ places (8 * halfWidth N) (λ e. cosineOf (e * (128 / halfWidth N)))
+-- the sum of t(i + j)·x(j)
+unfoldable pub window : List ℤ → List ℤ → ℕ → ℤ
+window t x i = sum (length x) (λ j. at t (i + j) *ℤ at x j)
 
--- the secants for r from 0 below N
+-- numbers so small that a sum of n products of them fits 64 bits
+pub record Sizes (n : ℕ) (t x : List ℤ) : Type 0 where
+  pub table : ℕ
+  pub list : ℕ
+  pub table-within : Within table t
+  pub list-within : Within list x
+  pub fits : n * table * list < 2 ^ 63
+
+-- the cosines at 3^k·π/(4M), for k below 2M
+unfoldable pub turnAt : ℕ → ℕ → ℤ
+turnAt N k = cosineOf (3 ^ k % (8 * halfWidth N) * (128 / halfWidth N))
+
+pub record Turn (N : ℕ) (xs : List ℤ) : Type 0 where
+  pub is : xs ≡ places N (turnAt N)
+
+-- the secants for r = k + 1 at an even k, and for r = k − M at an odd k
+unfoldable pub secantFor : ℕ → ℕ → ℤ
+secantFor N k = cond (eqb (k % 2) 0) (secantOf N (pos (k + 1))) (secantOf N (pos k -ℤ pos (halfWidth N)))
+
 pub record Secants (N : ℕ) (xs : List ℤ) : Type 0 where
-  pub is : xs ≡ places N (λ r. secantOf N (pos r))
+  pub is : xs ≡ places N (secantFor N)
+
+-- the sum of an even row m from m on with z, of an odd one from m + 1 on with w
+unfoldable pub secantWindow : List ℤ → List ℤ → List ℤ → ℕ → ℤ
+secantWindow t z w m = cond (eqb (m % 2) 0) (window t z m) (window t w (m + 1))
+
+-- the place in a list from which a row of secants takes its factor, for even rows and for odd ones
+unfoldable pub evenPlace : ℕ → ℕ → ℕ
+evenPlace M l = cond (eqb (l % 2) 0) l (M - l)
+
+unfoldable pub oddPlace : ℕ → ℕ → ℕ
+oddPlace M l = cond (eqb (l % 2) 0) (l + 1) (M - 1 - l)
 
 -- −t(m) and s(m)
 pub record Tangents (N : ℕ) (xs : List ℤ) : Type 0 where
