@@ -1,17 +1,21 @@
 -- A sum of products of a list with a part of a table, term by term: it fits 64 bits.
 use mathlib.Core.Path.{_≡_, sym, ap, subst, _∙_}
 use mathlib.Core.List.{List}
-use Prim.Native.Nat.{ℕ, zero, suc, _+_, _*_, _^_, _≤_, _<_}
+use Prim.Native.Nat.{ℕ, zero, suc, _+_, _-_, _*_, _%_, _^_, _≤_, _<_}
 use native.Mathlib.Nat.{mul-le-mul-right}
 use native.Mathlib.Omega.{arith}
+use borrow.Author.Tests.{eq-eqb, ne-eqb}
 use lib.IntN.{ℤ, pos, natAbs, _+ℤ_, _*ℤ_}
+use lib.ListN.{length, take, drop, length-drop}
+use lib.Seq.{getD-drop, take-all}
 use mir.Syntax.{w64}
 use mir.Val.{SFits, toZ, ofZ}
 use Rattle.integers.specs.Places.{at, sum}
 use Rattle.integers.proofs.Order.{natAbs-*ℤ-le, natAbs-+ℤ-le}
 use Rattle.integers.proofs.Held.{Held, held-eq, asks-add, asks-mul, h-add, h-mul}
 use Rattle.integers.proofs.Words.{small}
-use Rattle.stages.specs.Expanded.{Sizes}
+use Rattle.integers.proofs.PlaceLaws.{sum-ext}
+use Rattle.stages.specs.Expanded.{window, inFours, Sizes}
 
 -- the product at a place, of the part of t from i on
 abbrev pub term : List ℤ → List ℤ → ℕ → ℕ → ℤ
@@ -62,3 +66,42 @@ module _ {n : ℕ} {t x : List ℤ} (s : Sizes n t x) (i : ℕ) where
     pub next-sum : {a : ℕ} → Held w64 a (sum j (term t x i)) → Held w64 (ofZ w64 (toZ w64 a +ℤ toZ w64 (ofZ w64 (toZ w64 u *ℤ toZ w64 v)))) (sum (j + 1) (term t x i))
     unfolding sum
     next-sum ha = let e : j + 1 ≡ suc j = omega arith in rw e (h-add ha product next-fits)
+
+-- ---- a part of the table that begins further on
+module _ (t u x : List ℤ) (i : ℕ) (e : u ≡ drop i t) where
+  part-at : (k : ℕ) → at u k ≡ at t (i + k)
+  part-at k = ap (λ l. at l k) e ∙ getD-drop i t k (pos 0)
+
+  pub part-sizes : {n : ℕ} → Sizes n t x → Sizes n u x
+  part-sizes s = record {
+      table = s .table;
+      list = s .list;
+      table-within = record { size = λ k. subst (λ z. natAbs z ≤ s .table) (sym (part-at k)) (s .table-within .size (i + k)) };
+      list-within = s .list-within;
+      fits = s .fits;
+    }
+
+  pub part-window : (k : ℕ) → window u x k ≡ window t x (i + k)
+  unfolding window
+  part-window k = sum-ext (length x) _ _ (λ j l. ap (λ z. z *ℤ at x j) (part-at (k + j) ∙ ap (at t) (let a : i + (k + j) ≡ i + k + j = omega arith in a)))
+
+pub part-from : (i : ℕ) (t : List ℤ) → take (length t - i) (drop i t) ≡ drop i t
+part-from i t = take-all (length t - i) (drop i t) (omega (arith, length-drop i t))
+
+-- ---- four sums from every fourth place on
+module _ (t z w : List ℤ) (p q r i : ℕ) (f : i % 4 ≡ 0) where
+  pub four-first : inFours t z w p q r i ≡ window t z i
+  unfolding inFours
+  four-first = rw (eq-eqb (i % 4) 0 f)
+
+  pub four-second : inFours t z w p q r (i + 1) ≡ window t w (i + p)
+  unfolding inFours
+  four-second = rw (ne-eqb ((i + 1) % 4) 0 (λ a. omega (arith, a)), eq-eqb ((i + 1) % 4) 1 (omega arith)) (ap (window t w) (let a : i + 1 - 1 + p ≡ i + p = omega arith in a))
+
+  pub four-third : inFours t z w p q r (i + 2) ≡ window t z (i + q)
+  unfolding inFours
+  four-third = rw (ne-eqb ((i + 2) % 4) 0 (λ a. omega (arith, a)), ne-eqb ((i + 2) % 4) 1 (λ a. omega (arith, a)), eq-eqb ((i + 2) % 4) 2 (omega arith)) (ap (window t z) (let a : i + 2 - 2 + q ≡ i + q = omega arith in a))
+
+  pub four-fourth : inFours t z w p q r (i + 3) ≡ window t w (i + r)
+  unfolding inFours
+  four-fourth = rw (ne-eqb ((i + 3) % 4) 0 (λ a. omega (arith, a)), ne-eqb ((i + 3) % 4) 1 (λ a. omega (arith, a)), ne-eqb ((i + 3) % 4) 2 (λ a. omega (arith, a))) (ap (window t w) (let a : i + 3 - 3 + r ≡ i + r = omega arith in a))

@@ -21,6 +21,13 @@ secantSums N x = places (halfWidth N) (λ m. sum (halfWidth N) (λ n. secant N m
 unfoldable pub window : List ℤ → List ℤ → ℕ → ℤ
 window t x i = sum (length x) (λ j. at t (i + j) *ℤ at x j)
 
+-- at every fourth place i the sum from i on with z, and behind it those from i + p, i + q and i + r on, with w, z and w
+unfoldable pub inFours : List ℤ → List ℤ → List ℤ → ℕ → ℕ → ℕ → ℕ → ℤ
+inFours t z w p q r k =
+    cond (eqb (k % 4) 0) (window t z k)
+    (cond (eqb (k % 4) 1) (window t w (k - 1 + p))
+    (cond (eqb (k % 4) 2) (window t z (k - 2 + q)) (window t w (k - 3 + r))))
+
 -- numbers so small that a sum of n products of them fits 64 bits
 pub record Sizes (n : ℕ) (t x : List ℤ) : Type 0 where
   pub table : ℕ
@@ -35,6 +42,7 @@ turnAt N k = cosineOf (3 ^ k % (8 * halfWidth N) * (128 / halfWidth N))
 
 pub record Turn (N : ℕ) (xs : List ℤ) : Type 0 where
   pub is : xs ≡ places N (turnAt N)
+  pub wide : 0 < halfWidth N
 
 -- the secants for r = k + 1 at an even k, and for r = k − M at an odd k
 unfoldable pub secantFor : ℕ → ℕ → ℤ
@@ -42,17 +50,11 @@ secantFor N k = cond (eqb (k % 2) 0) (secantOf N (pos (k + 1))) (secantOf N (pos
 
 pub record Secants (N : ℕ) (xs : List ℤ) : Type 0 where
   pub is : xs ≡ places N (secantFor N)
+  pub wide : 0 < halfWidth N
 
--- the sum of an even row m from m on with z, of an odd one from m + 1 on with w
-unfoldable pub secantWindow : List ℤ → List ℤ → List ℤ → ℕ → ℤ
-secantWindow t z w m = cond (eqb (m % 2) 0) (window t z m) (window t w (m + 1))
-
--- the place in a list from which a row of secants takes its factor, for even rows and for odd ones
-unfoldable pub evenPlace : ℕ → ℕ → ℕ
-evenPlace M l = cond (eqb (l % 2) 0) l (M - l)
-
-unfoldable pub oddPlace : ℕ → ℕ → ℕ
-oddPlace M l = cond (eqb (l % 2) 0) (l + 1) (M - 1 - l)
+-- the place in a list from which a row of secants takes its factor: o is 0 for even rows, 1 for odd ones
+unfoldable pub takenPlace : ℕ → ℕ → ℕ → ℕ
+takenPlace M o l = cond (eqb (l % 2) 0) (l + o) (M - o - l)
 
 -- −t(m) and s(m)
 pub record Tangents (N : ℕ) (xs : List ℤ) : Type 0 where

@@ -5,7 +5,7 @@ ghost use Prim.Native.Nat.{_+_, _%_, _≤_, _<_};
 ghost use lib.ListN.{length};
 ghost use Rattle.integers.specs.Places.{places, at, Within};
 ghost use Rattle.tables.specs.Widths.{halfWidth};
-ghost use Rattle.stages.specs.Expanded.{cosineSums, secantSums, window, secantWindow, Sizes, Turn, Secants, evenPlace, oddPlace};
+ghost use Rattle.stages.specs.Expanded.{cosineSums, secantSums, window, inFours, Sizes, Turn, Secants, takenPlace};
 use crate::arranged;
 use crate::room;
 
@@ -39,15 +39,17 @@ fn four_sums(table: &[i64], z: &[i64], w: &[i64], p: usize, q: usize, r: usize) 
     Four { a, b, c, d }
 }
 
-// Every sum of a list with a part of the table, from place 0 on.
-fn windows(table: &[i64], x: &[i64], out: &mut [i64])
-    requires { ⌜ (length (now out) ≡ length (now x)) × (length (now x) % 4 ≡ 0) × (length (now table) ≡ length (now x) + length (now x)) ⌝ }
-    requires { ⌜ Sizes (length (now x)) (now table) (now x) ⌝ }
-    ensures { λ _. ⌜ now (out .exit) ≡ places (length (now (out .entry))) (window (now (table .entry)) (now (x .entry))) ⌝ }
+// Four sums from every fourth place of the table on.
+fn windows(table: &[i64], z: &[i64], w: &[i64], p: usize, q: usize, r: usize, out: &mut [i64])
+    requires { ⌜ (length (now out) ≡ length (now z)) × (length (now w) ≡ length (now z)) × (length (now z) % 4 ≡ 0) × (length (now table) ≡ length (now z) + length (now z)) ⌝ }
+    requires { ⌜ (p ≤ 4) × (q ≤ 4) × (r ≤ 4) ⌝ }
+    requires { ⌜ Sizes (length (now z)) (now table) (now z) ⌝ }
+    requires { ⌜ Sizes (length (now z)) (now table) (now w) ⌝ }
+    ensures { λ _. ⌜ now (out .exit) ≡ places (length (now (out .entry))) (inFours (now (table .entry)) (now (z .entry)) (now (w .entry)) p q r) ⌝ }
 {
     let mut i = 0;
     while i < out.len() {
-        let sums = four_sums(&table[i..], x, x, 1, 2, 3);
+        let sums = four_sums(&table[i..], z, w, p, q, r);
         let a = sums.a;
         let b = sums.b;
         let c = sums.c;
@@ -70,73 +72,29 @@ pub fn cosine_sums(width: usize, turn: &[i64], x: &[i64], row: &mut [i64], out: 
     let half = x.len();
     let mut sums = room::of_64();
     arranged::ordered(width, x, row);
-    windows(turn, row, &mut sums[..half]);
+    windows(turn, row, row, 1, 2, 3, &mut sums[..half]);
     arranged::reordered(width, &sums[..half], out);
 }
 
-fn even_place(half: usize, l: usize) -> usize
-    requires { ⌜ l ≤ half ⌝ }
-    ensures { λ r. ⌜ r ≡ evenPlace half l ⌝ }
+fn taken_place(half: usize, odd: usize, l: usize) -> usize
+    requires { ⌜ (odd ≤ 1) × (l < half) × (half % 2 ≡ 0) ⌝ }
+    ensures { λ r. ⌜ (r ≡ takenPlace half odd l) × (r < half) ⌝ }
 {
     if l % 2 == 0 {
-        return l;
+        return l + odd;
     }
-    half - l
+    half - odd - l
 }
 
-fn odd_place(half: usize, l: usize) -> usize
-    requires { ⌜ l < half ⌝ }
-    ensures { λ r. ⌜ r ≡ oddPlace half l ⌝ }
-{
-    if l % 2 == 0 {
-        return l + 1;
-    }
-    half - 1 - l
-}
-
-// The list as the even rows of secants take it.
-fn for_even(x: &[i64], out: &mut [i64])
-    requires { ⌜ (length (now out) ≡ length (now x)) × (length (now x) % 2 ≡ 0) ⌝ }
-    ensures { λ _. ⌜ now (out .exit) ≡ places (length (now (out .entry))) (λ l. at (now (x .entry)) (evenPlace (length (now (x .entry))) l)) ⌝ }
+// The list as the even rows of secants take it, or the odd ones.
+fn for_rows(odd: usize, x: &[i64], out: &mut [i64])
+    requires { ⌜ (odd ≤ 1) × (length (now out) ≡ length (now x)) × (length (now x) % 2 ≡ 0) ⌝ }
+    ensures { λ _. ⌜ now (out .exit) ≡ places (length (now (out .entry))) (λ l. at (now (x .entry)) (takenPlace (length (now (x .entry))) odd l)) ⌝ }
 {
     let mut l = 0;
     while l < out.len() {
-        out[l] = x[even_place(x.len(), l)];
+        out[l] = x[taken_place(x.len(), odd, l)];
         l += 1;
-    }
-}
-
-// And as the odd rows take it.
-fn for_odd(x: &[i64], out: &mut [i64])
-    requires { ⌜ (length (now out) ≡ length (now x)) × (length (now x) % 2 ≡ 0) ⌝ }
-    ensures { λ _. ⌜ now (out .exit) ≡ places (length (now (out .entry))) (λ l. at (now (x .entry)) (oddPlace (length (now (x .entry))) l)) ⌝ }
-{
-    let mut l = 0;
-    while l < out.len() {
-        out[l] = x[odd_place(x.len(), l)];
-        l += 1;
-    }
-}
-
-// Every row sum of the secants with a list: z is the list for even rows, w for odd ones.
-fn secant_windows(secants: &[i64], z: &[i64], w: &[i64], out: &mut [i64])
-    requires { ⌜ (length (now out) ≡ length (now z)) × (length (now w) ≡ length (now z)) × (length (now z) % 4 ≡ 0) × (length (now secants) ≡ length (now z) + length (now z)) ⌝ }
-    requires { ⌜ Sizes (length (now z)) (now secants) (now z) ⌝ }
-    requires { ⌜ Sizes (length (now z)) (now secants) (now w) ⌝ }
-    ensures { λ _. ⌜ now (out .exit) ≡ places (length (now (out .entry))) (secantWindow (now (secants .entry)) (now (z .entry)) (now (w .entry))) ⌝ }
-{
-    let mut m = 0;
-    while m < out.len() {
-        let sums = four_sums(&secants[m..], z, w, 2, 2, 4);
-        let a = sums.a;
-        let b = sums.b;
-        let c = sums.c;
-        let d = sums.d;
-        out[m] = a;
-        out[m + 1] = b;
-        out[m + 2] = c;
-        out[m + 3] = d;
-        m += 4;
     }
 }
 
@@ -149,7 +107,7 @@ pub fn secant_sums(width: usize, secants: &[i64], x: &[i64], row: &mut [i64], ou
 {
     let half = x.len();
     let mut odd = room::of_64();
-    for_even(x, row);
-    for_odd(x, &mut odd[..half]);
-    secant_windows(secants, row, &odd[..half], out);
+    for_rows(0, x, row);
+    for_rows(1, x, &mut odd[..half]);
+    windows(secants, row, &odd[..half], 2, 2, 4, out);
 }
