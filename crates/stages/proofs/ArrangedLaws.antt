@@ -1,5 +1,5 @@
 -- A width by its number, and what is copied or gathered from the tables of one.
-use mathlib.Core.Path.{_≡_, refl, sym, ap, subst, _∙_}
+use mathlib.Core.Path.{_≡_, sym, ap, _∙_}
 use mathlib.Core.Bool.{Bool, true, _&&_}
 use mathlib.Core.List.{List, [], _∷_}
 use Prim.Native.Nat.{ℕ, zero, suc, _≤_, _<_}
@@ -21,12 +21,12 @@ unfolding halfWidth
 no-width N x y z h = absurd (omega (arith, at-other {A = ℕ} 4 16 64 0 {n = N} x y z))
 
 -- ---- tables
-module _ {N k : ℕ} {xs ys : List ℤ} (w : N ≡ k) (e : xs ≡ ys) where
+module _ {N k : ℕ} {xs ys : List ℤ} (w : N ≡ k) (e : xs ≡ ys) (h : 0 < halfWidth N) where
   pub is-turn : ys ≡ places k (turnAt k) → Turn N xs
-  is-turn t = record { is = e ∙ t ∙ ap (λ n. places n (turnAt n)) (sym w) }
+  is-turn t = record { is = e ∙ t ∙ ap (λ n. places n (turnAt n)) (sym w); wide = h }
 
   pub are-secants : ys ≡ places k (secantFor k) → Secants N xs
-  are-secants t = record { is = e ∙ t ∙ ap (λ n. places n (secantFor n)) (sym w) }
+  are-secants t = record { is = e ∙ t ∙ ap (λ n. places n (secantFor n)) (sym w); wide = h }
 
 -- ---- limits, by a test of every entry
 pub all-below : {n k : ℕ} → n ≡ k → (xs : List ℕ) → T (every (λ i x. ltb x k) 0 xs) → Below n xs

@@ -1,17 +1,18 @@
 -- A sum of products of a list with a part of a table, term by term: it fits 64 bits.
 use mathlib.Core.Path.{_≡_, sym, ap, subst, _∙_}
 use mathlib.Core.List.{List}
-use Prim.Native.Nat.{ℕ, zero, suc, _+_, _*_, _^_, _≤_, _<_}
+use Prim.Native.Nat.{ℕ, zero, suc, _+_, _-_, _*_, _^_, _≤_, _<_}
 use native.Mathlib.Nat.{mul-le-mul-right}
 use native.Mathlib.Omega.{arith}
 use lib.IntN.{ℤ, pos, natAbs, _+ℤ_, _*ℤ_}
+use lib.ListN.{length}
 use mir.Syntax.{w64}
 use mir.Val.{SFits, toZ, ofZ}
 use Rattle.integers.specs.Places.{at, sum}
 use Rattle.integers.proofs.Order.{natAbs-*ℤ-le, natAbs-+ℤ-le}
 use Rattle.integers.proofs.Held.{Held, held-eq, asks-add, asks-mul, h-add, h-mul}
 use Rattle.integers.proofs.Words.{small}
-use Rattle.stages.specs.Expanded.{Sizes}
+use Rattle.stages.specs.Expanded.{Sizes, window}
 
 -- the product at a place, of the part of t from i on
 abbrev pub term : List ℤ → List ℤ → ℕ → ℕ → ℤ
@@ -62,3 +63,7 @@ module _ {n : ℕ} {t x : List ℤ} (s : Sizes n t x) (i : ℕ) where
     pub next-sum : {a : ℕ} → Held w64 a (sum j (term t x i)) → Held w64 (ofZ w64 (toZ w64 a +ℤ toZ w64 (ofZ w64 (toZ w64 u *ℤ toZ w64 v)))) (sum (j + 1) (term t x i))
     unfolding sum
     next-sum ha = let e : j + 1 ≡ suc j = omega arith in rw e (h-add ha product next-fits)
+
+pub window-size : {t x : List ℤ} → Sizes (length x) t x → (i : ℕ) → natAbs (window t x i) ≤ 2 ^ 63 - 1
+unfolding window
+window-size {x = x} s i = omega (arith, sum-size s i (length x), fits-most s i)

@@ -35,6 +35,7 @@ turnAt N k = cosineOf (3 ^ k % (8 * halfWidth N) * (128 / halfWidth N))
 
 pub record Turn (N : ℕ) (xs : List ℤ) : Type 0 where
   pub is : xs ≡ places N (turnAt N)
+  pub wide : 0 < halfWidth N
 
 -- the secants for r = k + 1 at an even k, and for r = k − M at an odd k
 unfoldable pub secantFor : ℕ → ℕ → ℤ
@@ -42,6 +43,7 @@ secantFor N k = cond (eqb (k % 2) 0) (secantOf N (pos (k + 1))) (secantOf N (pos
 
 pub record Secants (N : ℕ) (xs : List ℤ) : Type 0 where
   pub is : xs ≡ places N (secantFor N)
+  pub wide : 0 < halfWidth N
 
 -- the sum of an even row m from m on with z, of an odd one from m + 1 on with w
 unfoldable pub secantWindow : List ℤ → List ℤ → List ℤ → ℕ → ℤ

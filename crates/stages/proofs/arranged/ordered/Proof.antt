@@ -1,7 +1,6 @@
 -- `stages::arranged::ordered` meets its contract.
 use borrow.Author.Needs.{needs}
-use mathlib.Core.Path.{_≡_, refl, sym, ap, _∙_}
-use lib.ListN.{length}
+use mathlib.Core.Path.{refl, sym, ap, _∙_}
 use Rattle.tables.specs.Widths.{byWidth, halfWidth}
 use Rattle.stages.specs.Arranged.{placesIn, signsIn}
 use Rattle.stages.proofs.ArrangedLaws.{no-width, all-below, all-within, gathered-in}

@@ -33,21 +33,21 @@ same-length c = search needs
 
 returns : tie.Need-returns
 unfolding tab turnAt cosineOf sines halfWidth byWidth halfTurn reflected minus signed
-returns c = is-turn (c .before .before .before .before .match .keys1) (c .before .copy .ensures) refl
+returns c = is-turn (c .before .before .before .before .match .keys1) (c .before .copy .ensures) (c .before .before .before .before .before .pre .1) refl
 
 same-length-2 : tie.Need-same-length-2
 same-length-2 c = search needs
 
 returns-2 : tie.Need-returns-2
 unfolding tab turnAt cosineOf sines halfWidth byWidth halfTurn reflected minus signed
-returns-2 c = is-turn (c .before .before .before .before .match .keys2) (c .before .copy2 .ensures) refl
+returns-2 c = is-turn (c .before .before .before .before .match .keys2) (c .before .copy2 .ensures) (c .before .before .before .before .before .pre .1) refl
 
 same-length-3 : tie.Need-same-length-3
 same-length-3 c = search needs
 
 returns-3 : tie.Need-returns-3
 unfolding tab turnAt cosineOf sines halfWidth byWidth halfTurn reflected minus signed
-returns-3 c = is-turn (c .before .before .before .before .match .keys3) (c .before .copy3 .ensures) refl
+returns-3 c = is-turn (c .before .before .before .before .match .keys3) (c .before .copy3 .ensures) (c .before .before .before .before .before .pre .1) refl
 
 returns-4 : tie.Need-returns-4
 returns-4 c =
