@@ -1,4 +1,6 @@
 pub mod MoveLaws
+pub mod ArrangedLaws
+pub mod CosineOrder
 pub mod SecantRows
 pub mod SumLaws
 pub mod WindowLaws

@@ -140,9 +140,9 @@ module _ (N : ℕ) (t x : List ℤ) (h : Secants N t) where
 
   pub secant-sizes : (n : ℕ) (y : List ℤ) → n ≤ 64 → Within 10000000 y → Sizes n t y
   secant-sizes n y l q = record {
-      table = 11000000000;
-      list = 10000000;
-      table-within = subst (Within 11000000000) (sym (h .is)) (within-places N 11000000000 (secantFor N) (λ k m. entry-size N k));
-      list-within = q;
-      fits = omega (arith, l);
-    }
+    table = 11000000000;
+    list = 10000000;
+    table-within = subst (Within 11000000000) (sym (h .is)) (within-places N 11000000000 (secantFor N) (λ k m. entry-size N k));
+    list-within = q;
+    fits = omega (arith, l);
+  }

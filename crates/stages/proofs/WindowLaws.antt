@@ -1,10 +1,12 @@
 -- A sum of products of a list with a part of a table, term by term: it fits 64 bits.
-use mathlib.Core.Path.{_≡_, sym, ap, subst, _∙_}
+use mathlib.Core.Path.{_≡_, refl, sym, ap, subst, _∙_}
+use mathlib.Core.Bool.{Bool, true, false}
 use mathlib.Core.List.{List}
 use Prim.Native.Nat.{ℕ, zero, suc, _+_, _-_, _*_, _%_, _^_, _≤_, _<_}
 use native.Mathlib.Nat.{mul-le-mul-right}
 use native.Mathlib.Omega.{arith}
-use borrow.Author.Tests.{eq-eqb, ne-eqb}
+use borrow.Author.Tests.{eq-eqb, ne-eqb, eqb-true, eqb-false}
+use lib.Dec.{eqb}
 use lib.IntN.{ℤ, pos, natAbs, _+ℤ_, _*ℤ_}
 use lib.ListN.{length, take, drop, length-drop}
 use lib.Seq.{getD-drop, take-all}
@@ -74,12 +76,12 @@ module _ (t u x : List ℤ) (i : ℕ) (e : u ≡ drop i t) where
 
   pub part-sizes : {n : ℕ} → Sizes n t x → Sizes n u x
   part-sizes s = record {
-      table = s .table;
-      list = s .list;
-      table-within = record { size = λ k. subst (λ z. natAbs z ≤ s .table) (sym (part-at k)) (s .table-within .size (i + k)) };
-      list-within = s .list-within;
-      fits = s .fits;
-    }
+    table = s .table;
+    list = s .list;
+    table-within = record { size = λ k. subst (λ z. natAbs z ≤ s .table) (sym (part-at k)) (s .table-within .size (i + k)) };
+    list-within = s .list-within;
+    fits = s .fits;
+  }
 
   pub part-window : (k : ℕ) → window u x k ≡ window t x (i + k)
   unfolding window
@@ -105,3 +107,25 @@ module _ (t z w : List ℤ) (p q r i : ℕ) (f : i % 4 ≡ 0) where
   pub four-fourth : inFours t z w p q r (i + 3) ≡ window t w (i + r)
   unfolding inFours
   four-fourth = rw (ne-eqb ((i + 3) % 4) 0 (λ a. omega (arith, a)), ne-eqb ((i + 3) % 4) 1 (λ a. omega (arith, a)), ne-eqb ((i + 3) % 4) 2 (λ a. omega (arith, a))) (ap (window t w) (let a : i + 3 - 3 + r ≡ i + r = omega arith in a))
+
+last-of-four : (k : ℕ) → (k % 4 ≡ 0 → ⊥) → (k % 4 ≡ 1 → ⊥) → (k % 4 ≡ 2 → ⊥) → k % 4 ≡ 3
+last-of-four k e f g = omega arith
+
+pub fours-window : (t x : List ℤ) (k : ℕ) → inFours t x x 1 2 3 k ≡ window t x k
+unfolding inFours
+fours-window t x k = by (eqb (k % 4) 0) (eqb (k % 4) 1) (eqb (k % 4) 2) refl refl refl
+  where
+    by : (a b c : Bool) → eqb (k % 4) 0 ≡ a → eqb (k % 4) 1 ≡ b → eqb (k % 4) 2 ≡ c → inFours t x x 1 2 3 k ≡ window t x k
+    by true b c p q r = rw p
+    by false true c p q r = let e = eqb-true (k % 4) 1 q in let n : k - 1 + 1 ≡ k = omega (arith, e) in rw (p, q) (ap (window t x) n)
+    by false false true p q r = let e = eqb-true (k % 4) 2 r in let n : k - 2 + 2 ≡ k = omega (arith, e) in rw (p, q, r) (ap (window t x) n)
+    by false false false p q r =
+        let e = eqb-false (k % 4) 0 p in
+        let f = eqb-false (k % 4) 1 q in
+        let g = eqb-false (k % 4) 2 r in
+        let m = last-of-four k e f g in
+        let n : k - 3 + 3 ≡ k = omega (arith, m) in rw (p, q, r) (ap (window t x) n)
+
+pub window-size : {t x : List ℤ} → Sizes (length x) t x → (i : ℕ) → natAbs (window t x i) ≤ 2 ^ 63 - 1
+unfolding window
+window-size {x = x} s i = omega (arith, sum-size s i (length x), fits-most s i)

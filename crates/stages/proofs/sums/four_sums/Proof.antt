@@ -111,12 +111,13 @@ loop-less : tie.Need-loop-less Inv-loop μ-loop
 loop-less c = omega arith
 
 loop-again : tie.Need-loop-again Inv-loop μ-loop
-loop-again c =
-    (omega arith,
-      next-sum (c .before .before .before .before .before .before .before .before .before .before .pre .1 .1 .0) 0 (c .before .before .before .before .before .before .before .before .before .loop .j) (c .before .before .before .before .before .before .before .before .before .loop .j) (omega arith) (omega arith) (held-ok w64 _ (c .before .before .before .before .before .before .before .a .given)) (held-ok w64 _ (c .before .before .before .before .before .before .a2 .given)) (c .before .before .before .before .before .before .before .before .before .loop .inv .1),
-      next-sum (c .before .before .before .before .before .before .before .before .before .before .pre .1 .1 .1) (c .before .before .before .before .before .before .before .before .before .before .args .p) (c .before .before .before .before .before .before .before .before .before .loop .j) (c .before .before .before .before .before .before .before .before .before .before .args .p + c .before .before .before .before .before .before .before .before .before .loop .j) (omega arith) refl (held-ok w64 _ (c .before .before .before .before .before .b .given)) (held-ok w64 _ (c .before .before .before .before .b2 .given)) (c .before .before .before .before .before .before .before .before .before .loop .inv .2),
-      next-sum (c .before .before .before .before .before .before .before .before .before .before .pre .1 .1 .0) (c .before .before .before .before .before .before .before .before .before .before .args .q) (c .before .before .before .before .before .before .before .before .before .loop .j) (c .before .before .before .before .before .before .before .before .before .before .args .q + c .before .before .before .before .before .before .before .before .before .loop .j) (omega arith) refl (held-ok w64 _ (c .before .before .before .c .given)) (held-ok w64 _ (c .before .before .c2 .given)) (c .before .before .before .before .before .before .before .before .before .loop .inv .3),
-      next-sum (c .before .before .before .before .before .before .before .before .before .before .pre .1 .1 .1) (c .before .before .before .before .before .before .before .before .before .before .args .r) (c .before .before .before .before .before .before .before .before .before .loop .j) (c .before .before .before .before .before .before .before .before .before .before .args .r + c .before .before .before .before .before .before .before .before .before .loop .j) (omega arith) refl (held-ok w64 _ (c .before .d .given)) (held-ok w64 _ (c .d2 .given)) (c .before .before .before .before .before .before .before .before .before .loop .inv .4))
+loop-again c = (
+  omega arith,
+  next-sum (c .before .before .before .before .before .before .before .before .before .before .pre .1 .1 .0) 0 (c .before .before .before .before .before .before .before .before .before .loop .j) (c .before .before .before .before .before .before .before .before .before .loop .j) (omega arith) (omega arith) (held-ok w64 _ (c .before .before .before .before .before .before .before .a .given)) (held-ok w64 _ (c .before .before .before .before .before .before .a2 .given)) (c .before .before .before .before .before .before .before .before .before .loop .inv .1),
+  next-sum (c .before .before .before .before .before .before .before .before .before .before .pre .1 .1 .1) (c .before .before .before .before .before .before .before .before .before .before .args .p) (c .before .before .before .before .before .before .before .before .before .loop .j) (c .before .before .before .before .before .before .before .before .before .before .args .p + c .before .before .before .before .before .before .before .before .before .loop .j) (omega arith) refl (held-ok w64 _ (c .before .before .before .before .before .b .given)) (held-ok w64 _ (c .before .before .before .before .b2 .given)) (c .before .before .before .before .before .before .before .before .before .loop .inv .2),
+  next-sum (c .before .before .before .before .before .before .before .before .before .before .pre .1 .1 .0) (c .before .before .before .before .before .before .before .before .before .before .args .q) (c .before .before .before .before .before .before .before .before .before .loop .j) (c .before .before .before .before .before .before .before .before .before .before .args .q + c .before .before .before .before .before .before .before .before .before .loop .j) (omega arith) refl (held-ok w64 _ (c .before .before .before .c .given)) (held-ok w64 _ (c .before .before .c2 .given)) (c .before .before .before .before .before .before .before .before .before .loop .inv .3),
+  next-sum (c .before .before .before .before .before .before .before .before .before .before .pre .1 .1 .1) (c .before .before .before .before .before .before .before .before .before .before .args .r) (c .before .before .before .before .before .before .before .before .before .loop .j) (c .before .before .before .before .before .before .before .before .before .before .args .r + c .before .before .before .before .before .before .before .before .before .loop .j) (omega arith) refl (held-ok w64 _ (c .before .d .given)) (held-ok w64 _ (c .d2 .given)) (c .before .before .before .before .before .before .before .before .before .loop .inv .4),
+)
 
 returns : tie.Need-returns Inv-loop μ-loop
 unfolding window
@@ -124,11 +125,12 @@ returns c =
     let k = c .before .loop in
     let s = c .before .before in
     let e : k .j ≡ length (s .args .z .now) = omega arith in
-    let f : k .j ≡ length (s .args .w .now) = omega arith in
-    (k .inv .1 .is ∙ ap (λ n. sum n (term (s .args .table .now) (s .args .z .now) 0)) e,
+    let f : k .j ≡ length (s .args .w .now) = omega arith in (
+      k .inv .1 .is ∙ ap (λ n. sum n (term (s .args .table .now) (s .args .z .now) 0)) e,
       k .inv .2 .is ∙ ap (λ n. sum n (term (s .args .table .now) (s .args .w .now) (s .args .p))) f,
       k .inv .3 .is ∙ ap (λ n. sum n (term (s .args .table .now) (s .args .z .now) (s .args .q))) e,
-      k .inv .4 .is ∙ ap (λ n. sum n (term (s .args .table .now) (s .args .w .now) (s .args .r))) f)
+      k .inv .4 .is ∙ ap (λ n. sum n (term (s .args .table .now) (s .args .w .now) (s .args .r))) f,
+    )
 
 pub four-sums-spec : {M : Type 1} → statement M
 four-sums-spec =

@@ -50,9 +50,13 @@ four-sums-requires c κs =
     let s = k .before in
     let e = part-from (k .loop .i) (s .args .table .now) in
     let room : k .loop .i + 4 ≤ length (s .args .out .now) = within k (c .before .loop-test .taken) in
-    let n = ap length e ∙ length-drop (k .loop .i) (s .args .table .now) in
-    (s .pre .0 .1, (
-      (omega (arith, n, room, s .pre .0, s .pre .1 .0), omega (arith, n, room, s .pre .0, s .pre .1 .0), omega (arith, n, room, s .pre .0, s .pre .1 .0)), (part-sizes (s .args .table .now) _ (s .args .z .now) (k .loop .i) e (s .pre .1 .1 .0), part-sizes (s .args .table .now) _ (s .args .w .now) (k .loop .i) e (s .pre .1 .1 .1))))
+    let n = ap length e ∙ length-drop (k .loop .i) (s .args .table .now) in (
+      s .pre .0 .1,
+      (
+        (omega (arith, n, room, s .pre .0, s .pre .1 .0), omega (arith, n, room, s .pre .0, s .pre .1 .0), omega (arith, n, room, s .pre .0, s .pre .1 .0)),
+        (part-sizes (s .args .table .now) _ (s .args .z .now) (k .loop .i) e (s .pre .1 .1 .0), part-sizes (s .args .table .now) _ (s .args .w .now) (k .loop .i) e (s .pre .1 .1 .1)),
+      ),
+    )
 
 mul-a : tie.Need-mul-a Inv-loop μ-loop
 mul-a c = search needs
@@ -100,13 +104,15 @@ loop-again c =
     let g = c .before .before .before .before .four-sums in
     let e = part-from (k .loop .i) (s .args .table .now) in
     let t = s .args .table .now in
-    let at-first : k .loop .i + 0 ≡ k .loop .i = omega arith in
-    (omega (arith, room c), omega arith,
+    let at-first : k .loop .i + 0 ≡ k .loop .i = omega arith in (
+      omega (arith, room c),
+      omega arith,
       filling-four (k .loop .inv .2)
-      (held-ok w64 _ (c .before .before .before .struct-told .given .0 .1) .is ∙ g .ensures .0 ∙ part-window t _ (s .args .z .now) (k .loop .i) e 0 ∙ ap (window t (s .args .z .now)) at-first ∙ sym (four-first t _ _ _ _ _ (k .loop .i) (k .loop .inv .1)))
-      (held-ok w64 _ (c .before .before .struct-told2 .given .1 .0 .1) .is ∙ g .ensures .1 ∙ part-window t _ (s .args .w .now) (k .loop .i) e (s .args .p) ∙ sym (four-second t _ _ _ _ _ (k .loop .i) (k .loop .inv .1)))
-      (held-ok w64 _ (c .before .struct-told3 .given .1 .1 .0 .1) .is ∙ g .ensures .2 ∙ part-window t _ (s .args .z .now) (k .loop .i) e (s .args .q) ∙ sym (four-third t _ _ _ _ _ (k .loop .i) (k .loop .inv .1)))
-      (held-ok w64 _ (c .struct-told4 .given .1 .1 .1 .0 .1) .is ∙ g .ensures .3 ∙ part-window t _ (s .args .w .now) (k .loop .i) e (s .args .r) ∙ sym (four-fourth t _ _ _ _ _ (k .loop .i) (k .loop .inv .1))))
+          (held-ok w64 _ (c .before .before .before .struct-told .given .0 .1) .is ∙ g .ensures .0 ∙ part-window t _ (s .args .z .now) (k .loop .i) e 0 ∙ ap (window t (s .args .z .now)) at-first ∙ sym (four-first t _ _ _ _ _ (k .loop .i) (k .loop .inv .1)))
+          (held-ok w64 _ (c .before .before .struct-told2 .given .1 .0 .1) .is ∙ g .ensures .1 ∙ part-window t _ (s .args .w .now) (k .loop .i) e (s .args .p) ∙ sym (four-second t _ _ _ _ _ (k .loop .i) (k .loop .inv .1)))
+          (held-ok w64 _ (c .before .struct-told3 .given .1 .1 .0 .1) .is ∙ g .ensures .2 ∙ part-window t _ (s .args .z .now) (k .loop .i) e (s .args .q) ∙ sym (four-third t _ _ _ _ _ (k .loop .i) (k .loop .inv .1)))
+          (held-ok w64 _ (c .struct-told4 .given .1 .1 .1 .0 .1) .is ∙ g .ensures .3 ∙ part-window t _ (s .args .w .now) (k .loop .i) e (s .args .r) ∙ sym (four-fourth t _ _ _ _ _ (k .loop .i) (k .loop .inv .1))),
+    )
 
 same-length : tie.Need-same-length Inv-loop μ-loop
 same-length c = c .before .loop .inv .2 .long
