@@ -8,8 +8,6 @@ use native.Mathlib.Omega.{arith}
 use borrow.Author.Tests.{eq-eqb, ne-eqb, eqb-true, eqb-false}
 use lib.Dec.{eqb}
 use lib.IntN.{ℤ, pos, natAbs, _-ℤ_, _*ℤ_}
-use lib.ListN.{length, drop}
-use lib.Seq.{getD-drop}
 use Rattle.integers.specs.Places.{places, at, sum, Within}
 use Rattle.integers.proofs.Differences.{zs}
 use Rattle.integers.proofs.PlaceLaws.{length-places, at-places, places-ext, sum-ext, within-places}

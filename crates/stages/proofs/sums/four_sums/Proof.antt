@@ -6,7 +6,7 @@ use Prim.Native.Nat.{_+_, _-_, _≤_}
 use lib.IntN.{pos}
 use lib.ListN.{length}
 use mir.Syntax.{w64}
-use Rattle.integers.specs.Places.{at, sum}
+use Rattle.integers.specs.Places.{sum}
 use Rattle.integers.proofs.Held.{Held, held, held-ok}
 use Rattle.stages.specs.Expanded.{window}
 use Rattle.stages.proofs.WindowLaws.{term, asks-product, asks-sum, next-sum}

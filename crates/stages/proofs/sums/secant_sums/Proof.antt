@@ -106,11 +106,16 @@ windows-requires c κs =
     let N = s .args .width in
     let t = s .args .secants .now in
     let l = row-filled f in
-    let w = odd-part g in
-    ((out-long s ∙ sym l, ap length w ∙ odd-long g ∙ sym l, ap (λ n. n % 4) l ∙ half-in-fours N, secants-long s ∙ sym (ap₂ _+_ l l)),
-      ((omega arith, omega arith, omega arith),
-      (secant-sizes N t (s .args .x .now) (s .pre .0) _ _ (rw l (half-width-le N)) (subst (Within 10000000) (sym (row-is f)) (taken-within s 0)),
-      secant-sizes N t (s .args .x .now) (s .pre .0) _ _ (rw l (half-width-le N)) (subst (Within 10000000) (sym (w ∙ odd-is g)) (taken-within s 1)))))
+    let w = odd-part g in (
+      (out-long s ∙ sym l, ap length w ∙ odd-long g ∙ sym l, ap (λ n. n % 4) l ∙ half-in-fours N, secants-long s ∙ sym (ap₂ _+_ l l)),
+      (
+        (omega arith, omega arith, omega arith),
+        (
+          secant-sizes N t (s .args .x .now) (s .pre .0) _ _ (rw l (half-width-le N)) (subst (Within 10000000) (sym (row-is f)) (taken-within s 0)),
+          secant-sizes N t (s .args .x .now) (s .pre .0) _ _ (rw l (half-width-le N)) (subst (Within 10000000) (sym (w ∙ odd-is g)) (taken-within s 1)),
+        ),
+      ),
+    )
 
 same-length : tie.Need-same-length
 same-length c = search needs
