@@ -1,11 +1,11 @@
 -- A loop that stores f 0, f 1, .. at the places 0, 1, .. of a list: the invariant's part, and what it comes to.
-use mathlib.Core.Path.{_≡_, refl, ap, _∙_}
+use mathlib.Core.Path.{_≡_, refl, ap, subst, _∙_}
 use mathlib.Core.List.{List, [], _∷_}
 use Prim.Native.Nat.{ℕ, zero, suc, _+_, _≤_, _<_}
 use native.Mathlib.Numerals.{add-one}
 use native.Mathlib.Omega.{arith}
-use lib.IntN.{ℤ, pos}
-use lib.ListN.{length, getD, set, length-set}
+use lib.IntN.{ℤ}
+use lib.ListN.{length, set, length-set}
 use Rattle.integers.specs.Places.{places, at}
 use Rattle.integers.proofs.PlaceLaws.{by-places}
 
@@ -51,6 +51,17 @@ filling-none f d = record { is = refl; long = refl }
 -- a turn stores v, which is f i, at i
 pub filling-next : {f : ℕ → ℤ} {d₀ : List ℤ} {i : ℕ} {d : List ℤ} {v : ℤ} → Filling f d₀ i d → v ≡ f i → Filling f d₀ (i + 1) (set d i v)
 filling-next {f = f} {d₀ = d₀} {i = i} {d = d} {v = v} h q = record { is = filled-next f i d₀ d v (h .is) q; long = length-set d i v ∙ h .long }
+
+-- or four at a time
+pub filling-four : {f : ℕ → ℤ} {d₀ : List ℤ} {i : ℕ} {d : List ℤ} {u v w z : ℤ} → Filling f d₀ i d → u ≡ f i → v ≡ f (i + 1) → w ≡ f (i + 2) → z ≡ f (i + 3)
+    → Filling f d₀ (i + 4) (set (set (set (set d i u) (i + 1) v) (i + 2) w) (i + 3) z)
+filling-four {f = f} {d₀ = d₀} {i = i} {d = d} {u = u} {v = v} {w = w} {z = z} h p q r s =
+    let two : i + 1 + 1 ≡ i + 2 = omega arith in
+    let three : i + 2 + 1 ≡ i + 3 = omega arith in
+    let four : i + 3 + 1 ≡ i + 4 = omega arith in
+    let second = subst (λ n. Filling f d₀ n (set (set d i u) (i + 1) v)) two (filling-next (filling-next h p) q) in
+    let third = subst (λ n. Filling f d₀ n (set (set (set d i u) (i + 1) v) (i + 2) w)) three (filling-next second r) in
+    subst (λ n. Filling f d₀ n (set (set (set (set d i u) (i + 1) v) (i + 2) w) (i + 3) z)) four (filling-next third s)
 
 -- what a turn finds at i is what stood there at the start
 pub filling-here : {f : ℕ → ℤ} {d₀ : List ℤ} {i : ℕ} {d : List ℤ} → Filling f d₀ i d → at d i ≡ at d₀ i

@@ -11,3 +11,4 @@ pub mod PlaceLaws
 pub mod Fills
 pub mod Num
 pub mod Signs
+pub mod Permutations

@@ -7,6 +7,7 @@ ghost use Rattle.integers.specs.Places.{Within};
 ghost use Rattle.tables.specs.Widths.{halfWidth};
 ghost use Rattle.steps.specs.Steps.{stages, unstages};
 ghost use Rattle.stages.specs.Expanded.{Halves, top4, bottom5, untop2, unbottom1, Width};
+use stages::arranged;
 use stages::expand;
 use stages::room;
 use stages::vectors;
@@ -18,16 +19,15 @@ fn staged(undo: bool, width: usize, half: usize, top: &mut [i64], bottom: &mut [
     requires { ⌜ Within (cond undo 1048576 50000) (now bottom) ⌝ }
     ensures { λ _. ⌜ (now (top .exit) ≡ cond undo (untop2 width (now (top .entry)) (now (bottom .entry))) (top4 width (now (top .entry)) (now (bottom .entry)))) × (now (bottom .exit) ≡ cond undo (unbottom1 width (now (top .entry)) (now (bottom .entry))) (bottom5 width (now (top .entry)) (now (bottom .entry)))) ⌝ }
 {
-    let mut turn = room::of_512();
+    let mut turn = room::of_128();
     let mut secants = room::of_128();
     let mut tangents = room::of_64();
     let mut sines = room::of_64();
     let mut a = room::of_64();
     let mut b = room::of_64();
     let mut row = room::of_64();
-    let whole = 8 * half;
-    expand::turn(half, &mut turn[..whole]);
-    expand::secants(width, &mut secants[..width]);
+    arranged::turn(width, &mut turn[..width]);
+    arranged::secants(width, &mut secants[..width]);
     expand::tangents(width, &mut tangents[..half]);
     expand::sines(width, &mut sines[..half]);
     let root = expand::root_log(width);
@@ -35,7 +35,7 @@ fn staged(undo: bool, width: usize, half: usize, top: &mut [i64], bottom: &mut [
         undo,
         width,
         root,
-        &turn[..whole],
+        &turn[..width],
         &secants[..width],
         &tangents[..half],
         &sines[..half],

@@ -1,6 +1,9 @@
 pub mod MoveLaws
+pub mod ArrangedLaws
+pub mod CosineOrder
 pub mod SecantRows
 pub mod SumLaws
+pub mod WindowLaws
 pub mod StageLaws
 pub mod StageSizes
 pub mod TableSizes

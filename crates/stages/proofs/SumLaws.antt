@@ -1,100 +1,146 @@
--- The row sums of the stages, from the expanded tables.
-use mathlib.Core.Path.{_≡_, refl, sym, ap, _∙_}
+-- The rows of secants as parts of one list, with the columns in another order; and sums over a part that begins further on.
+use mathlib.Core.Path.{_≡_, refl, sym, ap, ap₂, subst, _∙_}
+use mathlib.Core.Logic.{_⊎_, inl, inr, ⊎-elim}
+use mathlib.Core.Bool.{Bool, true, false, cond}
 use mathlib.Core.List.{List}
-use Prim.Native.Nat.{ℕ, _+_, _-_, _*_, _/_, _%_, _^_, _≤_, _<_}
-use native.Mathlib.Nat.{mod-lt, div-add-mod, mul-add-mod-self-left}
+use Prim.Native.Nat.{ℕ, _+_, _-_, _*_, _%_, _≤_, _<_}
 use native.Mathlib.Omega.{arith}
-use borrow.Author.Tests.{eq-eqb, ne-eqb, eqb-true, eqb-false, ltb-true, ltb-false}
-use mathlib.Core.Bool.{Bool, true, false}
-use lib.Dec.{eqb, ltb}
-use lib.IntN.{ℤ, pos, natAbs}
-use lib.ListN.{length}
-use Rattle.integers.specs.Places.{places, at, Within, sumProducts}
+use borrow.Author.Tests.{eq-eqb, ne-eqb, eqb-true, eqb-false}
+use lib.Dec.{eqb}
+use lib.IntN.{ℤ, pos, natAbs, _-ℤ_, _*ℤ_}
+use Rattle.integers.specs.Places.{places, at, sum, Within}
 use Rattle.integers.proofs.Differences.{zs}
-use Rattle.integers.proofs.PlaceLaws.{length-places, at-places, places-ext, products-le, sumAbs-le}
+use Rattle.integers.proofs.PlaceLaws.{length-places, at-places, places-ext, sum-ext, within-places}
+use Rattle.integers.proofs.Permutations.{sum-permuted}
 use Rattle.tables.specs.Widths.{halfWidth}
-use Rattle.tables.specs.Numbers.{cosineOf, secantOf}
-use Rattle.tables.proofs.ByWidth.{at-each, half-width-le}
-use Rattle.tables.proofs.Reading.{cosine-turn}
-use Rattle.steps.specs.Steps.{cosine, secant, oddOf}
-use Rattle.stages.specs.Expanded.{Turn, Secants}
-use Rattle.stages.proofs.SecantRows.{cosine-entry-size, secant-row}
-use Rattle.steps.proofs.Undo.{width-half}
+use Rattle.tables.specs.Numbers.{secantOf}
+use Rattle.tables.proofs.Sizes.{secant-size}
+use Rattle.steps.specs.Steps.{secant, oddOf}
+use Rattle.stages.specs.Expanded.{window, inFours, secantSums, Sizes, secantFor, Secants, takenPlace}
 
--- ---- r by its size
-module _ (m n : ℕ) where
-  pub odd-sum : (m + n + 1) % 2 ≡ 1 → natAbs (oddOf m n) ≡ m + n + 1
-  unfolding oddOf
-  odd-sum e = rw (eq-eqb ((m + n + 1) % 2) 1 e)
-
-  pub odd-above : ((m + n + 1) % 2 ≡ 1 → ⊥) → n < m → natAbs (oddOf m n) ≡ m - n
-  unfolding oddOf
-  odd-above e h = rw (ne-eqb ((m + n + 1) % 2) 1 e) (simp zs (omega arith))
-
-  pub odd-below : ((m + n + 1) % 2 ≡ 1 → ⊥) → m ≤ n → natAbs (oddOf m n) ≡ n - m
-  unfolding oddOf
-  odd-below e h = rw (ne-eqb ((m + n + 1) % 2) 1 e) (simp zs (omega arith))
-
--- ---- the cosines of a turn, read around its end
-turn-parts : (N : ℕ) → 0 < halfWidth N → 8 * halfWidth N * (128 / halfWidth N) ≡ 1024
-unfolding halfWidth
-turn-parts = at-each (λ n M. 0 < M → 8 * M * (128 / M) ≡ 1024) 4 16 64 0 (λ z. refl) (λ z. refl) (λ z. refl) (λ n x y w z. absurd (omega arith))
-
-distribute : (T q p c : ℕ) → (T * q + p) * c ≡ T * c * q + p * c
-distribute T q p c = omega arith
-
-scaled-mod : (T c e : ℕ) → T * c ≡ 1024 → (e % T * c) % 1024 ≡ (e * c) % 1024
-scaled-mod T c e h =
-    sym (ap (λ x. (x * c) % 1024) (sym (div-add-mod e T)) ∙ ap (λ x. x % 1024) (distribute T (e / T) (e % T) c ∙ ap (λ k. k * (e / T) + e % T * c) h) ∙ mul-add-mod-self-left 1024 (e / T) (e % T * c))
-
-odd-product : (m n c : ℕ) → (2 * m + 1 + n * (4 * m + 2)) * c ≡ (2 * m + 1) * (2 * n + 1) * c
-odd-product m n c = omega arith
-
-pub turn-long : (N : ℕ) (turn : List ℤ) → Turn N turn → length turn ≡ 8 * halfWidth N
-turn-long N turn t = ap length (t .is) ∙ length-places _ _
-
-turn-at : (N : ℕ) (turn : List ℤ) → 0 < halfWidth N → Turn N turn → (m n : ℕ) → at turn ((2 * m + 1 + n * (4 * m + 2)) % (8 * halfWidth N)) ≡ cosine N m n
-unfolding cosine
-turn-at N turn z t m n =
-    let T = 8 * halfWidth N in
-    let u = 128 / halfWidth N in
-    let e = 2 * m + 1 + n * (4 * m + 2) in
-    ap (λ l. at l (e % T)) (t .is) ∙ at-places T (λ e. cosineOf (e * u)) (e % T) (mod-lt e {m = T} (omega arith))
-    ∙ cosine-turn (e % T * u) _ (scaled-mod T u e (turn-parts N z) ∙ ap (λ x. x % 1024) (odd-product m n u))
-
--- the row that is strided from the turn
-pub turn-row : (N : ℕ) (turn : List ℤ) → Turn N turn → (m : ℕ) → m < halfWidth N
-    → places (halfWidth N) (λ n. at turn ((2 * m + 1 + n * (4 * m + 2)) % length turn)) ≡ places (halfWidth N) (cosine N m)
-turn-row N turn t m h =
-    places-ext (halfWidth N) _ _ (λ n l. ap (λ k. at turn ((2 * m + 1 + n * (4 * m + 2)) % k)) (turn-long N turn t) ∙ turn-at N turn (omega arith) t m n)
-
--- ---- room in 64 bits
-pub cosine-room : (N m : ℕ) (x : List ℤ) → Within 500000000 x → sumProducts (places (halfWidth N) (cosine N m)) x < 2 ^ 63
-cosine-room N m x h =
-    let M = halfWidth N in
-    let s = sumAbs-le M (2 ^ 28) (cosine N m) (λ n l. cosine-entry-size N m n) in
-    let p = products-le (places M (cosine N m)) x 500000000 h in
-    omega (arith, half-width-le N)
-
-pub secant-room : (N m : ℕ) (x : List ℤ) → m < halfWidth N → Within 10000000 x → sumProducts (places (halfWidth N) (secant N m)) x < 2 ^ 63
-secant-room N m x l h =
-    let p = products-le (places (halfWidth N) (secant N m)) x 10000000 h in
-    omega (arith, half-width-le N, secant-row N m l)
-
--- ---- the secants, by the size of r
-odd-le : (m n : ℕ) → natAbs (oddOf m n) ≤ m + n + 1
-odd-le m n = by (eqb ((m + n + 1) % 2) 1) (ltb n m) refl refl
+even-or-odd : (n : ℕ) → (n % 2 ≡ 0) ⊎ (n % 2 ≡ 0 → ⊥)
+even-or-odd n = by (eqb (n % 2) 0) refl
   where
-    by : (s t : Bool) → eqb ((m + n + 1) % 2) 1 ≡ s → ltb n m ≡ t → natAbs (oddOf m n) ≤ m + n + 1
-    by true t e f = rw (odd-sum m n (eqb-true _ _ e)) (omega arith)
-    by false true e f = rw (odd-above m n (eqb-false _ _ e) (ltb-true n m f)) (omega arith)
-    by false false e f = rw (odd-below m n (eqb-false _ _ e) (ltb-false n m f)) (omega arith)
+    by : (t : Bool) → eqb (n % 2) 0 ≡ t → (n % 2 ≡ 0) ⊎ (n % 2 ≡ 0 → ⊥)
+    by true e = inl (eqb-true _ _ e)
+    by false e = inr (eqb-false _ _ e)
 
-pub odd-inside : (N : ℕ) (secants : List ℤ) → Secants N secants → (m n : ℕ) → m < halfWidth N → n < halfWidth N → natAbs (oddOf m n) < length secants
-odd-inside N secants s m n h k = omega (arith, odd-le m n, width-half N (omega arith), ap length (s .is), length-places N (λ r. secantOf N (pos r)))
+-- ---- the places that a row takes
+module _ (M o l : ℕ) where
+  pub place-on : l % 2 ≡ 0 → takenPlace M o l ≡ l + o
+  unfolding takenPlace
+  place-on e = rw (eq-eqb (l % 2) 0 e)
 
-pub secants-at : (N : ℕ) (secants : List ℤ) → Secants N secants → (m n : ℕ) → m < halfWidth N → n < halfWidth N → at secants (natAbs (oddOf m n)) ≡ secant N m n
-unfolding secant secantOf
-secants-at N secants s m n h k =
-    ap (λ l. at l (natAbs (oddOf m n))) (s .is)
-    ∙ at-places N (λ r. secantOf N (pos r)) (natAbs (oddOf m n)) (omega (arith, odd-inside N secants s m n h k, ap length (s .is), length-places N (λ r. secantOf N (pos r))))
+  pub place-from-end : (l % 2 ≡ 0 → ⊥) → takenPlace M o l ≡ M - o - l
+  unfolding takenPlace
+  place-from-end e = rw (ne-eqb (l % 2) 0 e)
+
+-- and where a place is taken
+backPlace : ℕ → ℕ → ℕ → ℕ
+backPlace M o n = cond (eqb ((n + o) % 2) 0) (n - o) (M - o - n)
+
+module _ (M o n : ℕ) where
+  back-on : (n + o) % 2 ≡ 0 → backPlace M o n ≡ n - o
+  unfolding backPlace
+  back-on e = rw (eq-eqb ((n + o) % 2) 0 e)
+
+  back-from-end : ((n + o) % 2 ≡ 0 → ⊥) → backPlace M o n ≡ M - o - n
+  unfolding backPlace
+  back-from-end e = rw (ne-eqb ((n + o) % 2) 0 e)
+
+module _ (M o : ℕ) (u : o ≤ 1) (e : M % 2 ≡ 0) where
+  taken-once : (l : ℕ) → l < M → (takenPlace M o l < M) × (backPlace M o (takenPlace M o l) ≡ l)
+  taken-once l h =
+      ⊎-elim
+      (λ a. rw (place-on M o l a) (omega arith, back-on M o (l + o) (omega arith) ∙ omega arith))
+      (λ a. rw (place-from-end M o l a) (omega arith, back-from-end M o (M - o - l) (omega arith) ∙ omega arith))
+      (even-or-odd l)
+
+  taken-all : (n : ℕ) → n < M → (backPlace M o n < M) × (takenPlace M o (backPlace M o n) ≡ n)
+  taken-all n h =
+      ⊎-elim
+      (λ a. rw (back-on M o n a) (omega arith, place-on M o (n - o) (omega arith) ∙ omega arith))
+      (λ a. rw (back-from-end M o n a) (omega arith, place-from-end M o (M - o - n) (omega arith) ∙ omega arith))
+      (even-or-odd (n + o))
+
+-- ---- a row of secants is a part of the list
+same-difference : (a b c d : ℕ) → a + d ≡ c + b → pos a -ℤ pos b ≡ pos c -ℤ pos d
+same-difference a b c d e = simp zs (omega (arith, e))
+
+secant-part : (N m o l : ℕ) → halfWidth N % 2 ≡ 0 → o ≡ m % 2 → l < halfWidth N → secant N m (takenPlace (halfWidth N) o l) ≡ secantFor N (m + o + l)
+unfolding secant secantFor oddOf
+secant-part N m o l e p h =
+    let M = halfWidth N in
+    ⊎-elim
+    (λ a. rw (place-on M o l a, eq-eqb ((m + (l + o) + 1) % 2) 1 (omega arith), eq-eqb ((m + o + l) % 2) 0 (omega arith)) (ap (λ k. secantOf N (pos k)) (let f : m + (l + o) + 1 ≡ m + o + l + 1 = omega arith in f)))
+    (λ a.
+    rw (place-from-end M o l a, ne-eqb ((m + (M - o - l) + 1) % 2) 1 (λ z. omega (arith, z)), ne-eqb ((m + o + l) % 2) 0 (λ z. omega (arith, z)))
+    (ap (secantOf N) (same-difference m (M - o - l) (m + o + l) M (omega arith))))
+    (even-or-odd l)
+
+-- ---- the sums
+module _ (t z w : List ℤ) (m : ℕ) where
+  in-fours : (a b : Bool) → eqb (m % 4) 0 ≡ a → eqb (m % 4) 1 ≡ b
+      → (m % 2 ≡ 0 → inFours t z w 2 2 4 m ≡ window t z (m + 0)) × (m % 2 ≡ 1 → inFours t z w 2 2 4 m ≡ window t w (m + 1))
+  unfolding inFours
+  in-fours true b p q =
+      let e = eqb-true (m % 4) 0 p in
+      let n : m ≡ m + 0 = omega arith in (λ h. rw p (ap (window t z) n), λ h. absurd (omega (arith, e, h)))
+  in-fours false true p q =
+      let e = eqb-true (m % 4) 1 q in
+      let n : m - 1 + 2 ≡ m + 1 = omega (arith, e) in (λ h. absurd (omega (arith, e, h)), λ h. rw (p, q) (ap (window t w) n))
+  in-fours false false p q =
+      let e = eqb-false (m % 4) 0 p in
+      let f = eqb-false (m % 4) 1 q in (
+        λ h. let n : m - 2 + 2 ≡ m + 0 = omega (arith, e, h) in rw (p, q, eq-eqb (m % 4) 2 (omega (arith, e, h))) (ap (window t z) n),
+        λ h. let n : m - 3 + 4 ≡ m + 1 = omega (arith, f, h) in rw (p, q, ne-eqb (m % 4) 2 (λ d. omega (arith, d, h))) (ap (window t w) n),
+      )
+
+  pub fours-even : m % 2 ≡ 0 → inFours t z w 2 2 4 m ≡ window t z (m + 0)
+  fours-even = in-fours (eqb (m % 4) 0) (eqb (m % 4) 1) refl refl .0
+
+  pub fours-odd : m % 2 ≡ 1 → inFours t z w 2 2 4 m ≡ window t w (m + 1)
+  fours-odd = in-fours (eqb (m % 4) 0) (eqb (m % 4) 1) refl refl .1
+
+one-size : (N k : ℕ) (b : Bool) → natAbs (cond b (secantOf N (pos (k + 1))) (secantOf N (pos k -ℤ pos (halfWidth N)))) ≤ 11000000000
+one-size N k true = secant-size N (pos (k + 1))
+one-size N k false = secant-size N (pos k -ℤ pos (halfWidth N))
+
+entry-size : (N k : ℕ) → natAbs (secantFor N k) ≤ 11000000000
+unfolding secantFor
+entry-size N k = one-size N k (eqb (k % 2) 0)
+
+module _ (N : ℕ) (t x : List ℤ) (h : Secants N t) where
+  secants-at : (k : ℕ) → k < N → at t k ≡ secantFor N k
+  secants-at k l = ap (λ s. at s k) (h .is) ∙ at-places N (secantFor N) k l
+
+  pub row-window : (m o : ℕ) → halfWidth N % 4 ≡ 0 → halfWidth N + halfWidth N ≡ N → o ≡ m % 2 → m < halfWidth N
+      → window t (places (halfWidth N) (λ l. at x (takenPlace (halfWidth N) o l))) (m + o) ≡ sum (halfWidth N) (λ n. secant N m n *ℤ at x n)
+  unfolding window
+  row-window m o e d p l =
+      let M = halfWidth N in
+      let u : o ≤ 1 = omega arith in
+      let v : M % 2 ≡ 0 = omega arith in
+      ap (λ n. sum n (λ j. at t (m + o + j) *ℤ at (places M (λ l. at x (takenPlace M o l))) j)) (length-places M _)
+      ∙ sum-ext M _ _ (λ j k. ap₂ _*ℤ_ (secants-at (m + o + j) (omega arith) ∙ sym (secant-part N m o j v p k)) (at-places M _ j k))
+      ∙ sum-permuted M (takenPlace M o) (backPlace M o) (taken-once M o u v) (taken-all M o u v) (λ n. secant N m n *ℤ at x n)
+
+  pub secant-rows : (z w : List ℤ) → halfWidth N % 4 ≡ 0 → halfWidth N + halfWidth N ≡ N
+      → z ≡ places (halfWidth N) (λ l. at x (takenPlace (halfWidth N) 0 l)) → w ≡ places (halfWidth N) (λ l. at x (takenPlace (halfWidth N) 1 l))
+      → places (halfWidth N) (inFours t z w 2 2 4) ≡ secantSums N x
+  unfolding secantSums
+  secant-rows z w e d a b =
+      places-ext (halfWidth N) _ _ (λ m l.
+      ⊎-elim
+      (λ even. fours-even t z w m even ∙ ap (λ y. window t y (m + 0)) a ∙ row-window m 0 e d (sym even) l)
+      (λ odd. let one : m % 2 ≡ 1 = omega (arith, odd) in fours-odd t z w m one ∙ ap (λ y. window t y (m + 1)) b ∙ row-window m 1 e d (sym one) l)
+      (even-or-odd m))
+
+  pub secant-sizes : (n : ℕ) (y : List ℤ) → n ≤ 64 → Within 10000000 y → Sizes n t y
+  secant-sizes n y l q = record {
+    table = 11000000000;
+    list = 10000000;
+    table-within = subst (Within 11000000000) (sym (h .is)) (within-places N 11000000000 (secantFor N) (λ k m. entry-size N k));
+    list-within = q;
+    fits = omega (arith, l);
+  }

@@ -20,14 +20,6 @@ pub fn root_log(width: usize) -> u32
     }
 }
 
-// The cosines of multiples of π/(4M).
-pub fn turn(half: usize, out: &mut [i64])
-    requires { ⌜ 0 < half ⌝ }
-    ensures { λ _. ⌜ now (out .exit) ≡ places (length (now (out .entry))) (λ e. cosineOf (e * (128 / half))) ⌝ }
-{
-    tables::sines::cosines(0, (128 / half) as u16, out);
-}
-
 // s(m)
 pub fn sines(width: usize, out: &mut [i64])
     requires { ⌜ 0 < width ⌝ }
@@ -35,18 +27,6 @@ pub fn sines(width: usize, out: &mut [i64])
 {
     let unit = (128 / width) as u16;
     tables::sines::cosines(unit + 768, 2 * unit, out);
-}
-
-// The secants for r from 0 up.
-pub fn secants(width: usize, out: &mut [i64])
-    requires { ⌜ length (now out) ≤ 128 ⌝ }
-    ensures { λ _. ⌜ now (out .exit) ≡ places (length (now (out .entry))) (λ r. secantOf width (pos r)) ⌝ }
-{
-    let mut r: usize = 0;
-    while r < out.len() {
-        out[r] = tables::secants::secant(width, r as i16);
-        r += 1;
-    }
 }
 
 // −t(m)

@@ -1,4 +1,5 @@
 // The five stages on the halves of a frame, each with its way back, and what they work with: tables as lists, row sums, moves of lists.
+pub mod arranged;
 pub mod expand;
 pub mod room;
 pub mod stages;

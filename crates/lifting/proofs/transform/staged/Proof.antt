@@ -1,18 +1,18 @@
 -- `lifting::transform::staged` meets its contract.
 use borrow.Author.Needs.{needs}
 use native.Mathlib.Omega.{arith}
-use mathlib.Core.Path.{_≡_, sym, ap, _∙_}
+use mathlib.Core.Path.{_≡_, sym, ap, subst, _∙_}
 use mathlib.Core.List.{List}
-use Prim.Native.Nat.{ℕ, _+_, _-_, _*_, _/_, _≤_}
-use lib.IntN.{ℤ, pos, negℤ}
+use Prim.Native.Nat.{ℕ, _+_, _-_, _≤_}
+use lib.IntN.{ℤ, negℤ}
 use lib.ListN.{length, take, drop}
 use Rattle.integers.specs.Places.{places}
 use Rattle.integers.proofs.PlaceLaws.{length-places}
 use Rattle.tables.specs.Widths.{halfWidth}
-use Rattle.tables.specs.Numbers.{cosineOf, secantOf}
 use Rattle.tables.proofs.ByWidth.{half-width-le}
 use Rattle.steps.specs.Steps.{sine, tangent}
 use Rattle.steps.proofs.Undo.{width-half}
+use Rattle.stages.specs.Expanded.{Turn, Secants}
 use Rattle.lifting.proofs.Parts.{part-long, front, front-long, front-le}
 use Rattle.lifting.proofs.transform.staged.Statement.{statement}
 use Rattle.lifting.proofs.transform.staged.Tie as tie
@@ -33,13 +33,13 @@ module _ (e : tie.After-root-log) where
   turn-of = e .before .before .before .before .before .before .before .before .before .before .before .turn2 .last .1 .0
 
   abbrev turn-rest : List ℤ
-  turn-rest = drop (8 * s .args .half) (e .before .before .before .before .before .before .before .before .before .before .before .before .before .before .before .before .before .before .before .of-512 .result)
+  turn-rest = drop (s .args .width) (e .before .before .before .before .before .before .before .before .before .before .before .before .before .before .before .before .before .before .before .of-128 .result)
 
   abbrev secants-of : List ℤ
   secants-of = e .before .before .before .before .before .before .before .before .secants2 .last .1 .0
 
   abbrev secants-rest : List ℤ
-  secants-rest = drop (s .args .width) (e .before .before .before .before .before .before .before .before .before .before .before .before .before .before .before .before .before .before .of-128 .result)
+  secants-rest = drop (s .args .width) (e .before .before .before .before .before .before .before .before .before .before .before .before .before .before .before .before .before .before .of-1282 .result)
 
   abbrev tangents-of : List ℤ
   tangents-of = e .before .before .before .before .before .tangents2 .last .1 .0
@@ -53,11 +53,11 @@ module _ (e : tie.After-root-log) where
   abbrev sines-rest : List ℤ
   sines-rest = drop (s .args .half) (e .before .before .before .before .before .before .before .before .before .before .before .before .before .before .before .before .of-642 .result)
 
-  turn-part : length (take (8 * s .args .half) (e .before .before .before .before .before .before .before .before .before .before .before .before .before .before .before .before .before .before .before .of-512 .result)) ≡ 8 * s .args .half
-  turn-part = sym (part-long _ _ (omega (arith, e .before .before .before .before .before .before .before .before .before .before .before .before .before .before .before .before .before .before .before .of-512 .ensures, half-le s)))
+  turn-part : length (take (s .args .width) (e .before .before .before .before .before .before .before .before .before .before .before .before .before .before .before .before .before .before .before .of-128 .result)) ≡ s .args .width
+  turn-part = sym (part-long _ _ (omega (arith, e .before .before .before .before .before .before .before .before .before .before .before .before .before .before .before .before .before .before .before .of-128 .ensures, half-le s, width-is s)))
 
-  secants-part : length (take (s .args .width) (e .before .before .before .before .before .before .before .before .before .before .before .before .before .before .before .before .before .before .of-128 .result)) ≡ s .args .width
-  secants-part = sym (part-long _ _ (omega (arith, e .before .before .before .before .before .before .before .before .before .before .before .before .before .before .before .before .before .before .of-128 .ensures, half-le s, width-is s)))
+  secants-part : length (take (s .args .width) (e .before .before .before .before .before .before .before .before .before .before .before .before .before .before .before .before .before .before .of-1282 .result)) ≡ s .args .width
+  secants-part = sym (part-long _ _ (omega (arith, e .before .before .before .before .before .before .before .before .before .before .before .before .before .before .before .before .before .before .of-1282 .ensures, half-le s, width-is s)))
 
   tangents-part : length (take (s .args .half) (e .before .before .before .before .before .before .before .before .before .before .before .before .before .before .before .before .before .of-64 .result)) ≡ s .args .half
   tangents-part = sym (part-long _ _ (omega (arith, e .before .before .before .before .before .before .before .before .before .before .before .before .before .before .before .before .before .of-64 .ensures, half-le s)))
@@ -65,11 +65,17 @@ module _ (e : tie.After-root-log) where
   sines-part : length (take (s .args .half) (e .before .before .before .before .before .before .before .before .before .before .before .before .before .before .before .before .of-642 .result)) ≡ s .args .half
   sines-part = sym (part-long _ _ (omega (arith, e .before .before .before .before .before .before .before .before .before .before .before .before .before .before .before .before .of-642 .ensures, half-le s)))
 
-  turn-long : length (e .before .before .before .before .before .before .before .before .before .before .before .turn2 .last .1 .0) ≡ 8 * s .args .half
-  turn-long = ap length (e .before .before .before .before .before .before .before .before .before .before .before .turn2 .ensures) ∙ length-places _ _ ∙ turn-part
+  turn-is : Turn (s .args .width) turn-of
+  turn-is = e .before .before .before .before .before .before .before .before .before .before .before .turn2 .ensures
 
-  secants-long : length (e .before .before .before .before .before .before .before .before .secants2 .last .1 .0) ≡ s .args .width
-  secants-long = ap length (e .before .before .before .before .before .before .before .before .secants2 .ensures) ∙ length-places _ _ ∙ secants-part
+  secants-are : Secants (s .args .width) secants-of
+  secants-are = e .before .before .before .before .before .before .before .before .secants2 .ensures
+
+  turn-long : length turn-of ≡ s .args .width
+  turn-long = ap length (turn-is .is) ∙ length-places _ _
+
+  secants-long : length secants-of ≡ s .args .width
+  secants-long = ap length (secants-are .is) ∙ length-places _ _
 
   tangents-long : length (e .before .before .before .before .before .tangents2 .last .1 .0) ≡ s .args .half
   tangents-long = ap length (e .before .before .before .before .before .tangents2 .ensures) ∙ length-places _ _ ∙ tangents-part
@@ -79,12 +85,6 @@ module _ (e : tie.After-root-log) where
 
   abbrev N : ℕ
   N = s .args .width
-
-  turn-is : e .before .before .before .before .before .before .before .before .before .before .before .turn2 .last .1 .0 ≡ places (8 * halfWidth N) (λ k. cosineOf (k * (128 / halfWidth N)))
-  turn-is = e .before .before .before .before .before .before .before .before .before .before .before .turn2 .ensures ∙ ap (λ n. places n (λ k. cosineOf (k * (128 / s .args .half)))) turn-part ∙ ap (λ h. places (8 * h) (λ k. cosineOf (k * (128 / h)))) (s .pre .0 .half-is)
-
-  secants-are : e .before .before .before .before .before .before .before .before .secants2 .last .1 .0 ≡ places N (λ r. secantOf N (pos r))
-  secants-are = e .before .before .before .before .before .before .before .before .secants2 .ensures ∙ ap (λ n. places n (λ r. secantOf N (pos r))) secants-part
 
   tangents-are : e .before .before .before .before .before .tangents2 .last .1 .0 ≡ places (halfWidth N) (λ m. negℤ (tangent N m))
   tangents-are = e .before .before .before .before .before .tangents2 .ensures ∙ ap (λ n. places n (λ m. negℤ (tangent N m))) (tangents-part ∙ s .pre .0 .half-is)
@@ -101,11 +101,11 @@ module _ (e : tie.After-root-log) where
   row-long : s .args .half ≡ length (take (s .args .half) (e .before .before .before .before .before .before .before .before .before .before .before .before .before .of-645 .result))
   row-long = part-long _ _ (omega (arith, e .before .before .before .before .before .before .before .before .before .before .before .before .before .of-645 .ensures, half-le s))
 
-of-512-requires : tie.Need-of-512-requires
-of-512-requires c κs = search needs
-
 of-128-requires : tie.Need-of-128-requires
 of-128-requires c κs = search needs
+
+of-128-requires-2 : tie.Need-of-128-requires-2
+of-128-requires-2 c κs = search needs
 
 of-64-requires : tie.Need-of-64-requires
 of-64-requires c κs = search needs
@@ -122,26 +122,27 @@ of-64-requires-4 c κs = search needs
 of-64-requires-5 : tie.Need-of-64-requires-5
 of-64-requires-5 c κs = search needs
 
-mul-whole : tie.Need-mul-whole
-mul-whole c = search needs
-
 array-borrow-prefix-turn : tie.Need-array-borrow-prefix-turn
-array-borrow-prefix-turn c = omega (arith, half-le (c .before .before .before .before .before .before .before))
+array-borrow-prefix-turn c = omega (arith, half-le (c .before .before .before .before .before .before .before), width-is (c .before .before .before .before .before .before .before))
 
 slice-aggregate-turn : tie.Need-slice-aggregate-turn
-slice-aggregate-turn c = let z = c .before .before .before .before .before .before .before .before in part-long _ _ (omega (arith, c .before .before .before .before .before .before .before .of-512 .ensures, half-le z))
+slice-aggregate-turn c = let z = c .before .before .before .before .before .before .before .before in part-long _ _ (omega (arith, c .before .before .before .before .before .before .before .of-128 .ensures, half-le z, width-is z))
 
 turn-requires : tie.Need-turn-requires
-turn-requires c κs = search needs
+turn-requires c κs =
+    let z = c .before .before .before .before .before .before .before .before in
+    (sym (part-long (z .args .width) (c .before .before .before .before .before .before .before .of-128 .result) (omega (arith, c .before .before .before .before .before .before .before .of-128 .ensures, half-le z, width-is z))), z .pre .0 .wide)
 
 array-borrow-prefix-secants : tie.Need-array-borrow-prefix-secants
 array-borrow-prefix-secants c = omega (arith, half-le (c .before .before .before .before .before .before .before .before .before .before), width-is (c .before .before .before .before .before .before .before .before .before .before))
 
 slice-aggregate-secants : tie.Need-slice-aggregate-secants
-slice-aggregate-secants c = let z = c .before .before .before .before .before .before .before .before .before .before .before in part-long _ _ (omega (arith, c .before .before .before .before .before .before .before .before .before .of-128 .ensures, half-le z, width-is z))
+slice-aggregate-secants c = let z = c .before .before .before .before .before .before .before .before .before .before .before in part-long _ _ (omega (arith, c .before .before .before .before .before .before .before .before .before .of-1282 .ensures, half-le z, width-is z))
 
 secants-requires : tie.Need-secants-requires
-secants-requires c κs = let z = c .before .before .before .before .before .before .before .before .before .before .before in omega (arith, part-long (z .args .width) (c .before .before .before .before .before .before .before .before .before .of-128 .result) (omega (arith, c .before .before .before .before .before .before .before .before .before .of-128 .ensures, half-le z, width-is z)), half-le z, width-is z)
+secants-requires c κs =
+    let z = c .before .before .before .before .before .before .before .before .before .before .before in
+    (sym (part-long (z .args .width) (c .before .before .before .before .before .before .before .before .before .of-1282 .result) (omega (arith, c .before .before .before .before .before .before .before .before .before .of-1282 .ensures, half-le z, width-is z))), z .pre .0 .wide)
 
 array-borrow-prefix-tangents : tie.Need-array-borrow-prefix-tangents
 array-borrow-prefix-tangents c = omega (arith, half-le (c .before .before .before .before .before .before .before .before .before .before .before .before .before))
@@ -212,8 +213,8 @@ all-requires c κs =
     let s = e .before .before .before .before .before .before .before .before .before .before .before .before .before .before .before .before .before .before .before .before in
     let w = s .pre .0 in (
       record {
-        turn-is = record { is = front _ (turn-of e) (turn-rest e) (turn-long e) ∙ turn-is e };
-        secants-are = record { is = front _ (secants-of e) (secants-rest e) (secants-long e) ∙ secants-are e };
+        turn-is = subst (Turn (s .args .width)) (sym (front _ (turn-of e) (turn-rest e) (turn-long e))) (turn-is e);
+        secants-are = subst (Secants (s .args .width)) (sym (front _ (secants-of e) (secants-rest e) (secants-long e))) (secants-are e);
         tangents-are = record { is = front _ (tangents-of e) (tangents-rest e) (tangents-long e) ∙ tangents-are e };
         sines-are = record { is = front _ (sines-of e) (sines-rest e) (sines-long e) ∙ sines-are e };
         root-is = e .root-log .ensures;
@@ -235,14 +236,13 @@ pub staged-spec : {M : Type 1} → statement M
 staged-spec =
     tie.close
     (tie.spec
-    of-512-requires
     of-128-requires
+    of-128-requires-2
     of-64-requires
     of-64-requires-2
     of-64-requires-3
     of-64-requires-4
     of-64-requires-5
-    mul-whole
     array-borrow-prefix-turn
     slice-aggregate-turn
     turn-requires

@@ -1,120 +1,148 @@
 -- `stages::sums::cosine_sums` meets its contract.
 use borrow.Author.Needs.{needs}
 use native.Mathlib.Omega.{arith}
-use mathlib.Core.Path.{_≡_, refl, sym, ap, _∙_}
-use Prim.Native.Nat.{ℕ, _+_, _-_, _*_, _%_, _≤_, _<_}
-use lib.IntN.{_*ℤ_}
-use lib.ListN.{length}
-use mir.Syntax.{w64}
-use Rattle.integers.specs.Places.{places, at, sum}
-use Rattle.integers.proofs.Held.{held-ok}
-use Rattle.integers.proofs.Fills.{Filling, filling-none, filling-next, filling-all}
-use Rattle.integers.proofs.PlaceLaws.{length-places, row-sum}
+use mathlib.Core.Path.{_≡_, refl, sym, ap, subst, _∙_}
+use mathlib.Core.List.{List, _++_}
+use Prim.Native.Nat.{ℕ, _-_, _%_, _^_, _≤_}
+use lib.IntN.{ℤ, _*ℤ_}
+use lib.ListN.{length, take, drop}
+use lib.Seq.{length-take-le, length-front, take-at}
+use Rattle.integers.specs.Places.{places, at, Within}
+use Rattle.integers.proofs.PlaceLaws.{length-places, places-ext, within-places, within-up}
 use Rattle.tables.specs.Widths.{halfWidth}
 use Rattle.tables.proofs.ByWidth.{half-width-le}
-use Rattle.steps.specs.Steps.{cosine}
-use Rattle.integers.specs.Vectors.{dot}
-use Rattle.stages.specs.Expanded.{cosineSums}
-use Rattle.stages.proofs.SumLaws.{turn-long, turn-row, cosine-room}
+use Rattle.stages.specs.Arranged.{placeIn, signIn}
+use Rattle.stages.specs.Expanded.{window, Sizes}
+use Rattle.stages.proofs.CosineOrder.{row-long, turn-long, half-in-fours, cosine-sizes, cosine-windows}
+use Rattle.stages.proofs.WindowLaws.{fours-window, window-size}
 use Rattle.stages.proofs.sums.cosine_sums.Statement.{statement}
 use Rattle.stages.proofs.sums.cosine_sums.Tie as tie
 
-abbrev Inv-loop : tie.InvT-loop
-Inv-loop width turn x row₀ out₀ m₀ row out m = (m ≤ length out₀) × Filling (λ m. sum (halfWidth width) (λ n. cosine width m n *ℤ at x n)) out₀ m out × (length row ≡ length row₀)
+abbrev N : tie.Start → ℕ
+N s = s .args .width
 
-abbrev μ-loop : tie.MeasureT-loop
-μ-loop width turn x row₀ out₀ m₀ row out m = length out₀ - m
+-- room for the sums
+module _ (o : tie.After-of-64) where
+  abbrev half : ℕ
+  half = length (o .before .args .x .now)
 
-module _ (c : tie.After-strided Inv-loop μ-loop) where
-  abbrev l : tie.At-loop Inv-loop μ-loop
-  l = c .before .before .before
+  abbrev room : List ℤ
+  room = o .of-64 .result
 
-  abbrev N : ℕ
-  N = l .before .args .width
+  half-le : half ≤ length room
+  half-le = omega (arith, o .of-64 .ensures, o .before .pre .1 .0 .0, half-width-le (N (o .before)))
 
-  -- the row of a turn is that of the cosines
-  strided-row : c .strided .last .1 .1 .1 .0 ≡ places (halfWidth N) (cosine N (l .loop .m))
-  strided-row =
-      c .strided .ensures
-      ∙ ap (λ k. places k (λ n. at (l .before .args .turn .now) ((2 * l .loop .m + 1 + n * (4 * l .loop .m + 2)) % length (l .before .args .turn .now)))) (l .loop .inv .2 ∙ l .before .pre .1 .0 .1)
-      ∙ turn-row N (l .before .args .turn .now) (l .before .pre .0) (l .loop .m) (omega (arith, l .before .pre .1 .0 .2))
+  part-long : length (take half room) ≡ half
+  part-long = length-take-le half room half-le
 
-loop-holds : tie.Need-loop-holds Inv-loop μ-loop
-loop-holds c = (omega arith, filling-none _ _, refl)
+-- x in the order of the powers of 3
+module _ (r : tie.After-ordered) where
+  abbrev s : tie.Start
+  s = r .before .before .before
 
-mul-strided : tie.Need-mul-strided Inv-loop μ-loop
-mul-strided c = search needs
+  abbrev row : List ℤ
+  row = r .ordered .last .1 .1 .0
 
-add-strided : tie.Need-add-strided Inv-loop μ-loop
-add-strided c = search needs
+  is-row : row ≡ places (halfWidth (N s)) (λ j. signIn (N s) j *ℤ at (s .args .x .now) (placeIn (N s) j))
+  is-row = r .ordered .ensures
 
-mul-strided-2 : tie.Need-mul-strided-2 Inv-loop μ-loop
-mul-strided-2 c = search needs
+  sizes : Sizes (length row) (s .args .turn .now) row
+  sizes = cosine-sizes (N s) (s .args .turn .now) (s .args .x .now) row (s .pre .0) is-row (s .pre .1 .1)
 
-add-strided-2 : tie.Need-add-strided-2 Inv-loop μ-loop
-add-strided-2 c = search needs
+-- the sums in that order
+module _ (w : tie.After-windows) where
+  abbrev r : tie.After-ordered
+  r = w .before .before .before .before
 
-strided-requires : tie.Need-strided-requires Inv-loop μ-loop
-strided-requires c κs =
-    let l = c .before .before in
-    let long = turn-long (l .before .args .width) (l .before .args .turn .now) (l .before .pre .0) in
-    let m : l .loop .m < halfWidth (l .before .args .width) = omega (arith, l .before .pre .1 .0 .2) in
-    (omega arith, omega arith, omega (arith, half-width-le (l .before .args .width)))
+  abbrev o : tie.After-of-64
+  o = r .before .before
 
-inner-product-requires : tie.Need-inner-product-requires Inv-loop μ-loop
-inner-product-requires c κs =
+  abbrev start : tie.Start
+  start = o .before
+
+  abbrev found : List ℤ
+  found = w .windows .last .1 .1 .1 .1 .1 .1 .0
+
+  is-found : found ≡ places (halfWidth (N start)) (window (start .args .turn .now) (row r))
+  is-found =
+      w .windows .ensures
+      ∙ places-ext _ _ _ (λ k l. fours-window (start .args .turn .now) (row r) k)
+      ∙ ap (λ n. places n (window (start .args .turn .now) (row r))) (part-long o ∙ start .pre .1 .0 .0)
+
+  found-long : length found ≡ half o
+  found-long = ap length is-found ∙ length-places _ _ ∙ sym (start .pre .1 .0 .0)
+
+  kept : take (half o) (found ++ drop (half o) (room o)) ≡ found
+  kept = take-at found (drop (half o) (room o)) (half o) found-long
+
+  found-within : Within (2 ^ 63 - 1) found
+  found-within = subst (Within (2 ^ 63 - 1)) (sym is-found) (within-places _ _ _ (λ i l. window-size (sizes r) i))
+
+of-64-requires : tie.Need-of-64-requires
+of-64-requires c κs = search needs
+
+ordered-requires : tie.Need-ordered-requires
+ordered-requires c κs =
     let s = c .before .before in
-    (ap length (strided-row s) ∙ length-places _ _ ∙ sym (l s .before .pre .1 .0 .0), rw (strided-row s) (cosine-room (N s) (l s .loop .m) (l s .before .args .x .now) (l s .before .pre .1 .1)))
+    ((s .pre .1 .0 .0, s .pre .1 .0 .1, s .pre .0 .wide), within-up (s .pre .1 .1) (omega arith))
 
-mul-t7 : tie.Need-mul-t7 Inv-loop μ-loop
-mul-t7 c = search needs
+array-borrow-prefix-sums : tie.Need-array-borrow-prefix-sums
+array-borrow-prefix-sums c = half-le (c .before .before .before .before)
 
-slice-set-from-out : tie.Need-slice-set-from-out Inv-loop μ-loop
-slice-set-from-out c = omega arith
+slice-aggregate-windows : tie.Need-slice-aggregate-windows
+slice-aggregate-windows c = sym (part-long (c .before .before .before .before .before))
 
-add-m : tie.Need-add-m Inv-loop μ-loop
-add-m c = omega arith
-
-loop-less : tie.Need-loop-less Inv-loop μ-loop
-loop-less c = omega arith
-
-loop-again : tie.Need-loop-again Inv-loop μ-loop
-loop-again c =
-    let s = c .before .before .before in (
-      omega arith,
-      filling-next (l s .loop .inv .1) (held-ok w64 _ (c .inner-product .ok) .is ∙ c .inner-product .ensures
-          ∙ ap (λ r. dot r (l s .before .args .x .now)) (strided-row s) ∙ row-sum (halfWidth (N s)) (cosine (N s) (l s .loop .m)) (l s .before .args .x .now)),
-      ap length (strided-row s) ∙ length-places _ _ ∙ sym (l s .before .pre .1 .0 .1),
+windows-requires : tie.Need-windows-requires
+windows-requires c κs =
+    let r = c .before .before .before in
+    let long = row-long (N (s r)) (s r .args .turn .now) (s r .args .x .now) (row r) (s r .pre .0) (is-row r) in (
+      (
+        part-long (r .before .before) ∙ s r .pre .1 .0 .0 ∙ sym long,
+        refl,
+        ap (λ n. n % 4) long ∙ half-in-fours (N (s r)),
+        turn-long (N (s r)) (s r .args .turn .now) (s r .args .x .now) (row r) (s r .pre .0) (is-row r),
+      ),
+      ((omega arith, omega arith, omega arith), (sizes r, sizes r)),
     )
 
-same-length : tie.Need-same-length Inv-loop μ-loop
-same-length c = omega arith
+array-share-prefix-sums : tie.Need-array-share-prefix-sums
+array-share-prefix-sums c =
+    let w = c .before in
+    subst (λ n. half (o w) ≤ n) (sym (length-front (room (o w)) (found w) (half (o w)) (found-long w ∙ sym (part-long (o w))))) (half-le (o w))
 
-same-length-2 : tie.Need-same-length-2 Inv-loop μ-loop
-same-length-2 c = omega arith
+slice-aggregate-reordered : tie.Need-slice-aggregate-reordered
+slice-aggregate-reordered c = let w = c .before .before in sym (ap length (kept w) ∙ found-long w)
 
-returns : tie.Need-returns Inv-loop μ-loop
-unfolding cosineSums
-returns c = filling-all (c .before .loop .inv .1) (omega arith) ∙ ap (λ k. places k (λ m. sum (halfWidth (c .before .before .args .width)) (λ n. cosine (c .before .before .args .width) m n *ℤ at (c .before .before .args .x .now) n))) (c .before .before .pre .1 .0 .2)
+reordered-requires : tie.Need-reordered-requires
+reordered-requires c κs =
+    let w = c .before .before .before in
+    let p = start w .pre .1 .0 in
+    ((ap length (kept w) ∙ found-long w ∙ p .0, p .2, start w .pre .0 .wide), subst (Within (2 ^ 63 - 1)) (sym (kept w)) (found-within w))
+
+same-length : tie.Need-same-length
+same-length c = search needs
+
+same-length-2 : tie.Need-same-length-2
+same-length-2 c = search needs
+
+returns : tie.Need-returns
+returns c =
+    let w = c .before .before .before .before .before in
+    let a = start w .args in
+    c .before .reordered .ensures ∙ cosine-windows (N (start w)) (a .turn .now) (a .x .now) (row (r w)) (start w .pre .0) (is-row (r w)) _ (kept w ∙ is-found w)
 
 pub cosine-sums-spec : {M : Type 1} → statement M
 cosine-sums-spec =
     tie.close
     (tie.spec
-    Inv-loop
-    μ-loop
-    loop-holds
-    mul-strided
-    add-strided
-    mul-strided-2
-    add-strided-2
-    strided-requires
-    inner-product-requires
-    mul-t7
-    slice-set-from-out
-    add-m
-    loop-less
-    loop-again
+    of-64-requires
+    ordered-requires
+    array-borrow-prefix-sums
+    slice-aggregate-windows
+    windows-requires
+    array-share-prefix-sums
+    slice-aggregate-reordered
+    reordered-requires
     same-length
     same-length-2
     returns)

@@ -1,96 +1,153 @@
 -- `stages::sums::secant_sums` meets its contract.
 use borrow.Author.Needs.{needs}
 use native.Mathlib.Omega.{arith}
-use mathlib.Core.Path.{_≡_, refl, sym, ap, _∙_}
-use Prim.Native.Nat.{ℕ, _-_, _*_, _≤_}
-use lib.IntN.{_*ℤ_}
-use lib.ListN.{length}
-use mir.Syntax.{w64}
-use Rattle.integers.specs.Places.{places, at, sum}
-use Rattle.integers.proofs.Held.{held-ok}
-use Rattle.integers.proofs.Fills.{Filling, filling-none, filling-next, filling-all}
-use Rattle.integers.proofs.PlaceLaws.{length-places, row-sum}
+use mathlib.Core.Path.{_≡_, sym, ap, ap₂, subst, _∙_}
+use mathlib.Core.List.{_++_}
+use Prim.Native.Nat.{ℕ, _+_, _%_, _≤_, _<_}
+use lib.IntN.{ℤ}
+use lib.ListN.{length, take, drop, length-append}
+use lib.Seq.{length-take-le, take-at}
+use Rattle.integers.specs.Places.{places, at, Within}
+use Rattle.integers.proofs.PlaceLaws.{length-places, within-places}
 use Rattle.tables.specs.Widths.{halfWidth}
-use Rattle.steps.specs.Steps.{secant}
-use Rattle.integers.specs.Vectors.{dot}
-use Rattle.stages.specs.Expanded.{secantSums}
-use Rattle.stages.proofs.SumLaws.{secant-room}
+use Rattle.tables.proofs.ByWidth.{half-width-le}
+use Rattle.steps.proofs.Undo.{width-half}
+use Rattle.stages.specs.Expanded.{inFours, takenPlace}
+use Rattle.stages.proofs.CosineOrder.{half-in-fours}
+use Rattle.stages.proofs.SumLaws.{secant-rows, secant-sizes}
 use Rattle.stages.proofs.sums.secant_sums.Statement.{statement}
 use Rattle.stages.proofs.sums.secant_sums.Tie as tie
 
-abbrev Inv-loop : tie.InvT-loop
-Inv-loop width secants x row₀ out₀ m₀ row out m = (m ≤ length out₀) × Filling (λ m. sum (halfWidth width) (λ n. secant width m n *ℤ at x n)) out₀ m out × (length row ≡ length row₀)
+module _ (s : tie.Start) where
+  abbrev half : ℕ
+  half = halfWidth (s .args .width)
 
-abbrev μ-loop : tie.MeasureT-loop
-μ-loop width secants x row₀ out₀ m₀ row out m = length out₀ - m
+  x-long : length (s .args .x .now) ≡ half
+  x-long = s .pre .1 .0 .0
 
-module _ (c : tie.After-secant-row Inv-loop μ-loop) where
-  abbrev l : tie.At-loop Inv-loop μ-loop
-  l = c .before .before .before
+  row-long : length (s .args .row .now) ≡ half
+  row-long = s .pre .1 .0 .1
 
-  abbrev N : ℕ
-  N = l .before .args .width
+  out-long : length (s .args .out .now) ≡ half
+  out-long = s .pre .1 .0 .2
 
-loop-holds : tie.Need-loop-holds Inv-loop μ-loop
-loop-holds c = (omega arith, filling-none _ _, refl)
+  even : length (s .args .x .now) % 2 ≡ 0
+  even = omega (arith, half-in-fours (s .args .width), x-long)
 
-secant-row-requires : tie.Need-secant-row-requires Inv-loop μ-loop
-secant-row-requires c κs =
-    let l = c .before .before in
-    (l .before .pre .0, (omega (arith, l .before .pre .1 .0 .2), l .loop .inv .2 ∙ l .before .pre .1 .0 .1))
+  wide : 0 < half
+  wide = s .pre .0 .wide
 
-inner-product-requires : tie.Need-inner-product-requires Inv-loop μ-loop
-inner-product-requires c κs =
-    let s = c .before .before in (
-      ap length (s .secant-row .ensures) ∙ length-places _ _ ∙ sym (l s .before .pre .1 .0 .0),
-      rw (s .secant-row .ensures) (secant-room (N s) (l s .loop .m) (l s .before .args .x .now) (omega (arith, l s .before .pre .1 .0 .2)) (l s .before .pre .1 .1)),
+  secants-long : length (s .args .secants .now) ≡ half + half
+  secants-long = ap length (s .pre .0 .is) ∙ length-places (s .args .width) _ ∙ sym (width-half (s .args .width) wide)
+
+  -- the list as a row takes it
+  abbrev taken : ℕ → ℕ → ℤ
+  taken o l = at (s .args .x .now) (takenPlace half o l)
+
+  taken-within : (o : ℕ) → Within 10000000 (places half (taken o))
+  taken-within o = within-places half 10000000 (taken o) (λ l h. s .pre .1 .1 .size (takenPlace half o l))
+
+  filled : (n o : ℕ) → n ≡ half → places n (λ l. at (s .args .x .now) (takenPlace (length (s .args .x .now)) o l)) ≡ places half (taken o)
+  filled n o e = ap (λ k. places k (λ l. at (s .args .x .now) (takenPlace (length (s .args .x .now)) o l))) e ∙ ap (λ k. places half (λ l. at (s .args .x .now) (takenPlace k o l))) x-long
+
+module _ (o : tie.After-of-64) where
+  room : length (o .before .args .x .now) ≤ length (o .of-64 .result)
+  room = omega (arith, o .of-64 .ensures, x-long (o .before), half-width-le (o .before .args .width))
+
+  part : length (take (length (o .before .args .x .now)) (o .of-64 .result)) ≡ length (o .before .args .x .now)
+  part = length-take-le _ _ room
+
+module _ (f : tie.After-for-rows) where
+  row-is : f .for-rows .last .1 .1 .0 ≡ places (half (f .before .before .before)) (taken (f .before .before .before) 0)
+  row-is = f .for-rows .ensures ∙ filled (f .before .before .before) _ 0 (row-long (f .before .before .before))
+
+  row-filled : length (f .for-rows .last .1 .1 .0) ≡ half (f .before .before .before)
+  row-filled = ap length row-is ∙ length-places _ _
+
+module _ (g : tie.After-for-rows2) where
+  abbrev start : tie.Start
+  start = g .before .before .before .before .before .before
+
+  odd-is : g .for-rows2 .last .1 .1 .0 ≡ places (half start) (taken start 1)
+  odd-is = g .for-rows2 .ensures ∙ filled start _ 1 (part (g .before .before .before .before .before) ∙ x-long start)
+
+  odd-long : length (g .for-rows2 .last .1 .1 .0) ≡ half start
+  odd-long = ap length odd-is ∙ length-places _ _
+
+  odd-part : take (length (start .args .x .now)) (g .for-rows2 .last .1 .1 .0 ++ drop (length (start .args .x .now)) (g .before .before .before .before .before .of-64 .result)) ≡ g .for-rows2 .last .1 .1 .0
+  odd-part = take-at _ _ _ (odd-long ∙ sym (x-long start))
+
+of-64-requires : tie.Need-of-64-requires
+of-64-requires c κs = search needs
+
+for-rows-requires : tie.Need-for-rows-requires
+for-rows-requires c κs = let s = c .before .before in (omega arith, row-long s ∙ sym (x-long s), even s)
+
+array-borrow-prefix-odd : tie.Need-array-borrow-prefix-odd
+array-borrow-prefix-odd c = room (c .before .before .before)
+
+slice-aggregate-for-rows : tie.Need-slice-aggregate-for-rows
+slice-aggregate-for-rows c = sym (part (c .before .before .before .before))
+
+for-rows-requires-2 : tie.Need-for-rows-requires-2
+for-rows-requires-2 c κs = (omega arith, part (c .before .before .before .before), even (c .before .before .before .before .before))
+
+array-share-prefix-odd : tie.Need-array-share-prefix-odd
+array-share-prefix-odd c = omega (arith, ap length (odd-is (c .before .before)), length-places (half (c .before .before .before .before .before .before .before .before)) (taken (c .before .before .before .before .before .before .before .before) 1), x-long (c .before .before .before .before .before .before .before .before), length-append (c .before .before .for-rows2 .last .1 .1 .0) (drop (length (c .before .before .before .before .before .before .before .before .args .x .now)) (c .before .before .before .before .before .before .before .of-64 .result)))
+
+slice-aggregate-windows : tie.Need-slice-aggregate-windows
+slice-aggregate-windows c = sym (ap length (odd-part (c .before .before .before)) ∙ odd-long (c .before .before .before) ∙ sym (x-long (c .before .before .before .before .before .before .before .before .before)))
+
+windows-requires : tie.Need-windows-requires
+windows-requires c κs =
+    let s = c .before .before .before .before .before .before .before .before .before .before in
+    let f = c .before .before .before .before .before .before .before in
+    let g = c .before .before .before .before in
+    let N = s .args .width in
+    let t = s .args .secants .now in
+    let l = row-filled f in
+    let w = odd-part g in (
+      (out-long s ∙ sym l, ap length w ∙ odd-long g ∙ sym l, ap (λ n. n % 4) l ∙ half-in-fours N, secants-long s ∙ sym (ap₂ _+_ l l)),
+      (
+        (omega arith, omega arith, omega arith),
+        (
+          secant-sizes N t (s .args .x .now) (s .pre .0) _ _ (rw l (half-width-le N)) (subst (Within 10000000) (sym (row-is f)) (taken-within s 0)),
+          secant-sizes N t (s .args .x .now) (s .pre .0) _ _ (rw l (half-width-le N)) (subst (Within 10000000) (sym (w ∙ odd-is g)) (taken-within s 1)),
+        ),
+      ),
     )
 
-mul-t7 : tie.Need-mul-t7 Inv-loop μ-loop
-mul-t7 c = search needs
+same-length : tie.Need-same-length
+same-length c = search needs
 
-slice-set-from-out : tie.Need-slice-set-from-out Inv-loop μ-loop
-slice-set-from-out c = omega arith
+same-length-2 : tie.Need-same-length-2
+same-length-2 c = search needs
 
-add-m : tie.Need-add-m Inv-loop μ-loop
-add-m c = omega arith
-
-loop-less : tie.Need-loop-less Inv-loop μ-loop
-loop-less c = omega arith
-
-loop-again : tie.Need-loop-again Inv-loop μ-loop
-loop-again c =
-    let s = c .before .before .before in (
-      omega arith,
-      filling-next (l s .loop .inv .1) (held-ok w64 _ (c .inner-product .ok) .is ∙ c .inner-product .ensures
-          ∙ ap (λ r. dot r (l s .before .args .x .now)) (s .secant-row .ensures) ∙ row-sum (halfWidth (N s)) (secant (N s) (l s .loop .m)) (l s .before .args .x .now)),
-      ap length (s .secant-row .ensures) ∙ length-places _ _ ∙ sym (l s .before .pre .1 .0 .1),
-    )
-
-same-length : tie.Need-same-length Inv-loop μ-loop
-same-length c = omega arith
-
-same-length-2 : tie.Need-same-length-2 Inv-loop μ-loop
-same-length-2 c = omega arith
-
-returns : tie.Need-returns Inv-loop μ-loop
-unfolding secantSums
-returns c = filling-all (c .before .loop .inv .1) (omega arith) ∙ ap (λ k. places k (λ m. sum (halfWidth (c .before .before .args .width)) (λ n. secant (c .before .before .args .width) m n *ℤ at (c .before .before .args .x .now) n))) (c .before .before .pre .1 .0 .2)
+returns : tie.Need-returns
+returns c =
+    let s = c .before .before .before .before .before .before .before .before .before .before .before .before in
+    let N = s .args .width in
+    let t = s .args .secants .now in
+    let f = c .before .before .before .before .before .before .before .before .before in
+    let g = c .before .before .before .before .before .before in
+    let z = f .for-rows .last .1 .1 .0 in
+    let w = take (length (s .args .x .now)) (g .for-rows2 .last .1 .1 .0 ++ drop (length (s .args .x .now)) (c .before .before .before .before .before .before .before .before .before .before .before .of-64 .result)) in
+    c .before .windows .ensures
+    ∙ ap (λ n. places n (inFours t z w 2 2 4)) (out-long s)
+    ∙ secant-rows N t (s .args .x .now) (s .pre .0) _ _ (half-in-fours N) (width-half N (wide s)) (row-is f) (odd-part g ∙ odd-is g)
 
 pub secant-sums-spec : {M : Type 1} → statement M
 secant-sums-spec =
     tie.close
     (tie.spec
-    Inv-loop
-    μ-loop
-    loop-holds
-    secant-row-requires
-    inner-product-requires
-    mul-t7
-    slice-set-from-out
-    add-m
-    loop-less
-    loop-again
+    of-64-requires
+    for-rows-requires
+    array-borrow-prefix-odd
+    slice-aggregate-for-rows
+    for-rows-requires-2
+    array-share-prefix-odd
+    slice-aggregate-windows
+    windows-requires
     same-length
     same-length-2
     returns)

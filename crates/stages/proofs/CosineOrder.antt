@@ -1,0 +1,131 @@
+-- The cosine matrix, with its rows and columns in the order of the powers of 3, is parts of one list, up to signs.
+use mathlib.Core.Path.{_≡_, refl, sym, ap, ap₂, subst, _∙_}
+use mathlib.Core.Bool.{Bool, _&&_}
+use mathlib.Core.List.{List, []}
+use Prim.Native.Nat.{ℕ, zero, suc, _+_, _%_, _^_, _≤_, _<_}
+use native.Mathlib.Omega.{arith}
+use lib.Dec.{T, ltb, ltb→lt, eqb, eqb→eq}
+use lib.IntN.{ℤ, natAbs, _+ℤ_, _*ℤ_, *ℤ-zero}
+use lib.ListN.{length, getD}
+use Rattle.integers.specs.Places.{tab, places, at, sum, Within}
+use Rattle.integers.specs.Tests.{below}
+use Rattle.integers.proofs.Tested.{and-left, and-right, below-at}
+use Rattle.integers.proofs.Order.{natAbs-*ℤ-le}
+use Rattle.integers.proofs.Ring.{*ℤ-assoc, *ℤ-distribl}
+use Rattle.integers.proofs.PlaceLaws.{at-tab, length-places, at-places, places-ext, sum-ext, within-places}
+use Rattle.integers.proofs.Permutations.{sum-permuted}
+use Rattle.tables.specs.Widths.{byWidth, halfWidth}
+use Rattle.tables.specs.Angles.{halfTurn, reflected, minus, signed}
+use Rattle.tables.specs.Numbers.{sines, cosineOf}
+use Rattle.tables.proofs.ByWidth.{at-each, half-width-le}
+use Rattle.tables.proofs.Sizes.{cosine-size}
+use Rattle.steps.specs.Steps.{cosine}
+use Rattle.steps.proofs.Undo.{width-half}
+use Rattle.stages.specs.Expanded.{turnAt, Turn, Sizes, window, cosineSums}
+use Rattle.stages.specs.Arranged.{placesIn, signsIn, placesOut, signsOut, placeIn, signIn, placeOut, signOut}
+use Rattle.stages.proofs.ArrangedLaws.{all-within}
+
+-- ---- the places of one order and of the other, computed
+abbrev back : (ℕ → ℕ) → (ℕ → ℕ) → ℕ → ℕ → Bool
+back p q M j = ltb (p j) M && eqb (q (p j)) j
+
+back-at : (p q : ℕ → ℕ) (M : ℕ) → T (below M (back p q M)) → (j : ℕ) → j < M → (p j < M) × (q (p j) ≡ j)
+back-at p q M t j h =
+    let u = below-at M (back p q M) t j h in
+    (ltb→lt (p j) M (and-left (ltb (p j) M) (eqb (q (p j)) j) u), eqb→eq (q (p j)) j (and-right (ltb (p j) M) (eqb (q (p j)) j) u))
+
+all-in : (N : ℕ) → T (below (halfWidth N) (back (placeIn N) (placeOut N) (halfWidth N)))
+unfolding halfWidth byWidth placesIn placesOut placeIn placeOut
+all-in = at-each (λ N M. T (below M (back (placeIn N) (placeOut N) M))) 4 16 64 0 tt tt tt (λ N x y z. tt)
+
+all-out : (N : ℕ) → T (below (halfWidth N) (back (placeOut N) (placeIn N) (halfWidth N)))
+unfolding halfWidth byWidth placesIn placesOut placeIn placeOut
+all-out = at-each (λ N M. T (below M (back (placeOut N) (placeIn N) M))) 4 16 64 0 tt tt tt (λ N x y z. tt)
+
+pub in-out : (N j : ℕ) → j < halfWidth N → (placeIn N j < halfWidth N) × (placeOut N (placeIn N j) ≡ j)
+in-out N = back-at (placeIn N) (placeOut N) (halfWidth N) (all-in N)
+
+pub out-in : (N m : ℕ) → m < halfWidth N → (placeOut N m < halfWidth N) × (placeIn N (placeOut N m) ≡ m)
+out-in N = back-at (placeOut N) (placeIn N) (halfWidth N) (all-out N)
+
+-- ---- the matrix, computed
+abbrev matrix : ℕ → (ℕ → ℕ → ℤ) → List (List ℤ)
+matrix M f = tab (λ m. places M (f m)) M 0
+
+abbrev turned : ℕ → ℕ → ℕ → ℤ
+turned N m j = signOut N m *ℤ (turnAt N (placeOut N m + j) *ℤ signIn N j)
+
+abbrev cosines : ℕ → ℕ → ℕ → ℤ
+cosines N m j = cosine N m (placeIn N j)
+
+matrices : (N : ℕ) → matrix (halfWidth N) (turned N) ≡ matrix (halfWidth N) (cosines N)
+unfolding tab turnAt cosine cosineOf sines halfWidth byWidth halfTurn reflected minus signed placesIn signsIn placesOut signsOut placeIn signIn placeOut signOut
+matrices = at-each (λ N M. matrix M (turned N) ≡ matrix M (cosines N)) 4 16 64 0 refl refl refl (λ N x y z. refl)
+
+matrix-at : (M : ℕ) (f : ℕ → ℕ → ℤ) (m j : ℕ) → m < M → j < M → at (getD (matrix M f) m []) j ≡ f m j
+matrix-at M f m j h k = ap (λ l. at l j) (at-tab (λ m. places M (f m)) M 0 m [] h ∙ ap (λ i. places M (f i)) (omega arith)) ∙ at-places M (f m) j k
+
+pub turned-cosine : (N m j : ℕ) → m < halfWidth N → j < halfWidth N → turned N m j ≡ cosine N m (placeIn N j)
+turned-cosine N m j h k = sym (matrix-at (halfWidth N) (turned N) m j h k) ∙ ap (λ l. at (getD l m []) j) (matrices N) ∙ matrix-at (halfWidth N) (cosines N) m j h k
+
+-- ---- sizes and lengths
+signs-in-within : (N : ℕ) → Within 1 (signsIn N)
+unfolding signsIn
+signs-in-within = at-each (λ N ss. Within 1 ss) _ _ _ _ (all-within 1 _ tt) (all-within 1 _ tt) (all-within 1 _ tt) (λ N x y z. all-within 1 _ tt)
+
+sign-in-size : (N j : ℕ) → natAbs (signIn N j) ≤ 1
+unfolding signIn
+sign-in-size N j = signs-in-within N .size j
+
+pub half-in-fours : (N : ℕ) → halfWidth N % 4 ≡ 0
+unfolding halfWidth
+half-in-fours = at-each (λ N M. M % 4 ≡ 0) 4 16 64 0 refl refl refl (λ N x y z. refl)
+
+-- ---- the row sums, with x and with the sums each in the other order
+sum-scaled : (n : ℕ) (c : ℤ) (f : ℕ → ℤ) → c *ℤ sum n f ≡ sum n (λ i. c *ℤ f i)
+unfolding sum
+sum-scaled zero c f = *ℤ-zero c
+sum-scaled (suc n) c f = *ℤ-distribl c (sum n f) (f n) ∙ ap (λ z. z +ℤ c *ℤ f n) (sum-scaled n c f)
+
+regrouped : (s t r x : ℤ) → s *ℤ (t *ℤ (r *ℤ x)) ≡ (s *ℤ (t *ℤ r)) *ℤ x
+regrouped s t r x = ap (λ z. s *ℤ z) (sym (*ℤ-assoc t r x)) ∙ sym (*ℤ-assoc s (t *ℤ r) x)
+
+module _ (N : ℕ) (turn x row : List ℤ) (t : Turn N turn) (r : row ≡ places (halfWidth N) (λ j. signIn N j *ℤ at x (placeIn N j))) where
+  abbrev M : ℕ
+  M = halfWidth N
+
+  pub row-long : length row ≡ M
+  row-long = ap length r ∙ length-places M _
+
+  pub turn-long : length turn ≡ length row + length row
+  turn-long = ap length (t .is) ∙ length-places N _ ∙ sym (width-half N (t .wide)) ∙ ap (λ n. n + n) (sym row-long)
+
+  term : (m j : ℕ) → m < M → j < M → signOut N m *ℤ (at turn (placeOut N m + j) *ℤ at row j) ≡ cosine N m (placeIn N j) *ℤ at x (placeIn N j)
+  term m j h k =
+      let l : placeOut N m + j < N = omega (arith, out-in N m h .0, width-half N (omega arith)) in
+      ap₂ (λ a b. signOut N m *ℤ (a *ℤ b)) (ap (λ l. at l (placeOut N m + j)) (t .is) ∙ at-places N (turnAt N) (placeOut N m + j) l) (ap (λ l. at l j) r ∙ at-places M _ j k)
+      ∙ regrouped (signOut N m) (turnAt N (placeOut N m + j)) (signIn N j) (at x (placeIn N j))
+      ∙ ap (λ c. c *ℤ at x (placeIn N j)) (turned-cosine N m j h k)
+
+  cosine-window : (m : ℕ) → m < M → signOut N m *ℤ window turn row (placeOut N m) ≡ sum M (λ n. cosine N m n *ℤ at x n)
+  unfolding window
+  cosine-window m h =
+      ap (λ n. signOut N m *ℤ sum n (λ j. at turn (placeOut N m + j) *ℤ at row j)) row-long
+      ∙ sum-scaled M (signOut N m) _
+      ∙ sum-ext M _ _ (λ j k. term m j h k)
+      ∙ sum-permuted M (placeIn N) (placeOut N) (in-out N) (out-in N) (λ n. cosine N m n *ℤ at x n)
+
+  pub cosine-sizes : Within 500000000 x → Sizes (length row) turn row
+  unfolding turnAt
+  cosine-sizes h = record {
+    table = 2 ^ 28;
+    list = 500000000;
+    table-within = subst (Within (2 ^ 28)) (sym (t .is)) (within-places N _ _ (λ k l. cosine-size _));
+    list-within = subst (Within 500000000) (sym r) (within-places M _ _ (λ j l. natAbs-*ℤ-le (signIn N j) (at x (placeIn N j)) (sign-in-size N j) (h .size (placeIn N j))));
+    fits = omega (arith, row-long, half-width-le N);
+  }
+
+  pub cosine-windows : (sums : List ℤ) → sums ≡ places M (window turn row) → places M (λ m. signOut N m *ℤ at sums (placeOut N m)) ≡ cosineSums N x
+  unfolding cosineSums
+  cosine-windows sums e =
+      places-ext M _ _ (λ m h. ap (λ z. signOut N m *ℤ z) (ap (λ l. at l (placeOut N m)) e ∙ at-places M (window turn row) (placeOut N m) (out-in N m h .0)) ∙ cosine-window m h)
