@@ -13,20 +13,11 @@ use Rattle.integers.proofs.Tested.{and-left, and-right, every-at}
 use Rattle.tables.specs.Widths.{halfWidth}
 use Rattle.tables.proofs.ByWidth.{at-other}
 use Rattle.stages.specs.Moves.{Below}
-use Rattle.stages.specs.Expanded.{Turn, turnAt, Secants, secantFor}
 use Rattle.stages.specs.Arranged.{placesIn, signsIn, placesOut, signsOut, placeIn, signIn, placeOut, signOut}
 
 pub no-width : (N : ℕ) → (N ≡ 8 → ⊥) → (N ≡ 32 → ⊥) → (N ≡ 128 → ⊥) → 0 < halfWidth N → ⊥
 unfolding halfWidth
 no-width N x y z h = absurd (omega (arith, at-other {A = ℕ} 4 16 64 0 {n = N} x y z))
-
--- ---- tables
-module _ {N k : ℕ} {xs ys : List ℤ} (w : N ≡ k) (e : xs ≡ ys) (h : 0 < halfWidth N) where
-  pub is-turn : ys ≡ places k (turnAt k) → Turn N xs
-  is-turn t = record { is = e ∙ t ∙ ap (λ n. places n (turnAt n)) (sym w); wide = h }
-
-  pub are-secants : ys ≡ places k (secantFor k) → Secants N xs
-  are-secants t = record { is = e ∙ t ∙ ap (λ n. places n (secantFor n)) (sym w); wide = h }
 
 -- ---- limits, by a test of every entry
 pub all-below : {n k : ℕ} → n ≡ k → (xs : List ℕ) → T (every (λ i x. ltb x k) 0 xs) → Below n xs

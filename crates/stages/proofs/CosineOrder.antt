@@ -2,10 +2,10 @@
 use mathlib.Core.Path.{_≡_, refl, sym, ap, ap₂, subst, _∙_}
 use mathlib.Core.Bool.{Bool, _&&_}
 use mathlib.Core.List.{List, []}
-use Prim.Native.Nat.{ℕ, zero, suc, _+_, _%_, _^_, _≤_, _<_}
+use Prim.Native.Nat.{ℕ, _+_, _-_, _%_, _^_, _≤_, _<_}
 use native.Mathlib.Omega.{arith}
 use lib.Dec.{T, ltb, ltb→lt, eqb, eqb→eq}
-use lib.IntN.{ℤ, natAbs, _+ℤ_, _*ℤ_, *ℤ-zero}
+use lib.IntN.{ℤ, natAbs, _+ℤ_, _*ℤ_}
 use lib.ListN.{length, getD}
 use Rattle.integers.specs.Places.{tab, places, at, sum, Within}
 use Rattle.integers.specs.Tests.{below}
@@ -21,9 +21,11 @@ use Rattle.tables.proofs.ByWidth.{at-each, half-width-le}
 use Rattle.tables.proofs.Sizes.{cosine-size}
 use Rattle.steps.specs.Steps.{cosine}
 use Rattle.steps.proofs.Undo.{width-half}
-use Rattle.stages.specs.Expanded.{turnAt, Turn, Sizes, window, cosineSums}
+use Rattle.stages.specs.Expanded.{turnAt, turnedSums, Sizes, window, cosineSums}
 use Rattle.stages.specs.Arranged.{placesIn, signsIn, placesOut, signsOut, placeIn, signIn, placeOut, signOut}
 use Rattle.stages.proofs.ArrangedLaws.{all-within}
+use Rattle.stages.proofs.WindowLaws.{window-size}
+use Rattle.stages.proofs.WordLaws.{sum-scaled}
 
 -- ---- the places of one order and of the other, computed
 abbrev back : (ℕ → ℕ) → (ℕ → ℕ) → ℕ → ℕ → Bool
@@ -82,28 +84,37 @@ unfolding halfWidth
 half-in-fours = at-each (λ N M. M % 4 ≡ 0) 4 16 64 0 refl refl refl (λ N x y z. refl)
 
 -- ---- the row sums, with x and with the sums each in the other order
-sum-scaled : (n : ℕ) (c : ℤ) (f : ℕ → ℤ) → c *ℤ sum n f ≡ sum n (λ i. c *ℤ f i)
-unfolding sum
-sum-scaled zero c f = *ℤ-zero c
-sum-scaled (suc n) c f = *ℤ-distribl c (sum n f) (f n) ∙ ap (λ z. z +ℤ c *ℤ f n) (sum-scaled n c f)
-
 regrouped : (s t r x : ℤ) → s *ℤ (t *ℤ (r *ℤ x)) ≡ (s *ℤ (t *ℤ r)) *ℤ x
 regrouped s t r x = ap (λ z. s *ℤ z) (sym (*ℤ-assoc t r x)) ∙ sym (*ℤ-assoc s (t *ℤ r) x)
 
-module _ (N : ℕ) (turn x row : List ℤ) (t : Turn N turn) (r : row ≡ places (halfWidth N) (λ j. signIn N j *ℤ at x (placeIn N j))) where
+-- the list of cosines, and numbers of a list of this size
+pub turn-sizes : (N n : ℕ) (t x : List ℤ) → t ≡ places N (turnAt N) → n ≤ 64 → Within 500000000 x → Sizes n t x
+unfolding turnAt
+turn-sizes N n t x e l h = record {
+  table = 2 ^ 28;
+  list = 500000000;
+  table-within = subst (Within (2 ^ 28)) (sym e) (within-places N _ _ (λ k l. cosine-size _));
+  list-within = h;
+  fits = omega (arith, l);
+}
+
+module _ (N : ℕ) (x row : List ℤ) (wide : 0 < halfWidth N) (r : row ≡ places (halfWidth N) (λ j. signIn N j *ℤ at x (placeIn N j))) where
   abbrev M : ℕ
   M = halfWidth N
+
+  abbrev turn : List ℤ
+  turn = places N (turnAt N)
 
   pub row-long : length row ≡ M
   row-long = ap length r ∙ length-places M _
 
-  pub turn-long : length turn ≡ length row + length row
-  turn-long = ap length (t .is) ∙ length-places N _ ∙ sym (width-half N (t .wide)) ∙ ap (λ n. n + n) (sym row-long)
+  pub row-within : Within 500000000 x → Within 500000000 row
+  row-within h = subst (Within 500000000) (sym r) (within-places M _ _ (λ j l. natAbs-*ℤ-le (signIn N j) (at x (placeIn N j)) (sign-in-size N j) (h .size (placeIn N j))))
 
   term : (m j : ℕ) → m < M → j < M → signOut N m *ℤ (at turn (placeOut N m + j) *ℤ at row j) ≡ cosine N m (placeIn N j) *ℤ at x (placeIn N j)
   term m j h k =
-      let l : placeOut N m + j < N = omega (arith, out-in N m h .0, width-half N (omega arith)) in
-      ap₂ (λ a b. signOut N m *ℤ (a *ℤ b)) (ap (λ l. at l (placeOut N m + j)) (t .is) ∙ at-places N (turnAt N) (placeOut N m + j) l) (ap (λ l. at l j) r ∙ at-places M _ j k)
+      let l : placeOut N m + j < N = omega (arith, out-in N m h .0, width-half N wide) in
+      ap₂ (λ a b. signOut N m *ℤ (a *ℤ b)) (at-places N (turnAt N) (placeOut N m + j) l) (ap (λ l. at l j) r ∙ at-places M _ j k)
       ∙ regrouped (signOut N m) (turnAt N (placeOut N m + j)) (signIn N j) (at x (placeIn N j))
       ∙ ap (λ c. c *ℤ at x (placeIn N j)) (turned-cosine N m j h k)
 
@@ -115,17 +126,11 @@ module _ (N : ℕ) (turn x row : List ℤ) (t : Turn N turn) (r : row ≡ places
       ∙ sum-ext M _ _ (λ j k. term m j h k)
       ∙ sum-permuted M (placeIn N) (placeOut N) (in-out N) (out-in N) (λ n. cosine N m n *ℤ at x n)
 
-  pub cosine-sizes : Within 500000000 x → Sizes (length row) turn row
-  unfolding turnAt
-  cosine-sizes h = record {
-    table = 2 ^ 28;
-    list = 500000000;
-    table-within = subst (Within (2 ^ 28)) (sym (t .is)) (within-places N _ _ (λ k l. cosine-size _));
-    list-within = subst (Within 500000000) (sym r) (within-places M _ _ (λ j l. natAbs-*ℤ-le (signIn N j) (at x (placeIn N j)) (sign-in-size N j) (h .size (placeIn N j))));
-    fits = omega (arith, row-long, half-width-le N);
-  }
+  pub turned-within : Within 500000000 x → Within (2 ^ 63 - 1) (turnedSums N row)
+  unfolding turnedSums
+  turned-within h = within-places M _ _ (λ i l. window-size (turn-sizes N (length row) turn row refl (omega (arith, row-long, half-width-le N)) (row-within h)) i)
 
-  pub cosine-windows : (sums : List ℤ) → sums ≡ places M (window turn row) → places M (λ m. signOut N m *ℤ at sums (placeOut N m)) ≡ cosineSums N x
-  unfolding cosineSums
+  pub cosine-windows : (sums : List ℤ) → sums ≡ turnedSums N row → places M (λ m. signOut N m *ℤ at sums (placeOut N m)) ≡ cosineSums N x
+  unfolding cosineSums turnedSums
   cosine-windows sums e =
       places-ext M _ _ (λ m h. ap (λ z. signOut N m *ℤ z) (ap (λ l. at l (placeOut N m)) e ∙ at-places M (window turn row) (placeOut N m) (out-in N m h .0)) ∙ cosine-window m h)

@@ -4,6 +4,8 @@ pub mod CosineOrder
 pub mod SecantRows
 pub mod SumLaws
 pub mod WindowLaws
+pub mod WordLaws
+pub mod RaisedLaws
 pub mod StageLaws
 pub mod StageSizes
 pub mod TableSizes

@@ -16,7 +16,7 @@ use Rattle.tables.specs.Widths.{halfWidth}
 use Rattle.tables.specs.Numbers.{secantOf}
 use Rattle.tables.proofs.Sizes.{secant-size}
 use Rattle.steps.specs.Steps.{secant, oddOf}
-use Rattle.stages.specs.Expanded.{window, inFours, secantSums, Sizes, secantFor, Secants, takenPlace}
+use Rattle.stages.specs.Expanded.{window, inFours, secantSums, Sizes, secantFor, takenPlace}
 
 even-or-odd : (n : ℕ) → (n % 2 ≡ 0) ⊎ (n % 2 ≡ 0 → ⊥)
 even-or-odd n = by (eqb (n % 2) 0) refl
@@ -110,9 +110,9 @@ entry-size : (N k : ℕ) → natAbs (secantFor N k) ≤ 11000000000
 unfolding secantFor
 entry-size N k = one-size N k (eqb (k % 2) 0)
 
-module _ (N : ℕ) (t x : List ℤ) (h : Secants N t) where
+module _ (N : ℕ) (t x : List ℤ) (h : t ≡ places N (secantFor N)) where
   secants-at : (k : ℕ) → k < N → at t k ≡ secantFor N k
-  secants-at k l = ap (λ s. at s k) (h .is) ∙ at-places N (secantFor N) k l
+  secants-at k l = ap (λ s. at s k) h ∙ at-places N (secantFor N) k l
 
   pub row-window : (m o : ℕ) → halfWidth N % 4 ≡ 0 → halfWidth N + halfWidth N ≡ N → o ≡ m % 2 → m < halfWidth N
       → window t (places (halfWidth N) (λ l. at x (takenPlace (halfWidth N) o l))) (m + o) ≡ sum (halfWidth N) (λ n. secant N m n *ℤ at x n)
@@ -140,7 +140,7 @@ module _ (N : ℕ) (t x : List ℤ) (h : Secants N t) where
   secant-sizes n y l q = record {
     table = 11000000000;
     list = 10000000;
-    table-within = subst (Within 11000000000) (sym (h .is)) (within-places N 11000000000 (secantFor N) (λ k m. entry-size N k));
+    table-within = subst (Within 11000000000) (sym h) (within-places N 11000000000 (secantFor N) (λ k m. entry-size N k));
     list-within = q;
     fits = omega (arith, l);
   }

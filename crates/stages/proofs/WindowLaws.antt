@@ -41,37 +41,45 @@ module _ {n : ℕ} {t x : List ℤ} (s : Sizes n t x) (i : ℕ) where
   pub sum-fits : (j : ℕ) → j ≤ n → SFits w64 (sum j (term t x i))
   sum-fits j h = small w64 _ (omega (arith, sum-size j, mul-le-mul-right most h, fits-most))
 
-  -- one term more: at k stands what the part has at j
-  module _ (j k : ℕ) (h : j < n) (e : k ≡ i + j) {u v : ℕ} (hu : Held w64 u (at t k)) (hv : Held w64 v (at x j)) where
-    product-fits : SFits w64 (at t k *ℤ at x j)
-    unfolding most
-    product-fits =
-        let one : 1 * most ≤ n * most = mul-le-mul-right most h′ in
-        small w64 _ (omega (arith, natAbs-*ℤ-le (at t k) (at x j) (s .table-within .size k) (s .list-within .size j), one, fits-most))
-      where
-        h′ : 1 ≤ n
-        h′ = omega (arith, h)
+  next-fits : (j : ℕ) → j < n → SFits w64 (sum j (term t x i) +ℤ term t x i j)
+  unfolding sum
+  next-fits j h = sum-fits (suc j) h
 
+  -- one term more
+  module _ (j : ℕ) (h : j < n) {a p : ℕ} (ha : Held w64 a (sum j (term t x i))) (hp : Held w64 p (term t x i j)) where
+    pub asks-term : SFits w64 (toZ w64 a +ℤ toZ w64 p)
+    asks-term = asks-add ha hp (next-fits j h)
+
+    pub next-term : Held w64 (ofZ w64 (toZ w64 a +ℤ toZ w64 p)) (sum (j + 1) (term t x i))
+    unfolding sum
+    next-term = let e : j + 1 ≡ suc j = omega arith in rw e (h-add ha hp (next-fits j h))
+
+  pub product-size : (j k : ℕ) → j < n → natAbs (at t k *ℤ at x j) < 2 ^ 63
+  unfolding most
+  product-size j k h =
+      let one : 1 * most ≤ n * most = mul-le-mul-right most h′ in
+      omega (arith, natAbs-*ℤ-le (at t k) (at x j) (s .table-within .size k) (s .list-within .size j), one, fits-most)
+    where
+      h′ : 1 ≤ n
+      h′ = omega (arith, h)
+
+  -- at k stands what the part has at j
+  module _ (j k : ℕ) (h : j < n) (e : k ≡ i + j) {u v : ℕ} (hu : Held w64 u (at t k)) (hv : Held w64 v (at x j)) where
     pub asks-product : SFits w64 (toZ w64 u *ℤ toZ w64 v)
-    asks-product = asks-mul hu hv product-fits
+    asks-product = asks-mul hu hv (small w64 _ (product-size j k h))
 
     product : Held w64 (ofZ w64 (toZ w64 u *ℤ toZ w64 v)) (term t x i j)
-    product = held-eq (h-mul hu hv product-fits) (ap (λ l. at t l *ℤ at x j) e)
-
-    next-fits : SFits w64 (sum j (term t x i) +ℤ term t x i j)
-    unfolding sum
-    next-fits = sum-fits (suc j) h
+    product = held-eq (h-mul hu hv (small w64 _ (product-size j k h))) (ap (λ l. at t l *ℤ at x j) e)
 
     pub asks-sum : {a : ℕ} → Held w64 a (sum j (term t x i)) → SFits w64 (toZ w64 a +ℤ toZ w64 (ofZ w64 (toZ w64 u *ℤ toZ w64 v)))
-    asks-sum ha = asks-add ha product next-fits
+    asks-sum ha = asks-term j h ha product
 
     pub next-sum : {a : ℕ} → Held w64 a (sum j (term t x i)) → Held w64 (ofZ w64 (toZ w64 a +ℤ toZ w64 (ofZ w64 (toZ w64 u *ℤ toZ w64 v)))) (sum (j + 1) (term t x i))
-    unfolding sum
-    next-sum ha = let e : j + 1 ≡ suc j = omega arith in rw e (h-add ha product next-fits)
+    next-sum ha = next-term j h ha product
 
 -- ---- a part of the table that begins further on
 module _ (t u x : List ℤ) (i : ℕ) (e : u ≡ drop i t) where
-  part-at : (k : ℕ) → at u k ≡ at t (i + k)
+  pub part-at : (k : ℕ) → at u k ≡ at t (i + k)
   part-at k = ap (λ l. at l k) e ∙ getD-drop i t k (pos 0)
 
   pub part-sizes : {n : ℕ} → Sizes n t x → Sizes n u x
@@ -125,6 +133,10 @@ fours-window t x k = by (eqb (k % 4) 0) (eqb (k % 4) 1) (eqb (k % 4) 2) refl ref
         let g = eqb-false (k % 4) 2 r in
         let m = last-of-four k e f g in
         let n : k - 3 + 3 ≡ k = omega (arith, m) in rw (p, q, r) (ap (window t x) n)
+
+pub window-le : {t x : List ℤ} (s : Sizes (length x) t x) (i : ℕ) → natAbs (window t x i) ≤ length x * (s .table * s .list)
+unfolding window most
+window-le {x = x} s i = sum-size s i (length x)
 
 pub window-size : {t x : List ℤ} → Sizes (length x) t x → (i : ℕ) → natAbs (window t x i) ≤ 2 ^ 63 - 1
 unfolding window

@@ -40,17 +40,13 @@ pub record Sizes (n : ℕ) (t x : List ℤ) : Type 0 where
 unfoldable pub turnAt : ℕ → ℕ → ℤ
 turnAt N k = cosineOf (3 ^ k % (8 * halfWidth N) * (128 / halfWidth N))
 
-pub record Turn (N : ℕ) (xs : List ℤ) : Type 0 where
-  pub is : xs ≡ places N (turnAt N)
-  pub wide : 0 < halfWidth N
+-- the sums of every part of that list with x
+unfoldable pub turnedSums : ℕ → List ℤ → List ℤ
+turnedSums N x = places (halfWidth N) (window (places N (turnAt N)) x)
 
 -- the secants for r = k + 1 at an even k, and for r = k − M at an odd k
 unfoldable pub secantFor : ℕ → ℕ → ℤ
 secantFor N k = cond (eqb (k % 2) 0) (secantOf N (pos (k + 1))) (secantOf N (pos k -ℤ pos (halfWidth N)))
-
-pub record Secants (N : ℕ) (xs : List ℤ) : Type 0 where
-  pub is : xs ≡ places N (secantFor N)
-  pub wide : 0 < halfWidth N
 
 -- the place in a list from which a row of secants takes its factor: o is 0 for even rows, 1 for odd ones
 unfoldable pub takenPlace : ℕ → ℕ → ℕ → ℕ
@@ -73,9 +69,7 @@ unfoldable pub third : ℕ → ℤ → ℤ → ℤ → ℤ
 third l secants cosines tangent = negℤ secants -ℤ pos (2 ^ (l + 1)) *ℤ cosines +ℤ pos (2 ^ (2 * l)) *ℤ tangent
 
 -- the tables of a width, expanded; √M is 2^root
-pub record Tables (N root : ℕ) (turn secants tangents sines : List ℤ) : Type 0 where
-  pub turn-is : Turn N turn
-  pub secants-are : Secants N secants
+pub record Tables (N root : ℕ) (tangents sines : List ℤ) : Type 0 where
   pub tangents-are : Tangents N tangents
   pub sines-are : Sines N sines
   pub root-is : root ≡ rootLog N

@@ -1,3 +1,4 @@
 pub mod Moves
 pub mod Expanded
 pub mod Arranged
+pub mod Words

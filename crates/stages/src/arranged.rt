@@ -5,9 +5,11 @@ ghost use lib.IntN.{_*ℤ_};
 ghost use lib.ListN.{length};
 ghost use Rattle.integers.specs.Places.{places, at, Within};
 ghost use Rattle.tables.specs.Widths.{halfWidth};
-ghost use Rattle.stages.specs.Expanded.{Turn, Secants};
+ghost use Rattle.stages.specs.Expanded.{turnedSums, inFours, secantFor};
 ghost use Rattle.stages.specs.Arranged.{placeIn, signIn, placeOut, signOut};
 use crate::vectors;
+use crate::windows;
+use crate::words;
 
 const TURN_8: [i64; 8] = [
     263277544,
@@ -184,6 +186,276 @@ const TURN_128: [i64; 128] = [
     261171580,
     205398024,
     -135167556,
+];
+
+const RAISED_8: [i64; 8] = [
+    531713000,
+    491631381,
+    216066296,
+    417570205,
+    5157912,
+    45239531,
+    320804616,
+    119300707,
+];
+
+const RAISED_32: [i64; 32] = [
+    536547570,
+    533965504,
+    511098234,
+    333659951,
+    88165222,
+    484044836,
+    178002275,
+    498680227,
+    255263952,
+    307823118,
+    153664510,
+    528826238,
+    467333009,
+    108528642,
+    521179266,
+    406438861,
+    323342,
+    2905408,
+    25772678,
+    203210961,
+    448705690,
+    52826076,
+    358868637,
+    38190685,
+    281606960,
+    229047794,
+    383206402,
+    8044674,
+    69537903,
+    428342270,
+    15691646,
+    130432051,
+];
+
+const RAISED_128: [i64; 128] = [
+    536850699,
+    536689016,
+    535235327,
+    522269990,
+    414820018,
+    3408750,
+    30161510,
+    232309222,
+    374196889,
+    16820431,
+    139000235,
+    536365747,
+    532335826,
+    496969375,
+    245404415,
+    336850436,
+    80966509,
+    465105840,
+    100701014,
+    509671546,
+    324031493,
+    111186541,
+    524336598,
+    430976089,
+    19191503,
+    156650997,
+    526249060,
+    446251337,
+    47086450,
+    330459645,
+    95608242,
+    500356404,
+    265141340,
+    278315820,
+    238847908,
+    355760273,
+    43426225,
+    311078614,
+    144810537,
+    534428857,
+    515158202,
+    361963383,
+    33267181,
+    251974796,
+    317569852,
+    127616985,
+    535881086,
+    528006226,
+    460562986,
+    85738017,
+    478013010,
+    150695306,
+    531050526,
+    485990904,
+    187366351,
+    482066298,
+    168760756,
+    512488378,
+    343200016,
+    67340686,
+    420297933,
+    7263876,
+    63037432,
+    403603012,
+    20213,
+    181896,
+    1635585,
+    14600922,
+    122050894,
+    533462162,
+    506709402,
+    304561690,
+    162674023,
+    520050481,
+    397870677,
+    505165,
+    4535086,
+    39901537,
+    291466497,
+    200020476,
+    455904403,
+    71765072,
+    436169898,
+    27199366,
+    212839419,
+    425684371,
+    12534314,
+    105894823,
+    517679409,
+    380219915,
+    10621852,
+    90619575,
+    489784462,
+    206411267,
+    441262670,
+    36514508,
+    271729572,
+    258555092,
+    298023004,
+    181110639,
+    493444687,
+    225792298,
+    392060375,
+    2442055,
+    21712710,
+    174907529,
+    503603731,
+    284896116,
+    219301060,
+    409253927,
+    989826,
+    8864686,
+    76307926,
+    451132895,
+    58857902,
+    386175606,
+    5820386,
+    50880008,
+    349504561,
+    54804614,
+    368110156,
+    24382534,
+    193670896,
+    469530226,
+    116572979,
+    529607036,
+    473833480,
+    133267900,
+];
+
+const WEIGHTS_8: [i64; 4] = [
+    78281021245620224,
+    7607993667420160,
+    -52305706237296640,
+    -38247966892359680,
+];
+
+const WEIGHTS_32: [i64; 16] = [
+    217198391178821632,
+    145227593598107648,
+    73949914081525760,
+    8810620614868992,
+    -8697946442825728,
+    39692976024190976,
+    -18184226213986304,
+    6091245965279232,
+    -55714614129721344,
+    -52178915447275520,
+    -62751960457019392,
+    -31943369231958016,
+    -101841487536324608,
+    -155232642873163776,
+    -112307984339566592,
+    -180153384228093952,
+];
+
+const WEIGHTS_128: [i64; 64] = [
+    358276876180914176,
+    286224708028858368,
+    214215941326635008,
+    142597396294008832,
+    74459207411171328,
+    35164400759341056,
+    106306965436628992,
+    170268140784058368,
+    179965702881411072,
+    151575584386842624,
+    219117978359169024,
+    253862980930764800,
+    181940991089967104,
+    111100774930448384,
+    49754168172216320,
+    55936516165206016,
+    37571509811675136,
+    87894822085459968,
+    35101517874724864,
+    80127389299900416,
+    15371069477093376,
+    447121933205504,
+    42658306136735744,
+    -26034633606955008,
+    -69666302544838656,
+    -2760388366041088,
+    27246523859337216,
+    -41959788493406208,
+    -89691875593682944,
+    -30273954232926208,
+    -46923445690171392,
+    -530493690871808,
+    -62786299123204096,
+    -61902041592627200,
+    -64554281608413184,
+    -56611934669111296,
+    -80053011740622848,
+    -19652556212928512,
+    -31099491775938560,
+    2085819728789504,
+    -69316240161636352,
+    -135545372989718528,
+    -160651584722698240,
+    -97524081586339840,
+    -93105456813178880,
+    -106294870808723456,
+    -68494200332615680,
+    -140286089976872960,
+    -209964087986094080,
+    -261537929111797760,
+    -212495458763800576,
+    -268753505039155200,
+    -237147874184396800,
+    -307643070252318720,
+    -366042666141483008,
+    -344280843973296128,
+    -401626936461230080,
+    -374870712915066880,
+    -440383170320269312,
+    -460452629076508672,
+    -406471662792343552,
+    -447236936055128064,
+    -377129223883587584,
+    -321993111649648640,
 ];
 
 const SECANTS_8: [i64; 8] = [
@@ -647,30 +919,58 @@ const SIGNS_OUT_128: [i64; 64] = [
     -1,
 ];
 
-// The cosines at 3^k·π/(4M).
-pub fn turn(width: usize, out: &mut [i64])
-    requires { ⌜ length (now out) ≡ width ⌝ }
-    requires { ⌜ 0 < halfWidth width ⌝ }
-    ensures { λ _. ⌜ Turn width (now (out .exit)) ⌝ }
+// The sums of every part of the cosines at 3^k·π/(4M) with a list, in words. The list is raised.
+fn turned_words(width: usize, row: &mut [i64], out: &mut [i64])
+    requires { ⌜ (length (now row) ≡ halfWidth width) × (length (now out) ≡ halfWidth width) × (0 < halfWidth width) ⌝ }
+    requires { ⌜ Within 134217727 (now row) ⌝ }
+    ensures { λ _. ⌜ now (out .exit) ≡ turnedSums width (now (row .entry)) ⌝ }
 {
     match width {
-        8 => vectors::copy(&TURN_8, out),
-        32 => vectors::copy(&TURN_32, out),
-        128 => vectors::copy(&TURN_128, out),
+        8 => words::raised_sums(&RAISED_8, &WEIGHTS_8, row, out),
+        32 => words::raised_sums(&RAISED_32, &WEIGHTS_32, row, out),
+        128 => words::raised_sums(&RAISED_128, &WEIGHTS_128, row, out),
         _ => {}
     }
 }
 
-// The secants, for r = k + 1 at even k and r = k - M at odd k.
-pub fn secants(width: usize, out: &mut [i64])
-    requires { ⌜ length (now out) ≡ width ⌝ }
-    requires { ⌜ 0 < halfWidth width ⌝ }
-    ensures { λ _. ⌜ Secants width (now (out .exit)) ⌝ }
+// The same of larger numbers.
+fn turned_wide(width: usize, row: &[i64], out: &mut [i64])
+    requires { ⌜ (length (now row) ≡ halfWidth width) × (length (now out) ≡ halfWidth width) × (0 < halfWidth width) ⌝ }
+    requires { ⌜ Within 500000000 (now row) ⌝ }
+    ensures { λ _. ⌜ now (out .exit) ≡ turnedSums width (now (row .entry)) ⌝ }
 {
     match width {
-        8 => vectors::copy(&SECANTS_8, out),
-        32 => vectors::copy(&SECANTS_32, out),
-        128 => vectors::copy(&SECANTS_128, out),
+        8 => windows::windows(&TURN_8, row, row, 1, 2, 3, out),
+        32 => windows::windows(&TURN_32, row, row, 1, 2, 3, out),
+        128 => windows::windows(&TURN_128, row, row, 1, 2, 3, out),
+        _ => {}
+    }
+}
+
+// Only frames that no readings make have numbers that do not go in words.
+pub fn turned(width: usize, row: &mut [i64], out: &mut [i64])
+    requires { ⌜ (length (now row) ≡ halfWidth width) × (length (now out) ≡ halfWidth width) × (0 < halfWidth width) ⌝ }
+    requires { ⌜ Within 500000000 (now row) ⌝ }
+    ensures { λ _. ⌜ now (out .exit) ≡ turnedSums width (now (row .entry)) ⌝ }
+{
+    if words::inside(row) {
+        turned_words(width, row, out);
+        return;
+    }
+    turned_wide(width, row, out);
+}
+
+// The secants, for r = k + 1 at even k and r = k - M at odd k, with two lists.
+pub fn secant_windows(width: usize, even: &[i64], odd: &[i64], out: &mut [i64])
+    requires { ⌜ (length (now even) ≡ halfWidth width) × (length (now odd) ≡ halfWidth width) × (length (now out) ≡ halfWidth width) × (0 < halfWidth width) ⌝ }
+    requires { ⌜ Within 10000000 (now even) ⌝ }
+    requires { ⌜ Within 10000000 (now odd) ⌝ }
+    ensures { λ _. ⌜ now (out .exit) ≡ places (halfWidth width) (inFours (places width (secantFor width)) (now (even .entry)) (now (odd .entry)) 2 2 4) ⌝ }
+{
+    match width {
+        8 => windows::windows(&SECANTS_8, even, odd, 2, 2, 4, out),
+        32 => windows::windows(&SECANTS_32, even, odd, 2, 2, 4, out),
+        128 => windows::windows(&SECANTS_128, even, odd, 2, 2, 4, out),
         _ => {}
     }
 }

@@ -5,3 +5,5 @@ pub mod room;
 pub mod stages;
 mod sums;
 pub mod vectors;
+mod windows;
+mod words;

@@ -7,7 +7,7 @@ ghost use lib.ListN.{length};
 ghost use Rattle.integers.specs.Places.{places, at, Within};
 ghost use Rattle.tables.specs.Widths.{halfWidth};
 ghost use Rattle.steps.specs.Steps.{rootLog, stage1, stage2, stage3, stage4, stage5, unstage1, unstage2, unstage3, unstage4, unstage5};
-ghost use Rattle.stages.specs.Expanded.{third, Turn, Secants, Tangents, Sines, Halves, Tables, Room, top4, bottom5, untop2, unbottom1};
+ghost use Rattle.stages.specs.Expanded.{third, Tangents, Sines, Halves, Tables, Room, top4, bottom5, untop2, unbottom1};
 use crate::sums;
 use crate::vectors;
 
@@ -16,14 +16,12 @@ fn first(
     undo: bool,
     width: usize,
     root: u32,
-    turn: &[i64],
     top: &[i64],
     bottom: &mut [i64],
     a: &mut [i64],
     b: &mut [i64],
     row: &mut [i64],
 )
-    requires { ⌜ Turn width (now turn) ⌝ }
     requires { ⌜ (root ≡ rootLog width) × (0 < halfWidth width) ⌝ }
     requires { ⌜ Halves width (now top) (now bottom) ⌝ }
     requires { ⌜ (length (now a) ≡ halfWidth width) × (length (now b) ≡ halfWidth width) × (length (now row) ≡ halfWidth width) ⌝ }
@@ -33,7 +31,7 @@ fn first(
 {
     vectors::strided(top, 0, 1, a);
     vectors::alternate(false, a);
-    sums::cosine_sums(width, turn, a, row, b);
+    sums::cosine_sums(width, a, row, b);
     if undo {
         vectors::lift(true, 27 + root, b, bottom);
         vectors::lift(true, 0, top, bottom);
@@ -48,21 +46,19 @@ fn second(
     undo: bool,
     width: usize,
     root: u32,
-    turn: &[i64],
     top: &mut [i64],
     bottom: &[i64],
     a: &mut [i64],
     row: &mut [i64],
 )
-    requires { ⌜ Turn width (now turn) ⌝ }
-    requires { ⌜ root ≡ rootLog width ⌝ }
+    requires { ⌜ (root ≡ rootLog width) × (0 < halfWidth width) ⌝ }
     requires { ⌜ Halves width (now top) (now bottom) ⌝ }
     requires { ⌜ (length (now a) ≡ halfWidth width) × (length (now row) ≡ halfWidth width) ⌝ }
     requires { ⌜ Within 500000000 (now bottom) ⌝ }
     requires { ⌜ Within (2 ^ 60) (now top) ⌝ }
     ensures { λ _. ⌜ now (top .exit) ≡ cond undo (unstage2 width (now (top .entry)) (now (bottom .entry))) (stage2 width (now (top .entry)) (now (bottom .entry))) ⌝ }
 {
-    sums::cosine_sums(width, turn, bottom, row, a);
+    sums::cosine_sums(width, bottom, row, a);
     if undo {
         vectors::lift(true, 28 + root, a, top);
         vectors::alternate(true, top);
@@ -101,8 +97,6 @@ fn third(
     undo: bool,
     width: usize,
     root: u32,
-    turn: &[i64],
-    secants: &[i64],
     tangents: &[i64],
     top: &[i64],
     bottom: &mut [i64],
@@ -110,18 +104,16 @@ fn third(
     b: &mut [i64],
     row: &mut [i64],
 )
-    requires { ⌜ Turn width (now turn) ⌝ }
-    requires { ⌜ Secants width (now secants) ⌝ }
     requires { ⌜ Tangents width (now tangents) ⌝ }
-    requires { ⌜ root ≡ rootLog width ⌝ }
+    requires { ⌜ (root ≡ rootLog width) × (0 < halfWidth width) ⌝ }
     requires { ⌜ Halves width (now top) (now bottom) ⌝ }
     requires { ⌜ (length (now a) ≡ halfWidth width) × (length (now b) ≡ halfWidth width) × (length (now row) ≡ halfWidth width) ⌝ }
     requires { ⌜ Within 7500000 (now top) ⌝ }
     requires { ⌜ Within (2 ^ 60) (now bottom) ⌝ }
     ensures { λ _. ⌜ now (bottom .exit) ≡ cond undo (unstage3 width (now (top .entry)) (now (bottom .entry))) (stage3 width (now (top .entry)) (now (bottom .entry))) ⌝ }
 {
-    sums::secant_sums(width, secants, top, row, a);
-    sums::cosine_sums(width, turn, top, row, b);
+    sums::secant_sums(width, top, row, a);
+    sums::cosine_sums(width, top, row, b);
     third_amounts(root, tangents, top, a, b);
     vectors::lift(undo, 28 + 2 * root, a, bottom);
 }
@@ -177,8 +169,6 @@ fn fifth(
 fn forward(
     width: usize,
     root: u32,
-    turn: &[i64],
-    secants: &[i64],
     tangents: &[i64],
     sines: &[i64],
     top: &mut [i64],
@@ -187,21 +177,19 @@ fn forward(
     b: &mut [i64],
     row: &mut [i64],
 )
-    requires { ⌜ Tables width root (now turn) (now secants) (now tangents) (now sines) ⌝ }
+    requires { ⌜ Tables width root (now tangents) (now sines) ⌝ }
     requires { ⌜ Halves width (now top) (now bottom) ⌝ }
     requires { ⌜ Room width (now a) (now b) (now row) ⌝ }
     requires { ⌜ Within 50000 (now top) ⌝ }
     requires { ⌜ Within 50000 (now bottom) ⌝ }
     ensures { λ _. ⌜ (now (top .exit) ≡ top4 width (now (top .entry)) (now (bottom .entry))) × (now (bottom .exit) ≡ bottom5 width (now (top .entry)) (now (bottom .entry))) ⌝ }
 {
-    first(false, width, root, turn, top, bottom, a, b, row);
-    second(false, width, root, turn, top, bottom, a, row);
+    first(false, width, root, top, bottom, a, b, row);
+    second(false, width, root, top, bottom, a, row);
     third(
         false,
         width,
         root,
-        turn,
-        secants,
         tangents,
         top,
         bottom,
@@ -216,8 +204,6 @@ fn forward(
 fn backward(
     width: usize,
     root: u32,
-    turn: &[i64],
-    secants: &[i64],
     tangents: &[i64],
     sines: &[i64],
     top: &mut [i64],
@@ -226,7 +212,7 @@ fn backward(
     b: &mut [i64],
     row: &mut [i64],
 )
-    requires { ⌜ Tables width root (now turn) (now secants) (now tangents) (now sines) ⌝ }
+    requires { ⌜ Tables width root (now tangents) (now sines) ⌝ }
     requires { ⌜ Halves width (now top) (now bottom) ⌝ }
     requires { ⌜ Room width (now a) (now b) (now row) ⌝ }
     requires { ⌜ Within 1048576 (now top) ⌝ }
@@ -239,8 +225,6 @@ fn backward(
         true,
         width,
         root,
-        turn,
-        secants,
         tangents,
         top,
         bottom,
@@ -248,8 +232,8 @@ fn backward(
         b,
         row,
     );
-    second(true, width, root, turn, top, bottom, a, row);
-    first(true, width, root, turn, top, bottom, a, b, row);
+    second(true, width, root, top, bottom, a, row);
+    first(true, width, root, top, bottom, a, b, row);
 }
 
 // All five stages on the halves of a frame, or all undone.
@@ -257,8 +241,6 @@ pub fn all(
     undo: bool,
     width: usize,
     root: u32,
-    turn: &[i64],
-    secants: &[i64],
     tangents: &[i64],
     sines: &[i64],
     top: &mut [i64],
@@ -267,7 +249,7 @@ pub fn all(
     b: &mut [i64],
     row: &mut [i64],
 )
-    requires { ⌜ Tables width root (now turn) (now secants) (now tangents) (now sines) ⌝ }
+    requires { ⌜ Tables width root (now tangents) (now sines) ⌝ }
     requires { ⌜ Halves width (now top) (now bottom) ⌝ }
     requires { ⌜ Room width (now a) (now b) (now row) ⌝ }
     requires { ⌜ Within (cond undo 1048576 50000) (now top) ⌝ }
@@ -278,8 +260,6 @@ pub fn all(
         backward(
             width,
             root,
-            turn,
-            secants,
             tangents,
             sines,
             top,
@@ -293,8 +273,6 @@ pub fn all(
     forward(
         width,
         root,
-        turn,
-        secants,
         tangents,
         sines,
         top,

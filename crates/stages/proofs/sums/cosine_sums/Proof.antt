@@ -12,9 +12,8 @@ use Rattle.integers.proofs.PlaceLaws.{length-places, places-ext, within-places,
 use Rattle.tables.specs.Widths.{halfWidth}
 use Rattle.tables.proofs.ByWidth.{half-width-le}
 use Rattle.stages.specs.Arranged.{placeIn, signIn}
-use Rattle.stages.specs.Expanded.{window, Sizes}
-use Rattle.stages.proofs.CosineOrder.{row-long, turn-long, half-in-fours, cosine-sizes, cosine-windows}
-use Rattle.stages.proofs.WindowLaws.{fours-window, window-size}
+use Rattle.stages.specs.Expanded.{turnedSums}
+use Rattle.stages.proofs.CosineOrder.{row-long, row-within, turned-within, cosine-windows}
 use Rattle.stages.proofs.sums.cosine_sums.Statement.{statement}
 use Rattle.stages.proofs.sums.cosine_sums.Tie as tie
 
@@ -46,11 +45,11 @@ module _ (r : tie.After-ordered) where
   is-row : row ≡ places (halfWidth (N s)) (λ j. signIn (N s) j *ℤ at (s .args .x .now) (placeIn (N s) j))
   is-row = r .ordered .ensures
 
-  sizes : Sizes (length row) (s .args .turn .now) row
-  sizes = cosine-sizes (N s) (s .args .turn .now) (s .args .x .now) row (s .pre .0) is-row (s .pre .1 .1)
+  long : length row ≡ halfWidth (N s)
+  long = row-long (N s) (s .args .x .now) row (s .pre .0) is-row
 
 -- the sums in that order
-module _ (w : tie.After-windows) where
+module _ (w : tie.After-turned) where
   abbrev r : tie.After-ordered
   r = w .before .before .before .before
 
@@ -61,22 +60,20 @@ module _ (w : tie.After-windows) where
   start = o .before
 
   abbrev found : List ℤ
-  found = w .windows .last .1 .1 .1 .1 .1 .1 .0
+  found = w .turned .last .1 .1 .0
 
-  is-found : found ≡ places (halfWidth (N start)) (window (start .args .turn .now) (row r))
-  is-found =
-      w .windows .ensures
-      ∙ places-ext _ _ _ (λ k l. fours-window (start .args .turn .now) (row r) k)
-      ∙ ap (λ n. places n (window (start .args .turn .now) (row r))) (part-long o ∙ start .pre .1 .0 .0)
+  is-found : found ≡ turnedSums (N start) (row r)
+  is-found = w .turned .ensures
 
   found-long : length found ≡ half o
+  unfolding turnedSums
   found-long = ap length is-found ∙ length-places _ _ ∙ sym (start .pre .1 .0 .0)
 
   kept : take (half o) (found ++ drop (half o) (room o)) ≡ found
   kept = take-at found (drop (half o) (room o)) (half o) found-long
 
   found-within : Within (2 ^ 63 - 1) found
-  found-within = subst (Within (2 ^ 63 - 1)) (sym is-found) (within-places _ _ _ (λ i l. window-size (sizes r) i))
+  found-within = subst (Within (2 ^ 63 - 1)) (sym is-found) (turned-within (N start) (start .args .x .now) (row r) (start .pre .0) (is-row r) (start .pre .1 .1))
 
 of-64-requires : tie.Need-of-64-requires
 of-64-requires c κs = search needs
@@ -84,40 +81,33 @@ of-64-requires c κs = search needs
 ordered-requires : tie.Need-ordered-requires
 ordered-requires c κs =
     let s = c .before .before in
-    ((s .pre .1 .0 .0, s .pre .1 .0 .1, s .pre .0 .wide), within-up (s .pre .1 .1) (omega arith))
+    ((s .pre .1 .0 .0, s .pre .1 .0 .1, s .pre .0), within-up (s .pre .1 .1) (omega arith))
 
 array-borrow-prefix-sums : tie.Need-array-borrow-prefix-sums
 array-borrow-prefix-sums c = half-le (c .before .before .before .before)
 
-slice-aggregate-windows : tie.Need-slice-aggregate-windows
-slice-aggregate-windows c = sym (part-long (c .before .before .before .before .before))
+slice-aggregate-turned : tie.Need-slice-aggregate-turned
+slice-aggregate-turned c = sym (part-long (c .before .before .before .before .before))
 
-windows-requires : tie.Need-windows-requires
-windows-requires c κs =
+turned-requires : tie.Need-turned-requires
+turned-requires c κs =
     let r = c .before .before .before in
-    let long = row-long (N (s r)) (s r .args .turn .now) (s r .args .x .now) (row r) (s r .pre .0) (is-row r) in (
-      (
-        part-long (r .before .before) ∙ s r .pre .1 .0 .0 ∙ sym long,
-        refl,
-        ap (λ n. n % 4) long ∙ half-in-fours (N (s r)),
-        turn-long (N (s r)) (s r .args .turn .now) (s r .args .x .now) (row r) (s r .pre .0) (is-row r),
-      ),
-      ((omega arith, omega arith, omega arith), (sizes r, sizes r)),
-    )
+    let q = s r .pre in
+    ((long r, part-long (r .before .before) ∙ q .1 .0 .0, q .0), row-within (N (s r)) (s r .args .x .now) (row r) (q .0) (is-row r) (q .1 .1))
 
 array-share-prefix-sums : tie.Need-array-share-prefix-sums
 array-share-prefix-sums c =
-    let w = c .before in
+    let w = c .before .before in
     subst (λ n. half (o w) ≤ n) (sym (length-front (room (o w)) (found w) (half (o w)) (found-long w ∙ sym (part-long (o w))))) (half-le (o w))
 
 slice-aggregate-reordered : tie.Need-slice-aggregate-reordered
-slice-aggregate-reordered c = let w = c .before .before in sym (ap length (kept w) ∙ found-long w)
+slice-aggregate-reordered c = let w = c .before .before .before in sym (ap length (kept w) ∙ found-long w)
 
 reordered-requires : tie.Need-reordered-requires
 reordered-requires c κs =
-    let w = c .before .before .before in
+    let w = c .before .before .before .before in
     let p = start w .pre .1 .0 in
-    ((ap length (kept w) ∙ found-long w ∙ p .0, p .2, start w .pre .0 .wide), subst (Within (2 ^ 63 - 1)) (sym (kept w)) (found-within w))
+    ((ap length (kept w) ∙ found-long w ∙ p .0, p .2, start w .pre .0), subst (Within (2 ^ 63 - 1)) (sym (kept w)) (found-within w))
 
 same-length : tie.Need-same-length
 same-length c = search needs
@@ -127,9 +117,9 @@ same-length-2 c = search needs
 
 returns : tie.Need-returns
 returns c =
-    let w = c .before .before .before .before .before in
+    let w = c .before .before .before .before .before .before in
     let a = start w .args in
-    c .before .reordered .ensures ∙ cosine-windows (N (start w)) (a .turn .now) (a .x .now) (row (r w)) (start w .pre .0) (is-row (r w)) _ (kept w ∙ is-found w)
+    c .before .reordered .ensures ∙ cosine-windows (N (start w)) (a .x .now) (row (r w)) (start w .pre .0) (is-row (r w)) _ (kept w ∙ is-found w)
 
 pub cosine-sums-spec : {M : Type 1} → statement M
 cosine-sums-spec =
@@ -138,8 +128,8 @@ cosine-sums-spec =
     of-64-requires
     ordered-requires
     array-borrow-prefix-sums
-    slice-aggregate-windows
-    windows-requires
+    slice-aggregate-turned
+    turned-requires
     array-share-prefix-sums
     slice-aggregate-reordered
     reordered-requires

@@ -1,7 +1,7 @@
 -- `stages::sums::secant_sums` meets its contract.
 use borrow.Author.Needs.{needs}
 use native.Mathlib.Omega.{arith}
-use mathlib.Core.Path.{_≡_, sym, ap, ap₂, subst, _∙_}
+use mathlib.Core.Path.{_≡_, refl, sym, ap, subst, _∙_}
 use mathlib.Core.List.{_++_}
 use Prim.Native.Nat.{ℕ, _+_, _%_, _≤_, _<_}
 use lib.IntN.{ℤ}
@@ -14,7 +14,7 @@ use Rattle.tables.proofs.ByWidth.{half-width-le}
 use Rattle.steps.proofs.Undo.{width-half}
 use Rattle.stages.specs.Expanded.{inFours, takenPlace}
 use Rattle.stages.proofs.CosineOrder.{half-in-fours}
-use Rattle.stages.proofs.SumLaws.{secant-rows, secant-sizes}
+use Rattle.stages.proofs.SumLaws.{secant-rows}
 use Rattle.stages.proofs.sums.secant_sums.Statement.{statement}
 use Rattle.stages.proofs.sums.secant_sums.Tie as tie
 
@@ -35,10 +35,7 @@ module _ (s : tie.Start) where
   even = omega (arith, half-in-fours (s .args .width), x-long)
 
   wide : 0 < half
-  wide = s .pre .0 .wide
-
-  secants-long : length (s .args .secants .now) ≡ half + half
-  secants-long = ap length (s .pre .0 .is) ∙ length-places (s .args .width) _ ∙ sym (width-half (s .args .width) wide)
+  wide = s .pre .0
 
   -- the list as a row takes it
   abbrev taken : ℕ → ℕ → ℤ
@@ -95,27 +92,16 @@ for-rows-requires-2 c κs = (omega arith, part (c .before .before .before .befor
 array-share-prefix-odd : tie.Need-array-share-prefix-odd
 array-share-prefix-odd c = omega (arith, ap length (odd-is (c .before .before)), length-places (half (c .before .before .before .before .before .before .before .before)) (taken (c .before .before .before .before .before .before .before .before) 1), x-long (c .before .before .before .before .before .before .before .before), length-append (c .before .before .for-rows2 .last .1 .1 .0) (drop (length (c .before .before .before .before .before .before .before .before .args .x .now)) (c .before .before .before .before .before .before .before .of-64 .result)))
 
-slice-aggregate-windows : tie.Need-slice-aggregate-windows
-slice-aggregate-windows c = sym (ap length (odd-part (c .before .before .before)) ∙ odd-long (c .before .before .before) ∙ sym (x-long (c .before .before .before .before .before .before .before .before .before)))
+slice-aggregate-secant-windows : tie.Need-slice-aggregate-secant-windows
+slice-aggregate-secant-windows c = sym (ap length (odd-part (c .before .before .before)) ∙ odd-long (c .before .before .before) ∙ sym (x-long (c .before .before .before .before .before .before .before .before .before)))
 
-windows-requires : tie.Need-windows-requires
-windows-requires c κs =
+secant-windows-requires : tie.Need-secant-windows-requires
+secant-windows-requires c κs =
     let s = c .before .before .before .before .before .before .before .before .before .before in
     let f = c .before .before .before .before .before .before .before in
     let g = c .before .before .before .before in
-    let N = s .args .width in
-    let t = s .args .secants .now in
-    let l = row-filled f in
-    let w = odd-part g in (
-      (out-long s ∙ sym l, ap length w ∙ odd-long g ∙ sym l, ap (λ n. n % 4) l ∙ half-in-fours N, secants-long s ∙ sym (ap₂ _+_ l l)),
-      (
-        (omega arith, omega arith, omega arith),
-        (
-          secant-sizes N t (s .args .x .now) (s .pre .0) _ _ (rw l (half-width-le N)) (subst (Within 10000000) (sym (row-is f)) (taken-within s 0)),
-          secant-sizes N t (s .args .x .now) (s .pre .0) _ _ (rw l (half-width-le N)) (subst (Within 10000000) (sym (w ∙ odd-is g)) (taken-within s 1)),
-        ),
-      ),
-    )
+    let w = odd-part g in
+    ((row-filled f, ap length w ∙ odd-long g, out-long s, wide s), (subst (Within 10000000) (sym (row-is f)) (taken-within s 0), subst (Within 10000000) (sym (w ∙ odd-is g)) (taken-within s 1)))
 
 same-length : tie.Need-same-length
 same-length c = search needs
@@ -127,14 +113,9 @@ returns : tie.Need-returns
 returns c =
     let s = c .before .before .before .before .before .before .before .before .before .before .before .before in
     let N = s .args .width in
-    let t = s .args .secants .now in
     let f = c .before .before .before .before .before .before .before .before .before in
     let g = c .before .before .before .before .before .before in
-    let z = f .for-rows .last .1 .1 .0 in
-    let w = take (length (s .args .x .now)) (g .for-rows2 .last .1 .1 .0 ++ drop (length (s .args .x .now)) (c .before .before .before .before .before .before .before .before .before .before .before .of-64 .result)) in
-    c .before .windows .ensures
-    ∙ ap (λ n. places n (inFours t z w 2 2 4)) (out-long s)
-    ∙ secant-rows N t (s .args .x .now) (s .pre .0) _ _ (half-in-fours N) (width-half N (wide s)) (row-is f) (odd-part g ∙ odd-is g)
+    c .before .secant-windows .ensures ∙ secant-rows N _ (s .args .x .now) refl _ _ (half-in-fours N) (width-half N (wide s)) (row-is f) (odd-part g ∙ odd-is g)
 
 pub secant-sums-spec : {M : Type 1} → statement M
 secant-sums-spec =
@@ -146,8 +127,8 @@ secant-sums-spec =
     slice-aggregate-for-rows
     for-rows-requires-2
     array-share-prefix-odd
-    slice-aggregate-windows
-    windows-requires
+    slice-aggregate-secant-windows
+    secant-windows-requires
     same-length
     same-length-2
     returns)

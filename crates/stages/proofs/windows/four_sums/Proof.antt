@@ -1,4 +1,4 @@
--- `stages::sums::four_sums` meets its contract: each of the four is a sum over the places so far.
+-- `stages::windows::four_sums` meets its contract: each of the four is a sum over the places so far.
 use borrow.Author.Needs.{needs}
 use native.Mathlib.Omega.{arith}
 use mathlib.Core.Path.{_≡_, refl, ap, _∙_}
@@ -10,8 +10,8 @@ use Rattle.integers.specs.Places.{sum}
 use Rattle.integers.proofs.Held.{Held, held, held-ok}
 use Rattle.stages.specs.Expanded.{window}
 use Rattle.stages.proofs.WindowLaws.{term, asks-product, asks-sum, next-sum}
-use Rattle.stages.proofs.sums.four_sums.Statement.{statement}
-use Rattle.stages.proofs.sums.four_sums.Tie as tie
+use Rattle.stages.proofs.windows.four_sums.Statement.{statement}
+use Rattle.stages.proofs.windows.four_sums.Tie as tie
 
 abbrev Inv-loop : tie.InvT-loop
 Inv-loop table z w p q r a₀ b₀ c₀ d₀ j₀ a b c d j = (j ≤ length z) × Held w64 a (sum j (term table z 0)) × Held w64 b (sum j (term table w p)) × Held w64 c (sum j (term table z q)) × Held w64 d (sum j (term table w r))

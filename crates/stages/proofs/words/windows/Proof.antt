@@ -1,4 +1,4 @@
--- `stages::sums::windows` meets its contract.
+-- `stages::words::windows` meets its contract.
 use borrow.Author.Needs.{needs}
 use native.Mathlib.Omega.{arith}
 use mathlib.Core.Path.{_≡_, refl, sym, ap, subst, _∙_}
@@ -8,16 +8,17 @@ use mir.Syntax.{w64}
 use mir.Val.{toZ, ofZ}
 use Rattle.integers.proofs.Held.{held-ok}
 use Rattle.integers.proofs.Fills.{Filling, filling-none, filling-four, filling-all}
-use Rattle.stages.specs.Expanded.{window, inFours}
-use Rattle.stages.proofs.WindowLaws.{part-sizes, part-window, part-from, four-first, four-second, four-third, four-fourth}
-use Rattle.stages.proofs.sums.windows.Statement.{statement}
-use Rattle.stages.proofs.sums.windows.Tie as tie
+use Rattle.stages.specs.Expanded.{window}
+use Rattle.stages.proofs.WindowLaws.{part-window, part-from}
+use Rattle.stages.proofs.WordLaws.{part-words}
+use Rattle.stages.proofs.words.windows.Statement.{statement}
+use Rattle.stages.proofs.words.windows.Tie as tie
 
 abbrev Inv-loop : tie.InvT-loop
-Inv-loop table z w p q r out₀ i₀ out i = (i ≤ length out₀) × (i % 4 ≡ 0) × Filling (inFours table z w p q r) out₀ i out
+Inv-loop table z out₀ i₀ out i = (i ≤ length out₀) × (i % 4 ≡ 0) × Filling (window table z) out₀ i out
 
 abbrev μ-loop : tie.MeasureT-loop
-μ-loop table z w p q r out₀ i₀ out i = length out₀ - i
+μ-loop table z out₀ i₀ out i = length out₀ - i
 
 long : (k : tie.At-loop Inv-loop μ-loop) → length (k .loop .out) ≡ length (k .before .args .out .now)
 long k = k .loop .inv .2 .long
@@ -50,13 +51,8 @@ four-sums-requires c κs =
     let s = k .before in
     let e = part-from (k .loop .i) (s .args .table .now) in
     let room : k .loop .i + 4 ≤ length (s .args .out .now) = within k (c .before .loop-test .taken) in
-    let n = ap length e ∙ length-drop (k .loop .i) (s .args .table .now) in (
-      s .pre .0 .1,
-      (
-        (omega (arith, n, room, s .pre .0, s .pre .1 .0), omega (arith, n, room, s .pre .0, s .pre .1 .0), omega (arith, n, room, s .pre .0, s .pre .1 .0)),
-        (part-sizes (s .args .table .now) _ (s .args .z .now) (k .loop .i) e (s .pre .1 .1 .0), part-sizes (s .args .table .now) _ (s .args .w .now) (k .loop .i) e (s .pre .1 .1 .1)),
-      ),
-    )
+    let n = ap length e ∙ length-drop (k .loop .i) (s .args .table .now) in
+    (omega (arith, n, room, s .pre .0), part-words (s .args .table .now) _ (s .args .z .now) (k .loop .i) e (s .pre .1))
 
 mul-a : tie.Need-mul-a Inv-loop μ-loop
 mul-a c = search needs
@@ -108,10 +104,10 @@ loop-again c =
       omega (arith, room c),
       omega arith,
       filling-four (k .loop .inv .2)
-          (held-ok w64 _ (c .before .before .before .struct-told .given .0 .1) .is ∙ g .ensures .0 ∙ part-window t _ (s .args .z .now) (k .loop .i) e 0 ∙ ap (window t (s .args .z .now)) at-first ∙ sym (four-first t _ _ _ _ _ (k .loop .i) (k .loop .inv .1)))
-          (held-ok w64 _ (c .before .before .struct-told2 .given .1 .0 .1) .is ∙ g .ensures .1 ∙ part-window t _ (s .args .w .now) (k .loop .i) e (s .args .p) ∙ sym (four-second t _ _ _ _ _ (k .loop .i) (k .loop .inv .1)))
-          (held-ok w64 _ (c .before .struct-told3 .given .1 .1 .0 .1) .is ∙ g .ensures .2 ∙ part-window t _ (s .args .z .now) (k .loop .i) e (s .args .q) ∙ sym (four-third t _ _ _ _ _ (k .loop .i) (k .loop .inv .1)))
-          (held-ok w64 _ (c .struct-told4 .given .1 .1 .1 .0 .1) .is ∙ g .ensures .3 ∙ part-window t _ (s .args .w .now) (k .loop .i) e (s .args .r) ∙ sym (four-fourth t _ _ _ _ _ (k .loop .i) (k .loop .inv .1))),
+          (held-ok w64 _ (c .before .before .before .struct-told .given .0 .1) .is ∙ g .ensures .0 ∙ part-window t _ (s .args .z .now) (k .loop .i) e 0 ∙ ap (window t (s .args .z .now)) at-first)
+          (held-ok w64 _ (c .before .before .struct-told2 .given .1 .0 .1) .is ∙ g .ensures .1 ∙ part-window t _ (s .args .z .now) (k .loop .i) e 1)
+          (held-ok w64 _ (c .before .struct-told3 .given .1 .1 .0 .1) .is ∙ g .ensures .2 ∙ part-window t _ (s .args .z .now) (k .loop .i) e 2)
+          (held-ok w64 _ (c .struct-told4 .given .1 .1 .1 .0 .1) .is ∙ g .ensures .3 ∙ part-window t _ (s .args .z .now) (k .loop .i) e 3),
     )
 
 same-length : tie.Need-same-length Inv-loop μ-loop

@@ -1,0 +1,94 @@
+-- The constants of a width, as the row sums take them.
+use mathlib.Core.Path.{_≡_, refl, sym, ap, ap₂, subst, _∙_}
+use mathlib.Core.Bool.{Bool, true, _&&_}
+use mathlib.Core.List.{List, [], _∷_}
+use Prim.Native.Nat.{ℕ, zero, suc, _+_, _%_, _^_, _≤_, _<_}
+use native.Mathlib.Omega.{arith}
+use lib.Dec.{T}
+use lib.IntN.{ℤ, pos, _+ℤ_, _-ℤ_, _*ℤ_}
+use lib.Signed.{_≤ℤ_, leZ, ≤ℤ-refl}
+use lib.ListN.{drop}
+use lib.Seq.{getD-drop, drop-drop}
+use native.Mathlib.Numerals.{add-one}
+use Rattle.integers.specs.Places.{tab, places, at, sum, Within}
+use Rattle.integers.proofs.Tested.{and-left, and-right}
+use Rattle.integers.proofs.PlaceLaws.{places-ext, sum-ext, sum-front, within-places}
+use Rattle.tables.specs.Widths.{halfWidth}
+use Rattle.tables.proofs.Sizes.{cosine-size}
+use Rattle.stages.specs.Expanded.{window, inFours, Sizes, turnAt, turnedSums, secantFor}
+use Rattle.stages.specs.Words.{Above, Raised, lowered}
+use Rattle.stages.proofs.ArrangedLaws.{small, all-within}
+use Rattle.stages.proofs.WindowLaws.{fours-window}
+use Rattle.stages.proofs.CosineOrder.{turn-sizes}
+use Rattle.stages.proofs.SumLaws.{secant-sizes}
+
+-- no entry below 0, by a test of every entry
+abbrev pub ups : List ℤ → Bool
+ups [] = true
+ups (x ∷ xs) = leZ (pos 0) x && ups xs
+
+ups-at : (xs : List ℤ) → T (ups xs) → (i : ℕ) → pos 0 ≤ℤ at xs i
+ups-at [] t i = ≤ℤ-refl (pos 0)
+ups-at (x ∷ xs) t zero = record { le = and-left (leZ (pos 0) x) (ups xs) t }
+ups-at (x ∷ xs) t (suc i) = ups-at xs (and-right (leZ (pos 0) x) (ups xs) t) i
+
+-- a width k, its half h, and lists as long as the half
+module _ (k h : ℕ) (e : halfWidth k ≡ h) {N n o : ℕ} (w : N ≡ k) (a : n ≡ halfWidth N) (b : o ≡ halfWidth N) where
+  pub half-is : n ≡ h
+  half-is = a ∙ ap halfWidth w ∙ e
+
+  pub lengths : h % 4 ≡ 0 → k ≡ h + h → h ≤ 64 → (o ≡ n) × (n % 4 ≡ 0) × (k ≡ n + n) × (n ≤ 64)
+  lengths f g l = (b ∙ sym a, omega (arith, half-is, f), omega (arith, half-is, g), omega (arith, half-is, l))
+
+-- ---- what raising a list adds, as it is computed: part by part of the table
+abbrev pub partSum : ℕ → List ℤ → ℤ
+partSum zero xs = pos 0
+partSum (suc n) [] = (pos 0 -ℤ pos (2 ^ 28)) +ℤ partSum n []
+partSum (suc n) (x ∷ xs) = (x -ℤ pos (2 ^ 28)) +ℤ partSum n xs
+
+abbrev pub partWeights : ℕ → ℕ → List ℤ → List ℤ
+partWeights h zero xs = []
+partWeights h (suc m) xs = (pos (2 ^ 27) *ℤ partSum h xs) ∷ partWeights h m (drop 1 xs)
+
+part-sum : (n : ℕ) (xs : List ℤ) → partSum n xs ≡ sum n (λ j. at xs j -ℤ pos (2 ^ 28))
+unfolding sum
+part-sum zero xs = refl
+part-sum (suc n) [] = ap (λ y. (pos 0 -ℤ pos (2 ^ 28)) +ℤ y) (part-sum n []) ∙ sym (sum-front n (λ j. at [] j -ℤ pos (2 ^ 28)))
+part-sum (suc n) (x ∷ xs) = ap (λ y. (x -ℤ pos (2 ^ 28)) +ℤ y) (part-sum n xs) ∙ sym (sum-front n (λ j. at (x ∷ xs) j -ℤ pos (2 ^ 28)))
+
+weights-from : (h : ℕ) (ts : List ℤ) (m i : ℕ) → partWeights h m (drop i ts) ≡ tab (λ i. pos (2 ^ 27) *ℤ sum h (λ j. at ts (i + j) -ℤ pos (2 ^ 28))) m i
+unfolding tab
+weights-from h ts zero i = refl
+weights-from h ts (suc m) i =
+    ap₂ _∷_
+    (ap (λ y. pos (2 ^ 27) *ℤ y) (part-sum h (drop i ts) ∙ sum-ext h _ _ (λ j l. ap (λ y. y -ℤ pos (2 ^ 28)) (getD-drop i ts j (pos 0)))))
+    (ap (partWeights h m) (drop-drop 1 i ts ∙ ap (λ k. drop k ts) (add-one i)) ∙ weights-from h ts m (suc i))
+
+-- ---- the cosines
+module _ {n h : ℕ} (k : ℕ) (ts ws : List ℤ) (l : n ≡ h) where
+  pub raised-of : T (ups ts) → T (small (2 ^ 29) ts) → lowered ts ≡ places k (turnAt k) → T (small (2 ^ 61) ws) → ws ≡ partWeights h h ts → Raised n ts ws
+  unfolding turnAt
+  raised-of u s t v w = record {
+    above = record { above = ups-at ts u };
+    within = all-within (2 ^ 29) ts s;
+    lowered-within = subst (Within (2 ^ 28)) (sym t) (within-places k _ _ (λ j m. cosine-size _));
+    weights-within = all-within (2 ^ 61) ws v;
+    weights-are = w ∙ weights-from h ts h 0 ∙ ap (λ m. places m (λ i. pos (2 ^ 27) *ℤ sum m (λ j. at ts (i + j) -ℤ pos (2 ^ 28)))) (sym l);
+  }
+
+-- the sums that a part of the table gives
+module _ {N k n : ℕ} (w : N ≡ k) (l : n ≡ halfWidth N) {t : List ℤ} (row : List ℤ) {out : List ℤ} (e : t ≡ places k (turnAt k)) where
+  pub turned-is : out ≡ places n (window t row) → out ≡ turnedSums N row
+  unfolding turnedSums
+  turned-is o = o ∙ ap (λ m. places m (window t row)) l ∙ ap (λ u. places (halfWidth N) (window u row)) (e ∙ ap (λ m. places m (turnAt m)) (sym w))
+
+  pub turned-fours : out ≡ places n (inFours t row row 1 2 3) → out ≡ turnedSums N row
+  turned-fours o = turned-is (o ∙ places-ext n _ _ (λ i m. fours-window t row i))
+
+pub turn-fits : (k : ℕ) {n : ℕ} (t x : List ℤ) → t ≡ places k (turnAt k) → n ≤ 64 → Within 500000000 x → Sizes n t x
+turn-fits k {n} t x e l h = turn-sizes k n t x e l h
+
+-- ---- the secants
+pub secants-are : {N k n : ℕ} → N ≡ k → n ≡ halfWidth N → {t : List ℤ} (z w : List ℤ) {out : List ℤ} → t ≡ places k (secantFor k) → out ≡ places n (inFours t z w 2 2 4)
+    → out ≡ places (halfWidth N) (inFours (places N (secantFor N)) z w 2 2 4)
+secants-are {N} w l {t} z y e o = o ∙ ap (λ m. places m (inFours t z y 2 2 4)) l ∙ ap (λ u. places (halfWidth N) (inFours u z y 2 2 4)) (e ∙ ap (λ m. places m (secantFor m)) (sym w))
