@@ -7,4 +7,5 @@ pub mod WindowLaws
 pub mod StageLaws
 pub mod StageSizes
 pub mod TableSizes
+pub mod LiftLaws
 pub mod FrameSizes

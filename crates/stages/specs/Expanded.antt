@@ -73,11 +73,9 @@ unfoldable pub third : ℕ → ℤ → ℤ → ℤ → ℤ
 third l secants cosines tangent = negℤ secants -ℤ pos (2 ^ (l + 1)) *ℤ cosines +ℤ pos (2 ^ (2 * l)) *ℤ tangent
 
 -- the tables of a width, expanded; √M is 2^root
-pub record Tables (N root : ℕ) (turn secants tangents sines : List ℤ) : Type 0 where
+pub record Tables (N root : ℕ) (turn secants : List ℤ) : Type 0 where
   pub turn-is : Turn N turn
   pub secants-are : Secants N secants
-  pub tangents-are : Tangents N tangents
-  pub sines-are : Sines N sines
   pub root-is : root ≡ rootLog N
   pub wide : 0 < halfWidth N
 

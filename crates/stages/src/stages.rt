@@ -8,6 +8,7 @@ ghost use Rattle.integers.specs.Places.{places, at, Within};
 ghost use Rattle.tables.specs.Widths.{halfWidth};
 ghost use Rattle.steps.specs.Steps.{rootLog, stage1, stage2, stage3, stage4, stage5, unstage1, unstage2, unstage3, unstage4, unstage5};
 ghost use Rattle.stages.specs.Expanded.{third, Turn, Secants, Tangents, Sines, Halves, Tables, Room, top4, bottom5, untop2, unbottom1};
+use crate::lifts;
 use crate::sums;
 use crate::vectors;
 
@@ -72,30 +73,6 @@ fn second(
     vectors::lift(false, 28 + root, a, top);
 }
 
-fn third_amount(root: u32, secants: i64, cosines: i64, tangent: i64) -> i64
-    requires { ⌜ (root ≤ 3) × (natAbs secants ≤ 2 ^ 60) × (natAbs cosines ≤ 2 ^ 57) × (natAbs tangent ≤ 2 ^ 56) ⌝ }
-    ensures { λ r. ⌜ r ≡ third root secants cosines tangent ⌝ }
-{
-    0 - secants - (1 << (root + 1)) * cosines + (1 << (2 * root)) * tangent
-}
-
-// What stage 3 adds, before rounding: a has the secant sums, and b the cosine sums.
-fn third_amounts(root: u32, tangents: &[i64], top: &[i64], a: &mut [i64], b: &[i64])
-    requires { ⌜ (root ≤ 3) × (length (now tangents) ≡ length (now a)) × (length (now top) ≡ length (now a)) × (length (now b) ≡ length (now a)) ⌝ }
-    requires { ⌜ Within (2 ^ 28) (now tangents) ⌝ }
-    requires { ⌜ Within 7500000 (now top) ⌝ }
-    requires { ⌜ Within (2 ^ 60) (now a) ⌝ }
-    requires { ⌜ Within (2 ^ 57) (now b) ⌝ }
-    ensures { λ _. ⌜ now (a .exit) ≡ places (length (now (a .entry))) (λ i. third root (at (now (a .entry)) i) (at (now (b .entry)) i) (at (now (tangents .entry)) (length (now (a .entry)) - 1 - i) *ℤ at (now (top .entry)) (length (now (a .entry)) - 1 - i))) ⌝ }
-{
-    let mut i = 0;
-    while i < a.len() {
-        let j = a.len() - 1 - i;
-        a[i] = third_amount(root, a[i], b[i], tangents[j] * top[j]);
-        i += 1;
-    }
-}
-
 // Stage 3: bottom loses the secant and the cosine sums and gains −t·top, rounded together.
 fn third(
     undo: bool,
@@ -103,7 +80,6 @@ fn third(
     root: u32,
     turn: &[i64],
     secants: &[i64],
-    tangents: &[i64],
     top: &[i64],
     bottom: &mut [i64],
     a: &mut [i64],
@@ -112,7 +88,6 @@ fn third(
 )
     requires { ⌜ Turn width (now turn) ⌝ }
     requires { ⌜ Secants width (now secants) ⌝ }
-    requires { ⌜ Tangents width (now tangents) ⌝ }
     requires { ⌜ root ≡ rootLog width ⌝ }
     requires { ⌜ Halves width (now top) (now bottom) ⌝ }
     requires { ⌜ (length (now a) ≡ halfWidth width) × (length (now b) ≡ halfWidth width) × (length (now row) ≡ halfWidth width) ⌝ }
@@ -122,56 +97,30 @@ fn third(
 {
     sums::secant_sums(width, secants, top, row, a);
     sums::cosine_sums(width, turn, top, row, b);
-    third_amounts(root, tangents, top, a, b);
+    lifts::third_amounts(width, root, top, a, b);
     vectors::lift(undo, 28 + 2 * root, a, bottom);
 }
 
 // Stage 4: top gains the rounded s·bottom, bottom from its end.
-fn fourth(
-    undo: bool,
-    width: usize,
-    sines: &[i64],
-    top: &mut [i64],
-    bottom: &[i64],
-    a: &mut [i64],
-    b: &mut [i64],
-)
-    requires { ⌜ Sines width (now sines) ⌝ }
+fn fourth(undo: bool, width: usize, top: &mut [i64], bottom: &[i64])
     requires { ⌜ 0 < halfWidth width ⌝ }
     requires { ⌜ Halves width (now top) (now bottom) ⌝ }
-    requires { ⌜ (length (now a) ≡ halfWidth width) × (length (now b) ≡ halfWidth width) ⌝ }
     requires { ⌜ Within (2 ^ 34) (now bottom) ⌝ }
     requires { ⌜ Within (2 ^ 60) (now top) ⌝ }
     ensures { λ _. ⌜ now (top .exit) ≡ cond undo (unstage4 width (now (top .entry)) (now (bottom .entry))) (stage4 width (now (top .entry)) (now (bottom .entry))) ⌝ }
 {
-    let last = bottom.len() - 1;
-    vectors::strided(bottom, last, last, a);
-    vectors::products(sines, a, b);
-    vectors::lift(undo, 28, b, top);
+    lifts::by_sines(undo, false, width, bottom, top);
 }
 
 // Stage 5: bottom, from its end, gains the rounded −t·top.
-fn fifth(
-    undo: bool,
-    width: usize,
-    tangents: &[i64],
-    top: &[i64],
-    bottom: &mut [i64],
-    a: &mut [i64],
-    b: &mut [i64],
-)
-    requires { ⌜ Tangents width (now tangents) ⌝ }
+fn fifth(undo: bool, width: usize, top: &[i64], bottom: &mut [i64])
     requires { ⌜ 0 < halfWidth width ⌝ }
     requires { ⌜ Halves width (now top) (now bottom) ⌝ }
-    requires { ⌜ (length (now a) ≡ halfWidth width) × (length (now b) ≡ halfWidth width) ⌝ }
     requires { ⌜ Within (2 ^ 34) (now top) ⌝ }
     requires { ⌜ Within (2 ^ 60) (now bottom) ⌝ }
     ensures { λ _. ⌜ now (bottom .exit) ≡ cond undo (unstage5 width (now (top .entry)) (now (bottom .entry))) (stage5 width (now (top .entry)) (now (bottom .entry))) ⌝ }
 {
-    let last = top.len() - 1;
-    vectors::products(tangents, top, a);
-    vectors::strided(a, last, last, b);
-    vectors::lift(undo, 28, b, bottom);
+    lifts::by_tangents(undo, true, width, top, bottom);
 }
 
 fn forward(
@@ -179,15 +128,13 @@ fn forward(
     root: u32,
     turn: &[i64],
     secants: &[i64],
-    tangents: &[i64],
-    sines: &[i64],
     top: &mut [i64],
     bottom: &mut [i64],
     a: &mut [i64],
     b: &mut [i64],
     row: &mut [i64],
 )
-    requires { ⌜ Tables width root (now turn) (now secants) (now tangents) (now sines) ⌝ }
+    requires { ⌜ Tables width root (now turn) (now secants) ⌝ }
     requires { ⌜ Halves width (now top) (now bottom) ⌝ }
     requires { ⌜ Room width (now a) (now b) (now row) ⌝ }
     requires { ⌜ Within 50000 (now top) ⌝ }
@@ -196,21 +143,9 @@ fn forward(
 {
     first(false, width, root, turn, top, bottom, a, b, row);
     second(false, width, root, turn, top, bottom, a, row);
-    third(
-        false,
-        width,
-        root,
-        turn,
-        secants,
-        tangents,
-        top,
-        bottom,
-        a,
-        b,
-        row,
-    );
-    fourth(false, width, sines, top, bottom, a, b);
-    fifth(false, width, tangents, top, bottom, a, b);
+    third(false, width, root, turn, secants, top, bottom, a, b, row);
+    fourth(false, width, top, bottom);
+    fifth(false, width, top, bottom);
 }
 
 fn backward(
@@ -218,36 +153,22 @@ fn backward(
     root: u32,
     turn: &[i64],
     secants: &[i64],
-    tangents: &[i64],
-    sines: &[i64],
     top: &mut [i64],
     bottom: &mut [i64],
     a: &mut [i64],
     b: &mut [i64],
     row: &mut [i64],
 )
-    requires { ⌜ Tables width root (now turn) (now secants) (now tangents) (now sines) ⌝ }
+    requires { ⌜ Tables width root (now turn) (now secants) ⌝ }
     requires { ⌜ Halves width (now top) (now bottom) ⌝ }
     requires { ⌜ Room width (now a) (now b) (now row) ⌝ }
     requires { ⌜ Within 1048576 (now top) ⌝ }
     requires { ⌜ Within 1048576 (now bottom) ⌝ }
     ensures { λ _. ⌜ (now (top .exit) ≡ untop2 width (now (top .entry)) (now (bottom .entry))) × (now (bottom .exit) ≡ unbottom1 width (now (top .entry)) (now (bottom .entry))) ⌝ }
 {
-    fifth(true, width, tangents, top, bottom, a, b);
-    fourth(true, width, sines, top, bottom, a, b);
-    third(
-        true,
-        width,
-        root,
-        turn,
-        secants,
-        tangents,
-        top,
-        bottom,
-        a,
-        b,
-        row,
-    );
+    fifth(true, width, top, bottom);
+    fourth(true, width, top, bottom);
+    third(true, width, root, turn, secants, top, bottom, a, b, row);
     second(true, width, root, turn, top, bottom, a, row);
     first(true, width, root, turn, top, bottom, a, b, row);
 }
@@ -259,15 +180,13 @@ pub fn all(
     root: u32,
     turn: &[i64],
     secants: &[i64],
-    tangents: &[i64],
-    sines: &[i64],
     top: &mut [i64],
     bottom: &mut [i64],
     a: &mut [i64],
     b: &mut [i64],
     row: &mut [i64],
 )
-    requires { ⌜ Tables width root (now turn) (now secants) (now tangents) (now sines) ⌝ }
+    requires { ⌜ Tables width root (now turn) (now secants) ⌝ }
     requires { ⌜ Halves width (now top) (now bottom) ⌝ }
     requires { ⌜ Room width (now a) (now b) (now row) ⌝ }
     requires { ⌜ Within (cond undo 1048576 50000) (now top) ⌝ }
@@ -275,32 +194,8 @@ pub fn all(
     ensures { λ _. ⌜ (now (top .exit) ≡ cond undo (untop2 width (now (top .entry)) (now (bottom .entry))) (top4 width (now (top .entry)) (now (bottom .entry)))) × (now (bottom .exit) ≡ cond undo (unbottom1 width (now (top .entry)) (now (bottom .entry))) (bottom5 width (now (top .entry)) (now (bottom .entry)))) ⌝ }
 {
     if undo {
-        backward(
-            width,
-            root,
-            turn,
-            secants,
-            tangents,
-            sines,
-            top,
-            bottom,
-            a,
-            b,
-            row,
-        );
+        backward(width, root, turn, secants, top, bottom, a, b, row);
         return;
     }
-    forward(
-        width,
-        root,
-        turn,
-        secants,
-        tangents,
-        sines,
-        top,
-        bottom,
-        a,
-        b,
-        row,
-    );
+    forward(width, root, turn, secants, top, bottom, a, b, row);
 }

@@ -91,7 +91,7 @@ pub fn products(c: &[i64], x: &[i64], out: &mut [i64])
     }
 }
 
-fn moved(undo: bool, y: i64, amount: i64) -> i64
+pub fn moved(undo: bool, y: i64, amount: i64) -> i64
     requires { ⌜ (natAbs y ≤ 2 ^ 61) × (natAbs amount ≤ 2 ^ 61) ⌝ }
     ensures { λ r. ⌜ r ≡ Rattle.stages.specs.Moves.moved undo y amount ⌝ }
 {

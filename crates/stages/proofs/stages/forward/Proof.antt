@@ -35,13 +35,13 @@ T2 : (c : tie.After-second) → c .second .last .1 .1 .1 .1 .0 ≡ top2 (N (s1 (
 unfolding top2
 T2 c = let f = c .before .before .before .before .before .before .before .before .before in c .second .ensures ∙ ap (stage2 (N (s1 f)) (top (s1 f))) (B1 f)
 
-B3 : (c : tie.After-third) → c .third .last .1 .1 .1 .1 .1 .1 .1 .0 ≡ bottom3 (N (s1 (c .before .before .before .before .before .before .before .before .before .before .before .before .before .before .before .before .before .before))) (top (s1 (c .before .before .before .before .before .before .before .before .before .before .before .before .before .before .before .before .before .before))) (bottom (s1 (c .before .before .before .before .before .before .before .before .before .before .before .before .before .before .before .before .before .before)))
+B3 : (c : tie.After-third) → c .third .last .1 .1 .1 .1 .1 .1 .0 ≡ bottom3 (N (s1 (c .before .before .before .before .before .before .before .before .before .before .before .before .before .before .before .before .before .before))) (top (s1 (c .before .before .before .before .before .before .before .before .before .before .before .before .before .before .before .before .before .before))) (bottom (s1 (c .before .before .before .before .before .before .before .before .before .before .before .before .before .before .before .before .before .before)))
 unfolding bottom3
 B3 c = let g = c .before .before .before .before .before .before .before .before .before in c .third .ensures ∙ ap₂ (stage3 (N (s1 (g .before .before .before .before .before .before .before .before .before)))) (T2 g) (B1 (g .before .before .before .before .before .before .before .before .before))
 
-T4 : (c : tie.After-fourth) → c .fourth .last .1 .1 .1 .0 ≡ top4 (N (s1 (c .before .before .before .before .before .before .before .before .before .before .before .before .before .before .before .before .before .before .before .before .before .before .before .before .before .before .before))) (top (s1 (c .before .before .before .before .before .before .before .before .before .before .before .before .before .before .before .before .before .before .before .before .before .before .before .before .before .before .before))) (bottom (s1 (c .before .before .before .before .before .before .before .before .before .before .before .before .before .before .before .before .before .before .before .before .before .before .before .before .before .before .before)))
+T4 : (c : tie.After-fourth) → c .fourth .last .1 .1 .0 ≡ top4 (N (s1 (c .before .before .before .before .before .before .before .before .before .before .before .before .before .before .before .before .before .before .before .before .before .before .before .before .before))) (top (s1 (c .before .before .before .before .before .before .before .before .before .before .before .before .before .before .before .before .before .before .before .before .before .before .before .before .before))) (bottom (s1 (c .before .before .before .before .before .before .before .before .before .before .before .before .before .before .before .before .before .before .before .before .before .before .before .before .before)))
 unfolding top4
-T4 c = let h = c .before .before .before .before .before .before .before .before .before in c .fourth .ensures ∙ ap₂ (stage4 (N (s1 (h .before .before .before .before .before .before .before .before .before .before .before .before .before .before .before .before .before .before)))) (T2 (h .before .before .before .before .before .before .before .before .before)) (B3 h)
+T4 c = let h = c .before .before .before .before .before .before .before in c .fourth .ensures ∙ ap₂ (stage4 (N (s1 (h .before .before .before .before .before .before .before .before .before .before .before .before .before .before .before .before .before .before)))) (T2 (h .before .before .before .before .before .before .before .before .before)) (B3 h)
 
 first-requires : tie.Need-first-requires
 first-requires c κs =
@@ -77,17 +77,14 @@ third-requires c κs =
       (
         t .secants-are,
         (
-          t .tangents-are,
+          t .root-is,
           (
-            t .root-is,
+            record { top-long = ap length (T2 g) ∙ long2 (N s) (top s) (bottom s); bottom-long = ap length (B1 f) ∙ long1 (N s) (top s) (bottom s) },
             (
-              record { top-long = ap length (T2 g) ∙ long2 (N s) (top s) (bottom s); bottom-long = ap length (B1 f) ∙ long1 (N s) (top s) (bottom s) },
+              (c .before .before .before .before .before .before .a2 .given ∙ g .before .before .before .before .before .before .before .a .given ∙ r .a-long, g .before .before .before .before .before .before .b .given ∙ r .b-long, c .before .before .before .before .before .row2 .given ∙ g .before .before .before .before .before .row .given ∙ r .row-long),
               (
-                (c .before .before .before .before .before .before .a2 .given ∙ g .before .before .before .before .before .before .before .a .given ∙ r .a-long, g .before .before .before .before .before .before .b .given ∙ r .b-long, c .before .before .before .before .before .row2 .given ∙ g .before .before .before .before .before .row .given ∙ r .row-long),
-                (
-                  within-up (subst (Within 7250000) (sym (T2 g)) (within2 (N s) (top s) (bottom s) (s .pre .1 .1 .1 .0) (s .pre .1 .1 .1 .1))) (omega arith),
-                  within-up (subst (Within 900000) (sym (B1 f)) (within1 (N s) (top s) (bottom s) (s .pre .1 .1 .1 .0) (s .pre .1 .1 .1 .1))) (omega arith),
-                ),
+                within-up (subst (Within 7250000) (sym (T2 g)) (within2 (N s) (top s) (bottom s) (s .pre .1 .1 .1 .0) (s .pre .1 .1 .1 .1))) (omega arith),
+                within-up (subst (Within 900000) (sym (B1 f)) (within1 (N s) (top s) (bottom s) (s .pre .1 .1 .1 .0) (s .pre .1 .1 .1 .1))) (omega arith),
               ),
             ),
           ),
@@ -97,49 +94,30 @@ third-requires c κs =
 
 fourth-requires : tie.Need-fourth-requires
 fourth-requires c κs =
-    let h = c .before .before .before .before .before .before .before .before in
+    let h = c .before .before .before .before .before .before in
     let g = h .before .before .before .before .before .before .before .before .before in
-    let f = g .before .before .before .before .before .before .before .before .before in
-    let s = s1 f in
-    let t = s .pre .0 in
-    let r = s .pre .1 .1 .0 in (
-      t .sines-are,
+    let s = s1 (g .before .before .before .before .before .before .before .before .before) in (
+      s .pre .0 .wide,
       (
-        t .wide,
+        record { top-long = ap length (T2 g) ∙ long2 (N s) (top s) (bottom s); bottom-long = ap length (B3 h) ∙ long3 (N s) (top s) (bottom s) },
         (
-          record { top-long = ap length (T2 g) ∙ long2 (N s) (top s) (bottom s); bottom-long = ap length (B3 h) ∙ long3 (N s) (top s) (bottom s) },
-          (
-            (c .before .before .before .before .before .before .a3 .given ∙ h .before .before .before .before .before .before .before .a2 .given ∙ g .before .before .before .before .before .before .before .a .given ∙ r .a-long, c .before .before .before .before .before .b2 .given ∙ g .before .before .before .before .before .before .b .given ∙ r .b-long),
-            (
-              within-up (subst (Within 153150000) (sym (B3 h)) (within3 (N s) (top s) (bottom s) (s .pre .1 .1 .1 .0) (s .pre .1 .1 .1 .1))) (omega arith),
-              within-up (subst (Within 7250000) (sym (T2 g)) (within2 (N s) (top s) (bottom s) (s .pre .1 .1 .1 .0) (s .pre .1 .1 .1 .1))) (omega arith),
-            ),
-          ),
+          within-up (subst (Within 153150000) (sym (B3 h)) (within3 (N s) (top s) (bottom s) (s .pre .1 .1 .1 .0) (s .pre .1 .1 .1 .1))) (omega arith),
+          within-up (subst (Within 7250000) (sym (T2 g)) (within2 (N s) (top s) (bottom s) (s .pre .1 .1 .1 .0) (s .pre .1 .1 .1 .1))) (omega arith),
         ),
       ),
     )
 
 fifth-requires : tie.Need-fifth-requires
 fifth-requires c κs =
-    let k = c .before .before .before .before .before .before .before in
-    let h = k .before .before .before .before .before .before .before .before .before in
-    let g = h .before .before .before .before .before .before .before .before .before in
-    let f = g .before .before .before .before .before .before .before .before .before in
-    let s = s1 f in
-    let t = s .pre .0 in
-    let r = s .pre .1 .1 .0 in (
-      t .tangents-are,
+    let k = c .before .before .before in
+    let h = k .before .before .before .before .before .before .before in
+    let s = s1 (h .before .before .before .before .before .before .before .before .before .before .before .before .before .before .before .before .before .before) in (
+      s .pre .0 .wide,
       (
-        t .wide,
+        record { top-long = ap length (T4 k) ∙ long4 (N s) (top s) (bottom s); bottom-long = ap length (B3 h) ∙ long3 (N s) (top s) (bottom s) },
         (
-          record { top-long = ap length (T4 k) ∙ long4 (N s) (top s) (bottom s); bottom-long = ap length (B3 h) ∙ long3 (N s) (top s) (bottom s) },
-          (
-            (c .before .before .before .before .before .a4 .given ∙ k .before .before .before .before .before .before .before .a3 .given ∙ h .before .before .before .before .before .before .before .a2 .given ∙ g .before .before .before .before .before .before .before .a .given ∙ r .a-long, c .before .before .before .before .b3 .given ∙ k .before .before .before .before .before .before .b2 .given ∙ g .before .before .before .before .before .before .b .given ∙ r .b-long),
-            (
-              within-up (subst (Within 160400000) (sym (T4 k)) (within4 (N s) (top s) (bottom s) (s .pre .1 .1 .1 .0) (s .pre .1 .1 .1 .1))) (omega arith),
-              within-up (subst (Within 153150000) (sym (B3 h)) (within3 (N s) (top s) (bottom s) (s .pre .1 .1 .1 .0) (s .pre .1 .1 .1 .1))) (omega arith),
-            ),
-          ),
+          within-up (subst (Within 160400000) (sym (T4 k)) (within4 (N s) (top s) (bottom s) (s .pre .1 .1 .1 .0) (s .pre .1 .1 .1 .1))) (omega arith),
+          within-up (subst (Within 153150000) (sym (B3 h)) (within3 (N s) (top s) (bottom s) (s .pre .1 .1 .1 .0) (s .pre .1 .1 .1 .1))) (omega arith),
         ),
       ),
     )
@@ -148,23 +126,23 @@ same-length : tie.Need-same-length
 same-length c = search needs
 
 same-length-2 : tie.Need-same-length-2
-same-length-2 c = omega (arith, c .before .before .bottom3 .given, c .before .before .before .before .before .before .before .before .before .before .before .before .before .before .before .before .before .before .before .bottom2 .given, c .before .before .before .before .before .before .before .before .before .before .before .before .before .before .before .before .before .before .before .before .before .before .before .before .before .before .before .before .before .before .before .before .before .before .before .before .before .bottom .given)
+same-length-2 c = omega (arith, c .bottom3 .given, c .before .before .before .before .before .before .before .before .before .before .before .bottom2 .given, c .before .before .before .before .before .before .before .before .before .before .before .before .before .before .before .before .before .before .before .before .before .before .before .before .before .before .before .before .before .bottom .given)
 
 same-length-3 : tie.Need-same-length-3
-same-length-3 c = omega (arith, c .before .a5 .given, c .before .before .before .before .before .before .before .before .before .a4 .given, c .before .before .before .before .before .before .before .before .before .before .before .before .before .before .before .before .before .before .a3 .given, c .before .before .before .before .before .before .before .before .before .before .before .before .before .before .before .before .before .before .before .before .before .before .before .before .before .before .before .a2 .given, c .before .before .before .before .before .before .before .before .before .before .before .before .before .before .before .before .before .before .before .before .before .before .before .before .before .before .before .before .before .before .before .before .before .before .before .before .a .given)
+same-length-3 c = omega (arith, c .before .before .before .before .before .before .before .before .before .before .a3 .given, c .before .before .before .before .before .before .before .before .before .before .before .before .before .before .before .before .before .before .before .a2 .given, c .before .before .before .before .before .before .before .before .before .before .before .before .before .before .before .before .before .before .before .before .before .before .before .before .before .before .before .before .a .given)
 
 same-length-4 : tie.Need-same-length-4
-same-length-4 c = omega (arith, c .b4 .given, c .before .before .before .before .before .before .before .before .b3 .given, c .before .before .before .before .before .before .before .before .before .before .before .before .before .before .before .before .before .b2 .given, c .before .before .before .before .before .before .before .before .before .before .before .before .before .before .before .before .before .before .before .before .before .before .before .before .before .before .before .before .before .before .before .before .before .before .before .b .given)
+same-length-4 c = omega (arith, c .before .before .before .before .before .before .before .before .before .b2 .given, c .before .before .before .before .before .before .before .before .before .before .before .before .before .before .before .before .before .before .before .before .before .before .before .before .before .before .before .b .given)
 
 same-length-5 : tie.Need-same-length-5
-same-length-5 c = omega (arith, c .before .before .before .before .before .before .before .before .before .before .before .before .before .before .before .before .row3 .given, c .before .before .before .before .before .before .before .before .before .before .before .before .before .before .before .before .before .before .before .before .before .before .before .before .before .before .row2 .given, c .before .before .before .before .before .before .before .before .before .before .before .before .before .before .before .before .before .before .before .before .before .before .before .before .before .before .before .before .before .before .before .before .before .before .row .given)
+same-length-5 c = omega (arith, c .before .before .before .before .before .before .before .before .row3 .given, c .before .before .before .before .before .before .before .before .before .before .before .before .before .before .before .before .before .before .row2 .given, c .before .before .before .before .before .before .before .before .before .before .before .before .before .before .before .before .before .before .before .before .before .before .before .before .before .before .row .given)
 
 returns : tie.Need-returns
 unfolding bottom5
 returns c =
-    let k = c .before .before .before in
-    let d = k .before .before .before .before .before .before .before .before in
-    let h = d .before .before .before .before .before .before .before .before .before in
+    let k = c .before in
+    let d = k .before .before .before .before in
+    let h = d .before .before .before .before .before .before .before in
     let s = s1 (h .before .before .before .before .before .before .before .before .before .before .before .before .before .before .before .before .before .before) in
     (T4 d, k .fifth .ensures ∙ ap₂ (stage5 (N s)) (T4 d) (B3 h))
 
