@@ -1,4 +1,4 @@
-// A frame from its folded values by the five stages, and its way back. The tables are expanded for each call.
+// A frame from its folded values by the five stages, and its way back. The tables of the sums are copied for each call.
 ghost use mathlib.Core.Bool.{cond};
 ghost use mathlib.Core.Path.{_≡_};
 ghost use Prim.Native.Nat.{_+_, _<_};
@@ -21,15 +21,11 @@ fn staged(undo: bool, width: usize, half: usize, top: &mut [i64], bottom: &mut [
 {
     let mut turn = room::of_128();
     let mut secants = room::of_128();
-    let mut tangents = room::of_64();
-    let mut sines = room::of_64();
     let mut a = room::of_64();
     let mut b = room::of_64();
     let mut row = room::of_64();
     arranged::turn(width, &mut turn[..width]);
     arranged::secants(width, &mut secants[..width]);
-    expand::tangents(width, &mut tangents[..half]);
-    expand::sines(width, &mut sines[..half]);
     let root = expand::root_log(width);
     stages::stages::all(
         undo,
@@ -37,8 +33,6 @@ fn staged(undo: bool, width: usize, half: usize, top: &mut [i64], bottom: &mut [
         root,
         &turn[..width],
         &secants[..width],
-        &tangents[..half],
-        &sines[..half],
         top,
         bottom,
         &mut a[..half],
