@@ -3,7 +3,7 @@ use mathlib.Core.Path.{_≡_, refl, ap, ap₂, _∙_}
 use mathlib.Core.Bool.{Bool, true, false, cond}
 use mathlib.Core.List.{List}
 use Prim.Native.Nat.{ℕ, _+_, _-_, _*_, _%_, _^_, _<_}
-use native.Mathlib.Nat.{mod-eq-of-lt, mul-add-mod-self-left, pow-succ'}
+use native.Mathlib.Nat.{mod-eq-of-lt, pow-succ'}
 use native.Mathlib.Numerals.{add-one}
 use native.Mathlib.Omega.{arith}
 use lib.IntN.{ℤ, pos, negℤ, _+ℤ_, _-ℤ_, _*ℤ_}
@@ -33,19 +33,6 @@ respoken n y f g l h = ap (λ k. places k f) l ∙ places-ext n f g h
 -- ---- strides
 pub stride-copy : (x : List ℤ) (n : ℕ) → length x ≡ n → places n (λ i. at x ((0 + i * 1) % length x)) ≡ x
 stride-copy x n e = places-ext n _ (at x) (λ i l. ap (at x) (ap (λ k. k % length x) (omega arith) ∙ mod-eq-of-lt (omega arith))) ∙ places-at n x e
-
-end-index : (i d : ℕ) → i + d + i * (i + d) ≡ (i + 1 + d) * i + d
-end-index i d = omega arith
-
-from-end : (n i : ℕ) → i < n → n - 1 + i * (n - 1) ≡ n * i + (n - 1 - i)
-from-end n i h =
-    let e : n - 1 ≡ i + (n - 1 - i) = omega arith in
-    let f : i + 1 + (n - 1 - i) ≡ n = omega arith in
-    ap (λ k. k + i * k) e ∙ end-index i (n - 1 - i) ∙ ap (λ k. k * i + (n - 1 - i)) f
-
-pub stride-reverse : (x : List ℤ) (n : ℕ) → length x ≡ n → places n (λ i. at x ((n - 1 + i * (n - 1)) % length x)) ≡ places n (λ i. at x (n - 1 - i))
-stride-reverse x n e =
-    places-ext n _ _ (λ i l. ap (at x) (ap₂ (λ p q. p % q) (from-end n i l) e ∙ mul-add-mod-self-left n i (n - 1 - i) ∙ mod-eq-of-lt (omega arith)))
 
 -- ---- M and √M as powers of two
 pub half-power : (N : ℕ) → 0 < halfWidth N → 2 ^ (2 * rootLog N) ≡ halfWidth N
