@@ -1,151 +1,131 @@
--- What the work on vectors comes to: the rotations of the fold, and their sizes.
-use mathlib.Core.Path.{_≡_, refl, sym, ap, ap₂, _∙_}
-use mathlib.Core.Bool.{Bool, true, false, cond}
+-- What the lifts of a fold come to: its rotations, and their sizes.
+use mathlib.Core.Path.{_≡_, refl, ap, ap₂, _∙_}
+use mathlib.Core.Bool.{Bool, true, false, not, cond}
 use mathlib.Core.List.{List, _++_}
-use Prim.Native.Nat.{ℕ, _+_, _-_, _*_, _%_, _^_, _≤_, _<_}
-use native.Mathlib.Nat.{mod-eq-of-lt}
+use Prim.Native.Nat.{ℕ, _+_, _-_, _*_, _<_}
 use native.Mathlib.Omega.{arith}
 use borrow.Author.Tests.{ltb-true, ltb-false}
 use lib.Dec.{ltb}
-use lib.IntN.{ℤ, _*ℤ_}
+use lib.IntN.{ℤ}
 use lib.ListN.{length, length-append}
-use Rattle.integers.specs.Floor.{round}
 use Rattle.integers.specs.Places.{places, at, Within}
-use Rattle.integers.proofs.Order.{natAbs-*ℤ-le}
-use Rattle.integers.proofs.Rounding.{round-within}
 use Rattle.integers.proofs.PlaceLaws.{length-places, at-places, by-places, places-ext, within-places}
 use Rattle.tables.specs.Widths.{halfWidth}
 use Rattle.steps.specs.Steps.{sineAmount, tangentAmount, rotatedA, rotatedB, unrotatedA, unrotatedB, lower, held, unfolded}
-use Rattle.stages.specs.Moves.{moved, Moves}
-use Rattle.stages.specs.Expanded.{Tangents, Sines}
-use Rattle.stages.proofs.StageLaws.{lifted, respoken, stride-reverse}
 use Rattle.steps.proofs.ListPlaces.{at-append}
-use Rattle.stages.proofs.StageSizes.{moved-size, moves-wide}
+use Rattle.stages.specs.Moves.{moved}
+use Rattle.stages.proofs.StageSizes.{moved-size, tangentAmount-size, sineAmount-size}
 
--- ---- one lift of a rotation: y takes the rounded products of a table and x
-abbrev pub amounts : ℕ → List ℤ → List ℤ → List ℤ
-amounts M c x = places M (λ i. at c i *ℤ at x i)
+-- ---- one lift of a rotation
+abbrev pub tangentLift : ℕ → Bool → Bool → List ℤ → List ℤ → List ℤ
+tangentLift N undo back x y = let M = halfWidth N in places M (λ i. moved undo (at y i) (tangentAmount N (cond back (M - 1 - i) i) (at x (M - 1 - i))))
 
-abbrev pub taken : Bool → ℕ → List ℤ → List ℤ → List ℤ → List ℤ
-taken undo M c x y = places M (λ i. moved undo (at y i) (round 28 (at c i *ℤ at x i)))
+abbrev pub sineLift : ℕ → Bool → Bool → List ℤ → List ℤ → List ℤ
+sineLift N undo back x y = let M = halfWidth N in places M (λ i. moved undo (at y i) (sineAmount N (cond back (M - 1 - i) i) (at x (M - 1 - i))))
 
-pub lift-is : (undo : Bool) (M : ℕ) (c x y : List ℤ) → length y ≡ M → lifted undo 28 (amounts M c x) y ≡ taken undo M c x y
-lift-is undo M c x y l = respoken M y _ _ l (λ i h. ap (λ z. moved undo (at y i) (round 28 z)) (at-places M _ i h))
+module _ (N B C : ℕ) (undo back : Bool) (x y : List ℤ) (hy : Within C y) where
+  pub tangentLift-within : Within (2 * B) x → Within (C + B) (tangentLift N undo back x y)
+  tangentLift-within hx =
+      let M = halfWidth N in
+      within-places M (C + B) _ (λ i l. moved-size undo (at y i) _ (hy .size i) (tangentAmount-size N B (cond back (M - 1 - i) i) (at x (M - 1 - i)) (hx .size (M - 1 - i))))
 
-module _ (M B C : ℕ) (c x y : List ℤ) (hc : Within (2 ^ 28) c) (hx : Within B x) where
-  pub taken-within : (undo : Bool) → Within C y → Within (C + B) (taken undo M c x y)
-  taken-within undo hy =
-      within-places M (C + B) _ (λ i l. moved-size undo (at y i) (round 28 (at c i *ℤ at x i)) (hy .size i) (round-within 28 B _ (natAbs-*ℤ-le (at c i) (at x i) (hc .size i) (hx .size i))))
-
-  pub amounts-move : B ≤ 2 ^ 34 → Moves 28 (amounts M c x)
-  amounts-move b = moves-wide 28 _ (omega arith) (within-places M (2 ^ 63) _ (λ i l. omega (arith, natAbs-*ℤ-le (at c i) (at x i) (hc .size i) (hx .size i))))
+  pub sineLift-within : Within B x → Within (C + B) (sineLift N undo back x y)
+  sineLift-within hx =
+      let M = halfWidth N in
+      within-places M (C + B) _ (λ i l. moved-size undo (at y i) _ (hy .size i) (sineAmount-size N B (cond back (M - 1 - i) i) (at x (M - 1 - i)) (hx .size (M - 1 - i))))
 
 -- ---- the three lifts are the rotation
-module _ (N : ℕ) (undo : Bool) (tangents sines a b : List ℤ) where
+there-again : (M i : ℕ) → i < M → M - 1 - (M - 1 - i) ≡ i
+there-again M i l = omega arith
+
+module _ (N : ℕ) (undo : Bool) (a b : List ℤ) where
   abbrev M : ℕ
   M = halfWidth N
 
   abbrev pub b₁ : List ℤ
-  b₁ = taken undo M tangents a b
+  b₁ = tangentLift N undo undo a b
 
   abbrev pub a₂ : List ℤ
-  a₂ = taken undo M sines b₁ a
+  a₂ = sineLift N undo (not undo) b₁ a
 
   abbrev pub b₃ : List ℤ
-  b₃ = taken undo M tangents a₂ b₁
+  b₃ = tangentLift N undo undo a₂ b₁
 
-module _ (N : ℕ) (tangents sines a b : List ℤ) (t : Tangents N tangents) (s : Sines N sines) where
-  by-tangent : (x : ℤ) (m : ℕ) → m < halfWidth N → round 28 (at tangents m *ℤ x) ≡ tangentAmount N m x
-  unfolding tangentAmount
-  by-tangent x m l = ap (λ z. round 28 (z *ℤ x)) (ap (λ xs. at xs m) (t .is) ∙ at-places (halfWidth N) _ m l)
+  -- what is at place k of a after two lifts, where its partner is at place i of b
+  abbrev second : ℕ → ℕ → ℤ
+  second k i = moved undo (at a k) (sineAmount N (cond (not undo) i k) (moved undo (at b i) (tangentAmount N (cond undo k i) (at a k))))
 
-  by-sine : (x : ℤ) (m : ℕ) → m < halfWidth N → round 28 (at sines m *ℤ x) ≡ sineAmount N m x
-  unfolding sineAmount
-  by-sine x m l = ap (λ z. round 28 (z *ℤ x)) (ap (λ xs. at xs m) (s .is) ∙ at-places (halfWidth N) _ m l)
+  a₂-entry : (k : ℕ) → k < M → moved undo (at a k) (sineAmount N (cond (not undo) (M - 1 - k) k) (at b₁ (M - 1 - k))) ≡ second k (M - 1 - k)
+  a₂-entry k l =
+      ap (λ z. moved undo (at a k) (sineAmount N (cond (not undo) (M - 1 - k) k) z))
+      (at-places M _ (M - 1 - k) (omega arith) ∙ ap (λ j. moved undo (at b (M - 1 - k)) (tangentAmount N (cond undo j (M - 1 - k)) (at a j))) (there-again M k l))
 
-  b₁-at : (undo : Bool) (m : ℕ) → m < halfWidth N → at (b₁ N undo tangents sines a b) m ≡ moved undo (at b m) (tangentAmount N m (at a m))
-  b₁-at undo m l = at-places (halfWidth N) _ m l ∙ ap (moved undo (at b m)) (by-tangent (at a m) m l)
+  b₃-entry : (i : ℕ) → i < M → moved undo (at b₁ i) (tangentAmount N (cond undo (M - 1 - i) i) (at a₂ (M - 1 - i)))
+      ≡ moved undo (moved undo (at b i) (tangentAmount N (cond undo (M - 1 - i) i) (at a (M - 1 - i)))) (tangentAmount N (cond undo (M - 1 - i) i) (second (M - 1 - i) i))
+  b₃-entry i l =
+      let k : M - 1 - i < M = omega arith in
+      ap₂ (λ y z. moved undo y (tangentAmount N (cond undo (M - 1 - i) i) z)) (at-places M _ i l)
+      (at-places M _ (M - 1 - i) k ∙ a₂-entry (M - 1 - i) k ∙ ap (second (M - 1 - i)) (there-again M i l))
 
-  a₂-entry : (undo : Bool) (m : ℕ) → m < halfWidth N
-      → moved undo (at a m) (round 28 (at sines m *ℤ at (b₁ N undo tangents sines a b) m)) ≡ moved undo (at a m) (sineAmount N m (moved undo (at b m) (tangentAmount N m (at a m))))
-  a₂-entry undo m l = ap (moved undo (at a m)) (by-sine _ m l ∙ ap (sineAmount N m) (b₁-at undo m l))
+module _ (N : ℕ) where
+  abbrev pub turnedA : Bool → List ℤ → List ℤ → List ℤ
+  turnedA undo a b = places (halfWidth N) (λ i. let j = halfWidth N - 1 - i in cond undo (unrotatedA N i (at a i) (at b j)) (rotatedA N j (at a i) (at b j)))
 
-  b₃-entry : (undo : Bool) (m : ℕ) → m < halfWidth N
-      → moved undo (at (b₁ N undo tangents sines a b) m) (round 28 (at tangents m *ℤ at (a₂ N undo tangents sines a b) m))
-      ≡ moved undo (moved undo (at b m) (tangentAmount N m (at a m))) (tangentAmount N m (moved undo (at a m) (sineAmount N m (moved undo (at b m) (tangentAmount N m (at a m))))))
-  b₃-entry undo m l = ap₂ (moved undo) (b₁-at undo m l) (by-tangent _ m l ∙ ap (tangentAmount N m) (at-places (halfWidth N) _ m l ∙ a₂-entry undo m l))
+  abbrev pub turnedB : Bool → List ℤ → List ℤ → List ℤ
+  turnedB undo a b = places (halfWidth N) (λ i. let j = halfWidth N - 1 - i in cond undo (unrotatedB N j (at a j) (at b i)) (rotatedB N i (at a j) (at b i)))
 
-  pub a-rotated : (undo : Bool) → a₂ N undo tangents sines a b ≡ cond undo (places (halfWidth N) (λ n. unrotatedA N n (at a n) (at b n))) (places (halfWidth N) (λ n. rotatedA N n (at a n) (at b n)))
+  pub a-turned : (undo : Bool) (a b : List ℤ) → a₂ N undo a b ≡ turnedA undo a b
   unfolding rotatedA unrotatedA moved
-  a-rotated true = places-ext (halfWidth N) _ _ (a₂-entry true)
-  a-rotated false = places-ext (halfWidth N) _ _ (a₂-entry false)
+  a-turned true a b = places-ext (halfWidth N) _ _ (a₂-entry N true a b)
+  a-turned false a b = places-ext (halfWidth N) _ _ (a₂-entry N false a b)
 
-  pub b-rotated : (undo : Bool) → b₃ N undo tangents sines a b ≡ cond undo (places (halfWidth N) (λ n. unrotatedB N n (at a n) (at b n))) (places (halfWidth N) (λ n. rotatedB N n (at a n) (at b n)))
+  pub b-turned : (undo : Bool) (a b : List ℤ) → b₃ N undo a b ≡ turnedB undo a b
   unfolding rotatedA rotatedB unrotatedA unrotatedB moved
-  b-rotated true = places-ext (halfWidth N) _ _ (b₃-entry true)
-  b-rotated false = places-ext (halfWidth N) _ _ (b₃-entry false)
+  b-turned true a b = places-ext (halfWidth N) _ _ (b₃-entry N true a b)
+  b-turned false a b = places-ext (halfWidth N) _ _ (b₃-entry N false a b)
 
--- ---- the pairs of a fold: a block from its start and from its end
+-- ---- the fold: a block's halves, each from its end
 abbrev pub reversed : ℕ → List ℤ → List ℤ
 reversed M x = places M (λ i. at x (M - 1 - i))
-
-abbrev pub starts : ℕ → List ℤ → List ℤ
-starts N x = places (halfWidth N) (at x)
 
 abbrev pub ends : ℕ → List ℤ → List ℤ
 ends N x = places (halfWidth N) (λ i. at x (N - 1 - i))
 
-module _ (N : ℕ) (x : List ℤ) (long : length x ≡ N) (half : halfWidth N + halfWidth N ≡ N) where
-  pub read-starts : places (halfWidth N) (λ i. at x ((0 + i * 1) % length x)) ≡ starts N x
-  read-starts = places-ext (halfWidth N) _ _ (λ i l. ap (at x) (mod-eq-of-lt (omega arith) ∙ omega arith))
-
-  pub read-ends : places (halfWidth N) (λ i. at x ((N - 1 + i * (N - 1)) % length x)) ≡ ends N x
-  read-ends =
-      places-ext (halfWidth N) _ _
-      (λ i l. let k : i < N = omega arith in sym (at-places N (λ i. at x ((N - 1 + i * (N - 1)) % length x)) i k) ∙ ap (λ xs. at xs i) (stride-reverse x N long) ∙ at-places N _ i k)
-
--- ---- the fold
 module _ (N : ℕ) (x : List ℤ) where
-  abbrev pub foldedA : List ℤ
-  foldedA = places (halfWidth N) (λ n. rotatedA N n (at (starts N x) n) (at (ends N x) n))
-
-  abbrev pub foldedB : List ℤ
-  foldedB = places (halfWidth N) (λ n. rotatedB N n (at (starts N x) n) (at (ends N x) n))
-
-  pub lower-is : reversed (halfWidth N) foldedA ≡ lower N x
+  pub lower-is : turnedA N false (reversed (halfWidth N) x) (ends N x) ≡ lower N x
   unfolding lower
-  lower-is =
-      places-ext (halfWidth N) _ _
-      (λ i l. let n = halfWidth N - 1 - i in let k : n < halfWidth N = omega arith in at-places (halfWidth N) _ n k ∙ ap₂ (rotatedA N n) (at-places (halfWidth N) _ n k) (at-places (halfWidth N) _ n k))
+  lower-is = let M = halfWidth N in places-ext M _ _ (λ i l. ap₂ (rotatedA N (M - 1 - i)) (at-places M _ i l) (at-places M _ (M - 1 - i) (omega arith)))
 
-  pub held-is : foldedB ≡ held N x
+  pub held-is : turnedB N false (reversed (halfWidth N) x) (ends N x) ≡ held N x
   unfolding held
-  held-is = places-ext (halfWidth N) _ _ (λ n l. ap₂ (rotatedB N n) (at-places (halfWidth N) _ n l) (at-places (halfWidth N) _ n l))
+  held-is = let M = halfWidth N in places-ext M _ _ (λ n l. ap₂ (rotatedB N n) (at-places M _ (M - 1 - n) (omega arith) ∙ ap (at x) (there-again M n l)) (at-places M _ n l))
 
 -- ---- and back
 module _ (N : ℕ) (low high : List ℤ) (half : halfWidth N + halfWidth N ≡ N) where
-  abbrev pub unfoldedA : List ℤ
-  unfoldedA = places (halfWidth N) (λ n. unrotatedA N n (at (reversed (halfWidth N) low) n) (at high n))
+  abbrev front : List ℤ
+  front = turnedA N true (reversed (halfWidth N) low) (reversed (halfWidth N) high)
 
-  abbrev pub unfoldedB : List ℤ
-  unfoldedB = places (halfWidth N) (λ n. unrotatedB N n (at (reversed (halfWidth N) low) n) (at high n))
+  abbrev rest : List ℤ
+  rest = turnedB N true (reversed (halfWidth N) low) (reversed (halfWidth N) high)
 
-  pub block-is : unfoldedA ++ reversed (halfWidth N) unfoldedB ≡ unfolded N low high
+  pub block-is : front ++ rest ≡ unfolded N low high
   unfolding unfolded
   block-is =
-      by-places N (unfoldedA ++ reversed (halfWidth N) unfoldedB) _
-      (length-append unfoldedA _ ∙ ap₂ _+_ (length-places (halfWidth N) _) (length-places (halfWidth N) _) ∙ half)
-      (λ j l. at-append unfoldedA (reversed (halfWidth N) unfoldedB) (halfWidth N) j (length-places (halfWidth N) _) ∙ by j l (ltb j (halfWidth N)) refl)
+      by-places N (front ++ rest) _
+      (length-append front rest ∙ ap₂ _+_ (length-places (halfWidth N) _) (length-places (halfWidth N) _) ∙ half)
+      (λ j l. at-append front rest (halfWidth N) j (length-places (halfWidth N) _) ∙ by j l (ltb j (halfWidth N)) refl)
     where
       by : (j : ℕ) → j < N → (t : Bool) → ltb j (halfWidth N) ≡ t
-          → cond t (at unfoldedA j) (at (reversed (halfWidth N) unfoldedB) (j - halfWidth N))
+          → cond t (at front j) (at rest (j - halfWidth N))
           ≡ cond t (unrotatedA N j (at low (halfWidth N - 1 - j)) (at high j)) (let n = N - 1 - j in unrotatedB N n (at low (halfWidth N - 1 - n)) (at high n))
       by j l true e =
-          let k = ltb-true j (halfWidth N) e in
-          at-places (halfWidth N) _ j k ∙ ap (λ z. unrotatedA N j z (at high j)) (at-places (halfWidth N) _ j k)
+          let M = halfWidth N in
+          let k = ltb-true j M e in
+          at-places M _ j k ∙ ap₂ (unrotatedA N j) (at-places M _ j k) (at-places M _ (M - 1 - j) (omega arith) ∙ ap (at high) (there-again M j k))
       by j l false e =
-          let g = ltb-false j (halfWidth N) e in
-          let n = N - 1 - j in
-          let k : n < halfWidth N = omega arith in
-          let i : halfWidth N - 1 - (j - halfWidth N) ≡ n = omega arith in
-          at-places (halfWidth N) _ (j - halfWidth N) (omega arith) ∙ ap (at unfoldedB) i ∙ at-places (halfWidth N) _ n k ∙ ap (λ z. unrotatedB N n z (at high n)) (at-places (halfWidth N) _ n k)
+          let M = halfWidth N in
+          let g = ltb-false j M e in
+          let i = j - M in
+          let k : i < M = omega arith in
+          let n : M - 1 - i ≡ N - 1 - j = omega arith in
+          at-places M _ i k ∙ ap₂ (unrotatedB N (M - 1 - i)) (at-places M _ (M - 1 - i) (omega arith)) (at-places M _ i k) ∙ ap (λ m. unrotatedB N m (at low (M - 1 - m)) (at high m)) n

@@ -1,119 +1,55 @@
 // The fold of a block by rotations of its readings in pairs, and the fold undone.
 ghost use mathlib.Core.Bool.{cond};
+ghost use mathlib.Core.List.{_++_};
 ghost use mathlib.Core.Path.{_≡_};
+ghost use Prim.Native.Nat.{_-_, _<_};
 ghost use lib.ListN.{length};
 ghost use Rattle.integers.specs.Places.{places, at, Within};
 ghost use Rattle.tables.specs.Widths.{halfWidth};
 ghost use Rattle.steps.specs.Steps.{rotatedA, rotatedB, unrotatedA, unrotatedB};
-ghost use Rattle.stages.specs.Expanded.{Tangents, Sines, Halves, Room, Width};
-use stages::expand;
+ghost use Rattle.stages.specs.Expanded.{Halves, Width};
+use stages::lifts;
 use stages::room;
 use stages::vectors;
 
-// Each pair of a and b rotated at its place, or all rotated back; spare is room to work in.
-fn rotate(
-    undo: bool,
-    width: usize,
-    tangents: &[i64],
-    sines: &[i64],
-    a: &mut [i64],
-    b: &mut [i64],
-    spare: &mut [i64],
-)
-    requires { ⌜ Tangents width (now tangents) ⌝ }
-    requires { ⌜ Sines width (now sines) ⌝ }
-    requires { ⌜ Halves width (now a) (now b) ⌝ }
-    requires { ⌜ length (now spare) ≡ halfWidth width ⌝ }
-    requires { ⌜ Within 50000 (now a) ⌝ }
-    requires { ⌜ Within 50000 (now b) ⌝ }
-    ensures { λ _. ⌜ (now (a .exit) ≡ cond undo (places (halfWidth width) (λ n. unrotatedA width n (at (now (a .entry)) n) (at (now (b .entry)) n))) (places (halfWidth width) (λ n. rotatedA width n (at (now (a .entry)) n) (at (now (b .entry)) n)))) × (now (b .exit) ≡ cond undo (places (halfWidth width) (λ n. unrotatedB width n (at (now (a .entry)) n) (at (now (b .entry)) n))) (places (halfWidth width) (λ n. rotatedB width n (at (now (a .entry)) n) (at (now (b .entry)) n)))) ⌝ }
-{
-    vectors::products(tangents, a, spare);
-    vectors::lift(undo, 28, spare, b);
-    vectors::products(sines, b, spare);
-    vectors::lift(undo, 28, spare, a);
-    vectors::products(tangents, a, spare);
-    vectors::lift(undo, 28, spare, b);
-}
-
-fn rotated(undo: bool, width: usize, half: usize, a: &mut [i64], b: &mut [i64])
-    requires { ⌜ Width width half ⌝ }
+// Every pair rotated, or rotated back. One of a and b lies from its end: a as folded places have it, b as a block has it.
+fn rotate(undo: bool, width: usize, a: &mut [i64], b: &mut [i64])
+    requires { ⌜ 0 < halfWidth width ⌝ }
     requires { ⌜ Halves width (now a) (now b) ⌝ }
     requires { ⌜ Within 50000 (now a) ⌝ }
     requires { ⌜ Within 50000 (now b) ⌝ }
-    ensures { λ _. ⌜ (now (a .exit) ≡ cond undo (places (halfWidth width) (λ n. unrotatedA width n (at (now (a .entry)) n) (at (now (b .entry)) n))) (places (halfWidth width) (λ n. rotatedA width n (at (now (a .entry)) n) (at (now (b .entry)) n)))) × (now (b .exit) ≡ cond undo (places (halfWidth width) (λ n. unrotatedB width n (at (now (a .entry)) n) (at (now (b .entry)) n))) (places (halfWidth width) (λ n. rotatedB width n (at (now (a .entry)) n) (at (now (b .entry)) n)))) ⌝ }
+    ensures { λ _. ⌜ now (a .exit) ≡ places (halfWidth width) (λ i. let j = halfWidth width - 1 - i in cond undo (unrotatedA width i (at (now (a .entry)) i) (at (now (b .entry)) j)) (rotatedA width j (at (now (a .entry)) i) (at (now (b .entry)) j))) ⌝ }
+    ensures { λ _. ⌜ now (b .exit) ≡ places (halfWidth width) (λ i. let j = halfWidth width - 1 - i in cond undo (unrotatedB width j (at (now (a .entry)) j) (at (now (b .entry)) i)) (rotatedB width i (at (now (a .entry)) j) (at (now (b .entry)) i))) ⌝ }
 {
-    let mut tangents = room::of_64();
-    let mut sines = room::of_64();
-    let mut spare = room::of_64();
-    expand::tangents(width, &mut tangents[..half]);
-    expand::sines(width, &mut sines[..half]);
-    rotate(
-        undo,
-        width,
-        &tangents[..half],
-        &sines[..half],
-        a,
-        b,
-        &mut spare[..half],
-    );
-}
-
-fn folded(
-    width: usize,
-    half: usize,
-    block: &[i64],
-    a: &mut [i64],
-    lower: &mut [i64],
-    held: &mut [i64],
-)
-    requires { ⌜ Width width half ⌝ }
-    requires { ⌜ length (now block) ≡ width ⌝ }
-    requires { ⌜ (length (now a) ≡ halfWidth width) × (length (now lower) ≡ halfWidth width) × (length (now held) ≡ halfWidth width) ⌝ }
-    requires { ⌜ Within 50000 (now block) ⌝ }
-    ensures { λ _. ⌜ (now (lower .exit) ≡ Rattle.steps.specs.Steps.lower width (now (block .entry))) × (now (held .exit) ≡ Rattle.steps.specs.Steps.held width (now (block .entry))) ⌝ }
-{
-    vectors::strided(block, 0, 1, a);
-    vectors::strided(block, width - 1, width - 1, held);
-    rotated(false, width, half, a, held);
-    vectors::strided(a, half - 1, half - 1, lower);
+    lifts::by_tangents(undo, undo, width, a, b);
+    lifts::by_sines(undo, !undo, width, b, a);
+    lifts::by_tangents(undo, undo, width, a, b);
 }
 
 // A block to its lower folded places, and to the upper ones of the next frame.
-pub fn fold(width: usize, half: usize, block: &[i64], lower: &mut [i64], held: &mut [i64])
+pub fn fold(width: usize, half: usize, block: &[i32], lower: &mut [i64], held: &mut [i64])
     requires { ⌜ Width width half ⌝ }
     requires { ⌜ length (now block) ≡ width ⌝ }
     requires { ⌜ (length (now lower) ≡ halfWidth width) × (length (now held) ≡ halfWidth width) ⌝ }
     requires { ⌜ Within 50000 (now block) ⌝ }
     ensures { λ _. ⌜ (now (lower .exit) ≡ Rattle.steps.specs.Steps.lower width (now (block .entry))) × (now (held .exit) ≡ Rattle.steps.specs.Steps.held width (now (block .entry))) ⌝ }
 {
-    let mut a = room::of_64();
-    folded(width, half, block, &mut a[..half], lower, held);
+    vectors::widen_back(block, half - 1, lower);
+    vectors::widen_back(block, width - 1, held);
+    rotate(false, width, lower, held);
 }
 
-fn unfolded(
-    width: usize,
-    half: usize,
-    lower: &[i64],
-    held: &[i64],
-    a: &mut [i64],
-    b: &mut [i64],
-    back: &mut [i64],
-    block: &mut [i64],
-)
-    requires { ⌜ Width width half ⌝ }
+fn unfolded(width: usize, lower: &[i64], held: &[i64], front: &mut [i64], rest: &mut [i64])
+    requires { ⌜ 0 < halfWidth width ⌝ }
     requires { ⌜ Halves width (now lower) (now held) ⌝ }
-    requires { ⌜ Room width (now a) (now b) (now back) ⌝ }
-    requires { ⌜ length (now block) ≡ width ⌝ }
+    requires { ⌜ Halves width (now front) (now rest) ⌝ }
     requires { ⌜ Within 50000 (now lower) ⌝ }
     requires { ⌜ Within 50000 (now held) ⌝ }
-    ensures { λ _. ⌜ now (block .exit) ≡ Rattle.steps.specs.Steps.unfolded width (now (lower .entry)) (now (held .entry)) ⌝ }
+    ensures { λ _. ⌜ now (front .exit) ++ now (rest .exit) ≡ Rattle.steps.specs.Steps.unfolded width (now (lower .entry)) (now (held .entry)) ⌝ }
 {
-    vectors::strided(lower, half - 1, half - 1, a);
-    vectors::strided(held, 0, 1, b);
-    rotated(true, width, half, a, b);
-    vectors::strided(b, half - 1, half - 1, back);
-    vectors::join(a, back, block);
+    vectors::reverse(lower, front);
+    vectors::reverse(held, rest);
+    rotate(true, width, front, rest);
 }
 
 // The block of these folded places.
@@ -125,17 +61,7 @@ pub fn unfold(width: usize, half: usize, lower: &[i64], held: &[i64], block: &mu
     requires { ⌜ Within 50000 (now held) ⌝ }
     ensures { λ _. ⌜ now (block .exit) ≡ Rattle.steps.specs.Steps.unfolded width (now (lower .entry)) (now (held .entry)) ⌝ }
 {
-    let mut a = room::of_64();
-    let mut b = room::of_64();
-    let mut back = room::of_64();
-    unfolded(
-        width,
-        half,
-        lower,
-        held,
-        &mut a[..half],
-        &mut b[..half],
-        &mut back[..half],
-        block,
-    );
+    let mut rest = room::of_64();
+    unfolded(width, lower, held, &mut block[..half], &mut rest[..half]);
+    vectors::copy(&rest[..half], &mut block[half..]);
 }

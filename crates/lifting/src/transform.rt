@@ -1,4 +1,4 @@
-// A frame from its folded values by the five stages, and its way back. The tables are expanded for each call.
+// A frame from its folded values by the five stages, and its way back.
 ghost use mathlib.Core.Bool.{cond};
 ghost use mathlib.Core.Path.{_≡_};
 ghost use Prim.Native.Nat.{_+_, _<_};
@@ -7,7 +7,6 @@ ghost use Rattle.integers.specs.Places.{Within};
 ghost use Rattle.tables.specs.Widths.{halfWidth};
 ghost use Rattle.steps.specs.Steps.{stages, unstages};
 ghost use Rattle.stages.specs.Expanded.{Halves, top4, bottom5, untop2, unbottom1, Width};
-use stages::arranged;
 use stages::expand;
 use stages::room;
 use stages::vectors;
@@ -19,30 +18,20 @@ fn staged(undo: bool, width: usize, half: usize, top: &mut [i64], bottom: &mut [
     requires { ⌜ Within (cond undo 1048576 50000) (now bottom) ⌝ }
     ensures { λ _. ⌜ (now (top .exit) ≡ cond undo (untop2 width (now (top .entry)) (now (bottom .entry))) (top4 width (now (top .entry)) (now (bottom .entry)))) × (now (bottom .exit) ≡ cond undo (unbottom1 width (now (top .entry)) (now (bottom .entry))) (bottom5 width (now (top .entry)) (now (bottom .entry)))) ⌝ }
 {
-    let mut turn = room::of_128();
-    let mut secants = room::of_128();
-    let mut tangents = room::of_64();
-    let mut sines = room::of_64();
     let mut a = room::of_64();
     let mut b = room::of_64();
+    let mut c = room::of_64();
     let mut row = room::of_64();
-    arranged::turn(width, &mut turn[..width]);
-    arranged::secants(width, &mut secants[..width]);
-    expand::tangents(width, &mut tangents[..half]);
-    expand::sines(width, &mut sines[..half]);
     let root = expand::root_log(width);
     stages::stages::all(
         undo,
         width,
         root,
-        &turn[..width],
-        &secants[..width],
-        &tangents[..half],
-        &sines[..half],
         top,
         bottom,
         &mut a[..half],
         &mut b[..half],
+        &mut c[..half],
         &mut row[..half],
     );
 }

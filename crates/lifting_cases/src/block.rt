@@ -22,15 +22,23 @@ fn narrowed(x: &[i64], out: &mut [i32])
     }
 }
 
-fn fold_wide(width: usize, half: usize, wide: &[i64], lower: &mut [i32], held: &mut [i32])
+fn fold_wide(
+    width: usize,
+    half: usize,
+    block: &[i32],
+    wide: &[i64],
+    lower: &mut [i32],
+    held: &mut [i32],
+)
     requires { ⌜ Width width half ⌝ }
-    requires { ⌜ (length (now wide) ≡ width) × (length (now lower) ≡ halfWidth width) × (length (now held) ≡ halfWidth width) ⌝ }
+    requires { ⌜ now wide ≡ now block ⌝ }
+    requires { ⌜ (length (now block) ≡ width) × (length (now lower) ≡ halfWidth width) × (length (now held) ≡ halfWidth width) ⌝ }
 {
     let beyond = gate::first_beyond(wide, 32767);
     if let Found::Nothing = beyond {
         let mut low = room::of_64();
         let mut high = room::of_64();
-        folding::fold(width, half, wide, &mut low[..half], &mut high[..half]);
+        folding::fold(width, half, block, &mut low[..half], &mut high[..half]);
         narrowed(&low[..half], lower);
         narrowed(&high[..half], held);
     }
@@ -42,7 +50,7 @@ fn fold(width: usize, half: usize, block: &[i32], lower: &mut [i32], held: &mut 
 {
     let mut wide = room::of_128();
     vectors::widen(block, &mut wide[..width]);
-    fold_wide(width, half, &wide[..width], lower, held);
+    fold_wide(width, half, block, &wide[..width], lower, held);
 }
 
 fn unfold_wide(width: usize, half: usize, low: &[i64], high: &[i64], block: &mut [i32])

@@ -9,4 +9,5 @@ pub mod RaisedLaws
 pub mod StageLaws
 pub mod StageSizes
 pub mod TableSizes
+pub mod LiftLaws
 pub mod FrameSizes

@@ -3,7 +3,7 @@ use mathlib.Core.Path.{_≡_, refl, ap, ap₂, _∙_}
 use mathlib.Core.Bool.{Bool, true, false, cond}
 use mathlib.Core.List.{List}
 use Prim.Native.Nat.{ℕ, _+_, _-_, _*_, _%_, _^_, _<_}
-use native.Mathlib.Nat.{mod-eq-of-lt, mul-add-mod-self-left, pow-succ'}
+use native.Mathlib.Nat.{mod-eq-of-lt, pow-succ'}
 use native.Mathlib.Numerals.{add-one}
 use native.Mathlib.Omega.{arith}
 use lib.IntN.{ℤ, pos, negℤ, _+ℤ_, _-ℤ_, _*ℤ_}
@@ -17,7 +17,7 @@ use Rattle.tables.specs.Widths.{byWidth, halfWidth}
 use Rattle.tables.proofs.ByWidth.{at-each}
 use Rattle.steps.specs.Steps.{rootLog, cosine, secant, alternate, amount1, amount2, amount3, sineAmount, tangentAmount, tangent, stage1, stage2, stage3, stage4, stage5, unstage1, unstage2, unstage3, unstage4, unstage5}
 use Rattle.stages.specs.Moves.{moved, flipped}
-use Rattle.stages.specs.Expanded.{cosineSums, secantSums, third, Tangents, Sines}
+use Rattle.stages.specs.Expanded.{cosineSums, secantSums, third}
 
 -- what `lift` and `alternate` give
 abbrev pub lifted : Bool → ℕ → List ℤ → List ℤ → List ℤ
@@ -34,19 +34,6 @@ respoken n y f g l h = ap (λ k. places k f) l ∙ places-ext n f g h
 pub stride-copy : (x : List ℤ) (n : ℕ) → length x ≡ n → places n (λ i. at x ((0 + i * 1) % length x)) ≡ x
 stride-copy x n e = places-ext n _ (at x) (λ i l. ap (at x) (ap (λ k. k % length x) (omega arith) ∙ mod-eq-of-lt (omega arith))) ∙ places-at n x e
 
-end-index : (i d : ℕ) → i + d + i * (i + d) ≡ (i + 1 + d) * i + d
-end-index i d = omega arith
-
-from-end : (n i : ℕ) → i < n → n - 1 + i * (n - 1) ≡ n * i + (n - 1 - i)
-from-end n i h =
-    let e : n - 1 ≡ i + (n - 1 - i) = omega arith in
-    let f : i + 1 + (n - 1 - i) ≡ n = omega arith in
-    ap (λ k. k + i * k) e ∙ end-index i (n - 1 - i) ∙ ap (λ k. k * i + (n - 1 - i)) f
-
-pub stride-reverse : (x : List ℤ) (n : ℕ) → length x ≡ n → places n (λ i. at x ((n - 1 + i * (n - 1)) % length x)) ≡ places n (λ i. at x (n - 1 - i))
-stride-reverse x n e =
-    places-ext n _ _ (λ i l. ap (at x) (ap₂ (λ p q. p % q) (from-end n i l) e ∙ mul-add-mod-self-left n i (n - 1 - i) ∙ mod-eq-of-lt (omega arith)))
-
 -- ---- M and √M as powers of two
 pub half-power : (N : ℕ) → 0 < halfWidth N → 2 ^ (2 * rootLog N) ≡ halfWidth N
 unfolding rootLog halfWidth byWidth
@@ -58,17 +45,11 @@ twice-root l = rw add-one (pow-succ' 2 l)
 minus-inside : (s c p t x : ℤ) → negℤ s -ℤ c +ℤ p *ℤ (negℤ t *ℤ x) ≡ negℤ s -ℤ c -ℤ p *ℤ (t *ℤ x)
 minus-inside s c p t x = simp ring
 
--- ---- the amounts of stages 3, 4 and 5 before rounding, as the code makes them; the tangents are −t
-abbrev pub amounts3 : ℕ → List ℤ → List ℤ → List ℤ
-amounts3 N tangents top =
-    let s = secantSums N top in
-    places (length s) (λ i. third (rootLog N) (at s i) (at (cosineSums N top) i) (at tangents (length s - 1 - i) *ℤ at top (length s - 1 - i)))
-
-abbrev pub amounts4 : ℕ → List ℤ → List ℤ → List ℤ
-amounts4 M sines bottom = places M (λ m. at sines m *ℤ at (places M (λ i. at bottom (M - 1 - i))) m)
-
-abbrev pub amounts5 : ℕ → List ℤ → List ℤ → List ℤ
-amounts5 M tangents top = places M (λ i. at (places M (λ m. at tangents m *ℤ at top m)) (M - 1 - i))
+-- ---- the amounts of stage 3 before rounding, as the code makes them
+abbrev pub amounts3 : ℕ → List ℤ → List ℤ
+amounts3 N top =
+    let M = halfWidth N in
+    places M (λ i. third (rootLog N) (at (secantSums N top) i) (at (cosineSums N top) i) (negℤ (tangent N (M - 1 - i)) *ℤ at top (M - 1 - i)))
 
 -- ---- the stages
 module _ (N : ℕ) (top bottom : List ℤ) (ht : length top ≡ halfWidth N) (hb : length bottom ≡ halfWidth N) where
@@ -106,42 +87,29 @@ module _ (N : ℕ) (top bottom : List ℤ) (ht : length top ≡ halfWidth N) (hb
       respoken M (lifted true (28 + rootLog N) (cosineSums N bottom) top) _ _ (length-places _ _ ∙ ht)
       (λ m l. ap (λ z. negℤ (alternate m z)) (at-places (length top) _ m (omega arith) ∙ ap (λ z. at top m -ℤ z) (sums2 m l)))
 
-  pub amounts3-at : (tangents : List ℤ) → Tangents N tangents → (m : ℕ) → m < M → round (28 + 2 * rootLog N) (at (amounts3 N tangents top) m) ≡ amount3 N top m
+  pub amounts3-at : (m : ℕ) → m < M → round (28 + 2 * rootLog N) (at (amounts3 N top) m) ≡ amount3 N top m
   unfolding amount3 secantSums cosineSums third
-  amounts3-at tangents t m l =
-      let e = length-places M (λ m. sum M (λ n. secant N m n *ℤ at top n)) in
-      let j : M - 1 - m < M = omega arith in
+  amounts3-at m l =
       let S = sum M (λ n. secant N m n *ℤ at top n) in
       let C = sum M (λ n. cosine N m n *ℤ at top n) in
       ap (round (28 + 2 * rootLog N))
-      (at-places _ _ m (omega arith)
-      ∙ ap (λ k. negℤ (at (secantSums N top) m) -ℤ pos (2 ^ (rootLog N + 1)) *ℤ at (cosineSums N top) m +ℤ pos (2 ^ (2 * rootLog N)) *ℤ (at tangents (k - 1 - m) *ℤ at top (k - 1 - m))) e
-      ∙ ap₂ (λ s c. negℤ s -ℤ pos (2 ^ (rootLog N + 1)) *ℤ c +ℤ pos (2 ^ (2 * rootLog N)) *ℤ (at tangents (M - 1 - m) *ℤ at top (M - 1 - m))) (at-places M _ m l) (at-places M _ m l)
-      ∙ ap (λ z. negℤ S -ℤ pos (2 ^ (rootLog N + 1)) *ℤ C +ℤ pos (2 ^ (2 * rootLog N)) *ℤ (z *ℤ at top (M - 1 - m))) (ap (λ xs. at xs (M - 1 - m)) (t .is) ∙ at-places M _ (M - 1 - m) j)
+      (at-places M _ m l
+      ∙ ap₂ (λ s c. negℤ s -ℤ pos (2 ^ (rootLog N + 1)) *ℤ c +ℤ pos (2 ^ (2 * rootLog N)) *ℤ (negℤ (tangent N (M - 1 - m)) *ℤ at top (M - 1 - m))) (at-places M _ m l) (at-places M _ m l)
       ∙ ap₂ (λ p q. negℤ S -ℤ pos p *ℤ C +ℤ pos q *ℤ (negℤ (tangent N (M - 1 - m)) *ℤ at top (M - 1 - m))) (twice-root (rootLog N)) (half-power N (omega arith))
       ∙ minus-inside S (pos (2 * 2 ^ rootLog N) *ℤ C) (pos M) (tangent N (M - 1 - m)) (at top (M - 1 - m)))
 
-  pub stage3-is : (undo : Bool) (tangents : List ℤ) → Tangents N tangents → lifted undo (28 + 2 * rootLog N) (amounts3 N tangents top) bottom ≡ cond undo (unstage3 N top bottom) (stage3 N top bottom)
+  pub stage3-is : (undo : Bool) → lifted undo (28 + 2 * rootLog N) (amounts3 N top) bottom ≡ cond undo (unstage3 N top bottom) (stage3 N top bottom)
   unfolding stage3 unstage3 moved
-  stage3-is true tangents t = respoken M bottom _ _ hb (λ m l. ap (λ z. at bottom m -ℤ z) (amounts3-at tangents t m l))
-  stage3-is false tangents t = respoken M bottom _ _ hb (λ m l. ap (λ z. at bottom m +ℤ z) (amounts3-at tangents t m l))
+  stage3-is true = respoken M bottom _ _ hb (λ m l. ap (λ z. at bottom m -ℤ z) (amounts3-at m l))
+  stage3-is false = respoken M bottom _ _ hb (λ m l. ap (λ z. at bottom m +ℤ z) (amounts3-at m l))
 
-  amounts4-at : (sines : List ℤ) → Sines N sines → (m : ℕ) → m < M → round 28 (at (amounts4 M sines bottom) m) ≡ sineAmount N m (at bottom (M - 1 - m))
-  unfolding sineAmount
-  amounts4-at sines s m l = ap (round 28) (at-places M _ m l ∙ ap₂ _*ℤ_ (ap (λ xs. at xs m) (s .is) ∙ at-places M _ m l) (at-places M _ m l))
-
-  pub stage4-is : (undo : Bool) (sines : List ℤ) → Sines N sines → lifted undo 28 (amounts4 M sines bottom) top ≡ cond undo (unstage4 N top bottom) (stage4 N top bottom)
+module _ (N : ℕ) (top bottom : List ℤ) where
+  pub stage4-is : (undo : Bool) → places (halfWidth N) (λ m. moved undo (at top m) (sineAmount N m (at bottom (halfWidth N - 1 - m)))) ≡ cond undo (unstage4 N top bottom) (stage4 N top bottom)
   unfolding stage4 unstage4 moved
-  stage4-is true sines s = respoken M top _ _ ht (λ m l. ap (λ z. at top m -ℤ z) (amounts4-at sines s m l))
-  stage4-is false sines s = respoken M top _ _ ht (λ m l. ap (λ z. at top m +ℤ z) (amounts4-at sines s m l))
+  stage4-is true = refl
+  stage4-is false = refl
 
-  amounts5-at : (tangents : List ℤ) → Tangents N tangents → (i : ℕ) → i < M → round 28 (at (amounts5 M tangents top) i) ≡ tangentAmount N (M - 1 - i) (at top (M - 1 - i))
-  unfolding tangentAmount
-  amounts5-at tangents t i l =
-      let j : M - 1 - i < M = omega arith in
-      ap (round 28) (at-places M _ i l ∙ at-places M _ (M - 1 - i) j ∙ ap (λ z. z *ℤ at top (M - 1 - i)) (ap (λ xs. at xs (M - 1 - i)) (t .is) ∙ at-places M _ (M - 1 - i) j))
-
-  pub stage5-is : (undo : Bool) (tangents : List ℤ) → Tangents N tangents → lifted undo 28 (amounts5 M tangents top) bottom ≡ cond undo (unstage5 N top bottom) (stage5 N top bottom)
+  pub stage5-is : (undo : Bool) → places (halfWidth N) (λ i. let m = halfWidth N - 1 - i in moved undo (at bottom i) (tangentAmount N m (at top m))) ≡ cond undo (unstage5 N top bottom) (stage5 N top bottom)
   unfolding stage5 unstage5 moved
-  stage5-is true tangents t = respoken M bottom _ _ hb (λ i l. ap (λ z. at bottom i -ℤ z) (amounts5-at tangents t i l))
-  stage5-is false tangents t = respoken M bottom _ _ hb (λ i l. ap (λ z. at bottom i +ℤ z) (amounts5-at tangents t i l))
+  stage5-is true = refl
+  stage5-is false = refl

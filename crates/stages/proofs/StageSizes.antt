@@ -20,7 +20,7 @@ use Rattle.tables.proofs.ByWidth.{at-each, half-width-le}
 use Rattle.tables.proofs.Quadrants.{signed-size}
 use Rattle.steps.specs.Steps.{rootLog, cosine, secant, alternate, amount1, amount2, amount3, sineAmount, tangentAmount, sine, tangent, stage1, stage2, stage3, stage4, stage5, unstage1, unstage2, unstage3, unstage4, unstage5}
 use Rattle.stages.specs.Moves.{moved, flipped, Moves}
-use Rattle.stages.specs.Expanded.{cosineSums, secantSums, Tangents}
+use Rattle.stages.specs.Expanded.{cosineSums, secantSums}
 use Rattle.stages.proofs.StageLaws.{lifted, altered, amounts3, amounts3-at}
 use Rattle.stages.proofs.SecantRows.{cosine-entry-size, secant-row, tangent-size, sine-size}
 
@@ -168,15 +168,13 @@ pub cosine-sums-wide : (N : ℕ) (x : List ℤ) → Within 500000000 x → Withi
 cosine-sums-wide N x h = within-up (cosine-sums-size N 500000000 x h) (omega (arith, half-width-le N))
 
 -- what stage 3 adds
-pub amounts3-move : (N : ℕ) (tangents top bottom : List ℤ) → length top ≡ halfWidth N → length bottom ≡ halfWidth N → Tangents N tangents → Within 7500000 top
-    → Moves (28 + 2 * rootLog N) (amounts3 N tangents top)
-unfolding secantSums
-amounts3-move N tangents top bottom ht hb t h = record { small = λ i. by i (ltb i (halfWidth N)) refl }
+pub amounts3-move : (N : ℕ) (top bottom : List ℤ) → length top ≡ halfWidth N → length bottom ≡ halfWidth N → Within 7500000 top → Moves (28 + 2 * rootLog N) (amounts3 N top)
+amounts3-move N top bottom ht hb h = record { small = λ i. by i (ltb i (halfWidth N)) refl }
   where
-    long : length (amounts3 N tangents top) ≡ halfWidth N
-    long = length-places _ _ ∙ length-places _ _
+    long : length (amounts3 N top) ≡ halfWidth N
+    long = length-places _ _
 
-    by : (i : ℕ) (b : Bool) → ltb i (halfWidth N) ≡ b → natAbs (round (28 + 2 * rootLog N) (at (amounts3 N tangents top) i)) ≤ 2 ^ 61
-    by i true e = let l = ltb-true i (halfWidth N) e in rw (amounts3-at N top bottom ht hb tangents t i l) (omega (arith, amount3-size N 7500000 i top l h))
+    by : (i : ℕ) (b : Bool) → ltb i (halfWidth N) ≡ b → natAbs (round (28 + 2 * rootLog N) (at (amounts3 N top) i)) ≤ 2 ^ 61
+    by i true e = let l = ltb-true i (halfWidth N) e in rw (amounts3-at N top bottom ht hb i l) (omega (arith, amount3-size N 7500000 i top l h))
     by i false e =
-        rw (List·getD-eq-default (amounts3 N tangents top) (pos 0) {n = i} (omega (arith, long, ltb-false i (halfWidth N) e))) (round-within (28 + 2 * rootLog N) (2 ^ 61) (pos 0) (omega arith))
+        rw (List·getD-eq-default (amounts3 N top) (pos 0) {n = i} (omega (arith, long, ltb-false i (halfWidth N) e))) (round-within (28 + 2 * rootLog N) (2 ^ 61) (pos 0) (omega arith))

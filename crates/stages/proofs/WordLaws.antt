@@ -116,13 +116,13 @@ module _ (n : ℕ) (t weights x : List ℤ) (r : Raised n t weights) (tl : lengt
       ∙ sum-ext n _ _ (λ j l. ap (λ y. at t (i + j) *ℤ y) (at-places n f j l) ∙ one-term (at t (i + j)) (at (lowered t) (i + j)) (at x j) (pos 134217728) (pos (2 ^ 28)) (lowered-at (i + j) (omega arith)))
       ∙ sum-plus n _ _
       ∙ ap₂ _+ℤ_
-        (sym (sum-scaled n (pos (2 ^ 28)) f) ∙ ap (λ y. pos (2 ^ 28) *ℤ y) (sum-ext n _ _ (λ j l. sym (at-places n f j l))))
-        (sum-plus n _ _
-        ∙ ap₂ _+ℤ_
-          (sym (sum-scaled n (pos (2 ^ 27)) (λ j. at (lowered t) (i + j)))
-          ∙ ap (λ y. pos (2 ^ 27) *ℤ y) (sum-ext n _ _ (λ j l. lowered-at (i + j) (omega arith)))
-          ∙ sym (ap (λ w. at w i) (r .weights-are) ∙ at-places n _ i h))
-          (ap (λ m. sum m (λ j. at (lowered t) (i + j) *ℤ at x j)) (sym xl)))
+      (sym (sum-scaled n (pos (2 ^ 28)) f) ∙ ap (λ y. pos (2 ^ 28) *ℤ y) (sum-ext n _ _ (λ j l. sym (at-places n f j l))))
+      (sum-plus n _ _
+      ∙ ap₂ _+ℤ_
+      (sym (sum-scaled n (pos (2 ^ 27)) (λ j. at (lowered t) (i + j)))
+      ∙ ap (λ y. pos (2 ^ 27) *ℤ y) (sum-ext n _ _ (λ j l. lowered-at (i + j) (omega arith)))
+      ∙ sym (ap (λ w. at w i) (r .weights-are) ∙ at-places n _ i h))
+      (ap (λ m. sum m (λ j. at (lowered t) (i + j) *ℤ at x j)) (sym xl)))
 
   pub window-small : (i : ℕ) → natAbs (window (lowered t) x i) ≤ 2 ^ 61
   window-small i =

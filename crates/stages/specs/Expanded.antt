@@ -68,17 +68,11 @@ pub record Halves (N : ℕ) (top bottom : List ℤ) : Type 0 where
 unfoldable pub third : ℕ → ℤ → ℤ → ℤ → ℤ
 third l secants cosines tangent = negℤ secants -ℤ pos (2 ^ (l + 1)) *ℤ cosines +ℤ pos (2 ^ (2 * l)) *ℤ tangent
 
--- the tables of a width, expanded; √M is 2^root
-pub record Tables (N root : ℕ) (tangents sines : List ℤ) : Type 0 where
-  pub tangents-are : Tangents N tangents
-  pub sines-are : Sines N sines
-  pub root-is : root ≡ rootLog N
-  pub wide : 0 < halfWidth N
-
 -- room to work in
-pub record Room (N : ℕ) (a b row : List ℤ) : Type 0 where
+pub record Room (N : ℕ) (a b c row : List ℤ) : Type 0 where
   pub a-long : length a ≡ halfWidth N
   pub b-long : length b ≡ halfWidth N
+  pub c-long : length c ≡ halfWidth N
   pub row-long : length row ≡ halfWidth N
 
 -- ---- the halves through all stages: after stages 1, 2 and 3, and the halves of the frame

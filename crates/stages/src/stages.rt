@@ -1,13 +1,13 @@
-// The five stages on the two halves of a frame, each with its way back. a, b and row are room to work in.
+// The five stages on the two halves of a frame, each with its way back. a, b, c and row are room to work in.
 ghost use mathlib.Core.Bool.{cond};
 ghost use mathlib.Core.Path.{_≡_};
-ghost use Prim.Native.Nat.{_-_, _^_, _<_, _≤_};
-ghost use lib.IntN.{natAbs, _*ℤ_};
+ghost use Prim.Native.Nat.{_^_, _<_};
 ghost use lib.ListN.{length};
-ghost use Rattle.integers.specs.Places.{places, at, Within};
+ghost use Rattle.integers.specs.Places.{Within};
 ghost use Rattle.tables.specs.Widths.{halfWidth};
 ghost use Rattle.steps.specs.Steps.{rootLog, stage1, stage2, stage3, stage4, stage5, unstage1, unstage2, unstage3, unstage4, unstage5};
-ghost use Rattle.stages.specs.Expanded.{third, Tangents, Sines, Halves, Tables, Room, top4, bottom5, untop2, unbottom1};
+ghost use Rattle.stages.specs.Expanded.{Halves, Room, top4, bottom5, untop2, unbottom1};
+use crate::lifts;
 use crate::sums;
 use crate::vectors;
 
@@ -20,18 +20,19 @@ fn first(
     bottom: &mut [i64],
     a: &mut [i64],
     b: &mut [i64],
+    c: &mut [i64],
     row: &mut [i64],
 )
     requires { ⌜ (root ≡ rootLog width) × (0 < halfWidth width) ⌝ }
     requires { ⌜ Halves width (now top) (now bottom) ⌝ }
-    requires { ⌜ (length (now a) ≡ halfWidth width) × (length (now b) ≡ halfWidth width) × (length (now row) ≡ halfWidth width) ⌝ }
+    requires { ⌜ Room width (now a) (now b) (now c) (now row) ⌝ }
     requires { ⌜ Within 500000000 (now top) ⌝ }
     requires { ⌜ Within (2 ^ 60) (now bottom) ⌝ }
     ensures { λ _. ⌜ now (bottom .exit) ≡ cond undo (unstage1 width (now (top .entry)) (now (bottom .entry))) (stage1 width (now (top .entry)) (now (bottom .entry))) ⌝ }
 {
     vectors::strided(top, 0, 1, a);
     vectors::alternate(false, a);
-    sums::cosine_sums(width, a, row, b);
+    sums::cosine_sums(width, a, row, c, b);
     if undo {
         vectors::lift(true, 27 + root, b, bottom);
         vectors::lift(true, 0, top, bottom);
@@ -49,16 +50,17 @@ fn second(
     top: &mut [i64],
     bottom: &[i64],
     a: &mut [i64],
+    c: &mut [i64],
     row: &mut [i64],
 )
     requires { ⌜ (root ≡ rootLog width) × (0 < halfWidth width) ⌝ }
     requires { ⌜ Halves width (now top) (now bottom) ⌝ }
-    requires { ⌜ (length (now a) ≡ halfWidth width) × (length (now row) ≡ halfWidth width) ⌝ }
+    requires { ⌜ (length (now a) ≡ halfWidth width) × (length (now c) ≡ halfWidth width) × (length (now row) ≡ halfWidth width) ⌝ }
     requires { ⌜ Within 500000000 (now bottom) ⌝ }
     requires { ⌜ Within (2 ^ 60) (now top) ⌝ }
     ensures { λ _. ⌜ now (top .exit) ≡ cond undo (unstage2 width (now (top .entry)) (now (bottom .entry))) (stage2 width (now (top .entry)) (now (bottom .entry))) ⌝ }
 {
-    sums::cosine_sums(width, bottom, row, a);
+    sums::cosine_sums(width, bottom, row, c, a);
     if undo {
         vectors::lift(true, 28 + root, a, top);
         vectors::alternate(true, top);
@@ -68,172 +70,99 @@ fn second(
     vectors::lift(false, 28 + root, a, top);
 }
 
-fn third_amount(root: u32, secants: i64, cosines: i64, tangent: i64) -> i64
-    requires { ⌜ (root ≤ 3) × (natAbs secants ≤ 2 ^ 60) × (natAbs cosines ≤ 2 ^ 57) × (natAbs tangent ≤ 2 ^ 56) ⌝ }
-    ensures { λ r. ⌜ r ≡ third root secants cosines tangent ⌝ }
-{
-    0 - secants - (1 << (root + 1)) * cosines + (1 << (2 * root)) * tangent
-}
-
-// What stage 3 adds, before rounding: a has the secant sums, and b the cosine sums.
-fn third_amounts(root: u32, tangents: &[i64], top: &[i64], a: &mut [i64], b: &[i64])
-    requires { ⌜ (root ≤ 3) × (length (now tangents) ≡ length (now a)) × (length (now top) ≡ length (now a)) × (length (now b) ≡ length (now a)) ⌝ }
-    requires { ⌜ Within (2 ^ 28) (now tangents) ⌝ }
-    requires { ⌜ Within 7500000 (now top) ⌝ }
-    requires { ⌜ Within (2 ^ 60) (now a) ⌝ }
-    requires { ⌜ Within (2 ^ 57) (now b) ⌝ }
-    ensures { λ _. ⌜ now (a .exit) ≡ places (length (now (a .entry))) (λ i. third root (at (now (a .entry)) i) (at (now (b .entry)) i) (at (now (tangents .entry)) (length (now (a .entry)) - 1 - i) *ℤ at (now (top .entry)) (length (now (a .entry)) - 1 - i))) ⌝ }
-{
-    let mut i = 0;
-    while i < a.len() {
-        let j = a.len() - 1 - i;
-        a[i] = third_amount(root, a[i], b[i], tangents[j] * top[j]);
-        i += 1;
-    }
-}
-
 // Stage 3: bottom loses the secant and the cosine sums and gains −t·top, rounded together.
 fn third(
     undo: bool,
     width: usize,
     root: u32,
-    tangents: &[i64],
     top: &[i64],
     bottom: &mut [i64],
     a: &mut [i64],
     b: &mut [i64],
+    c: &mut [i64],
     row: &mut [i64],
 )
-    requires { ⌜ Tangents width (now tangents) ⌝ }
     requires { ⌜ (root ≡ rootLog width) × (0 < halfWidth width) ⌝ }
     requires { ⌜ Halves width (now top) (now bottom) ⌝ }
-    requires { ⌜ (length (now a) ≡ halfWidth width) × (length (now b) ≡ halfWidth width) × (length (now row) ≡ halfWidth width) ⌝ }
+    requires { ⌜ Room width (now a) (now b) (now c) (now row) ⌝ }
     requires { ⌜ Within 7500000 (now top) ⌝ }
     requires { ⌜ Within (2 ^ 60) (now bottom) ⌝ }
     ensures { λ _. ⌜ now (bottom .exit) ≡ cond undo (unstage3 width (now (top .entry)) (now (bottom .entry))) (stage3 width (now (top .entry)) (now (bottom .entry))) ⌝ }
 {
-    sums::secant_sums(width, top, row, a);
-    sums::cosine_sums(width, top, row, b);
-    third_amounts(root, tangents, top, a, b);
+    sums::secant_sums(width, top, row, c, a);
+    sums::cosine_sums(width, top, row, c, b);
+    lifts::third_amounts(width, root, top, a, b);
     vectors::lift(undo, 28 + 2 * root, a, bottom);
 }
 
 // Stage 4: top gains the rounded s·bottom, bottom from its end.
-fn fourth(
-    undo: bool,
-    width: usize,
-    sines: &[i64],
-    top: &mut [i64],
-    bottom: &[i64],
-    a: &mut [i64],
-    b: &mut [i64],
-)
-    requires { ⌜ Sines width (now sines) ⌝ }
+fn fourth(undo: bool, width: usize, top: &mut [i64], bottom: &[i64])
     requires { ⌜ 0 < halfWidth width ⌝ }
     requires { ⌜ Halves width (now top) (now bottom) ⌝ }
-    requires { ⌜ (length (now a) ≡ halfWidth width) × (length (now b) ≡ halfWidth width) ⌝ }
     requires { ⌜ Within (2 ^ 34) (now bottom) ⌝ }
     requires { ⌜ Within (2 ^ 60) (now top) ⌝ }
     ensures { λ _. ⌜ now (top .exit) ≡ cond undo (unstage4 width (now (top .entry)) (now (bottom .entry))) (stage4 width (now (top .entry)) (now (bottom .entry))) ⌝ }
 {
-    let last = bottom.len() - 1;
-    vectors::strided(bottom, last, last, a);
-    vectors::products(sines, a, b);
-    vectors::lift(undo, 28, b, top);
+    lifts::by_sines(undo, false, width, bottom, top);
 }
 
 // Stage 5: bottom, from its end, gains the rounded −t·top.
-fn fifth(
-    undo: bool,
-    width: usize,
-    tangents: &[i64],
-    top: &[i64],
-    bottom: &mut [i64],
-    a: &mut [i64],
-    b: &mut [i64],
-)
-    requires { ⌜ Tangents width (now tangents) ⌝ }
+fn fifth(undo: bool, width: usize, top: &[i64], bottom: &mut [i64])
     requires { ⌜ 0 < halfWidth width ⌝ }
     requires { ⌜ Halves width (now top) (now bottom) ⌝ }
-    requires { ⌜ (length (now a) ≡ halfWidth width) × (length (now b) ≡ halfWidth width) ⌝ }
     requires { ⌜ Within (2 ^ 34) (now top) ⌝ }
     requires { ⌜ Within (2 ^ 60) (now bottom) ⌝ }
     ensures { λ _. ⌜ now (bottom .exit) ≡ cond undo (unstage5 width (now (top .entry)) (now (bottom .entry))) (stage5 width (now (top .entry)) (now (bottom .entry))) ⌝ }
 {
-    let last = top.len() - 1;
-    vectors::products(tangents, top, a);
-    vectors::strided(a, last, last, b);
-    vectors::lift(undo, 28, b, bottom);
+    lifts::by_tangents(undo, true, width, top, bottom);
 }
 
 fn forward(
     width: usize,
     root: u32,
-    tangents: &[i64],
-    sines: &[i64],
     top: &mut [i64],
     bottom: &mut [i64],
     a: &mut [i64],
     b: &mut [i64],
+    c: &mut [i64],
     row: &mut [i64],
 )
-    requires { ⌜ Tables width root (now tangents) (now sines) ⌝ }
+    requires { ⌜ (root ≡ rootLog width) × (0 < halfWidth width) ⌝ }
     requires { ⌜ Halves width (now top) (now bottom) ⌝ }
-    requires { ⌜ Room width (now a) (now b) (now row) ⌝ }
+    requires { ⌜ Room width (now a) (now b) (now c) (now row) ⌝ }
     requires { ⌜ Within 50000 (now top) ⌝ }
     requires { ⌜ Within 50000 (now bottom) ⌝ }
     ensures { λ _. ⌜ (now (top .exit) ≡ top4 width (now (top .entry)) (now (bottom .entry))) × (now (bottom .exit) ≡ bottom5 width (now (top .entry)) (now (bottom .entry))) ⌝ }
 {
-    first(false, width, root, top, bottom, a, b, row);
-    second(false, width, root, top, bottom, a, row);
-    third(
-        false,
-        width,
-        root,
-        tangents,
-        top,
-        bottom,
-        a,
-        b,
-        row,
-    );
-    fourth(false, width, sines, top, bottom, a, b);
-    fifth(false, width, tangents, top, bottom, a, b);
+    first(false, width, root, top, bottom, a, b, c, row);
+    second(false, width, root, top, bottom, a, c, row);
+    third(false, width, root, top, bottom, a, b, c, row);
+    fourth(false, width, top, bottom);
+    fifth(false, width, top, bottom);
 }
 
 fn backward(
     width: usize,
     root: u32,
-    tangents: &[i64],
-    sines: &[i64],
     top: &mut [i64],
     bottom: &mut [i64],
     a: &mut [i64],
     b: &mut [i64],
+    c: &mut [i64],
     row: &mut [i64],
 )
-    requires { ⌜ Tables width root (now tangents) (now sines) ⌝ }
+    requires { ⌜ (root ≡ rootLog width) × (0 < halfWidth width) ⌝ }
     requires { ⌜ Halves width (now top) (now bottom) ⌝ }
-    requires { ⌜ Room width (now a) (now b) (now row) ⌝ }
+    requires { ⌜ Room width (now a) (now b) (now c) (now row) ⌝ }
     requires { ⌜ Within 1048576 (now top) ⌝ }
     requires { ⌜ Within 1048576 (now bottom) ⌝ }
     ensures { λ _. ⌜ (now (top .exit) ≡ untop2 width (now (top .entry)) (now (bottom .entry))) × (now (bottom .exit) ≡ unbottom1 width (now (top .entry)) (now (bottom .entry))) ⌝ }
 {
-    fifth(true, width, tangents, top, bottom, a, b);
-    fourth(true, width, sines, top, bottom, a, b);
-    third(
-        true,
-        width,
-        root,
-        tangents,
-        top,
-        bottom,
-        a,
-        b,
-        row,
-    );
-    second(true, width, root, top, bottom, a, row);
-    first(true, width, root, top, bottom, a, b, row);
+    fifth(true, width, top, bottom);
+    fourth(true, width, top, bottom);
+    third(true, width, root, top, bottom, a, b, c, row);
+    second(true, width, root, top, bottom, a, c, row);
+    first(true, width, root, top, bottom, a, b, c, row);
 }
 
 // All five stages on the halves of a frame, or all undone.
@@ -241,44 +170,23 @@ pub fn all(
     undo: bool,
     width: usize,
     root: u32,
-    tangents: &[i64],
-    sines: &[i64],
     top: &mut [i64],
     bottom: &mut [i64],
     a: &mut [i64],
     b: &mut [i64],
+    c: &mut [i64],
     row: &mut [i64],
 )
-    requires { ⌜ Tables width root (now tangents) (now sines) ⌝ }
+    requires { ⌜ (root ≡ rootLog width) × (0 < halfWidth width) ⌝ }
     requires { ⌜ Halves width (now top) (now bottom) ⌝ }
-    requires { ⌜ Room width (now a) (now b) (now row) ⌝ }
+    requires { ⌜ Room width (now a) (now b) (now c) (now row) ⌝ }
     requires { ⌜ Within (cond undo 1048576 50000) (now top) ⌝ }
     requires { ⌜ Within (cond undo 1048576 50000) (now bottom) ⌝ }
     ensures { λ _. ⌜ (now (top .exit) ≡ cond undo (untop2 width (now (top .entry)) (now (bottom .entry))) (top4 width (now (top .entry)) (now (bottom .entry)))) × (now (bottom .exit) ≡ cond undo (unbottom1 width (now (top .entry)) (now (bottom .entry))) (bottom5 width (now (top .entry)) (now (bottom .entry)))) ⌝ }
 {
     if undo {
-        backward(
-            width,
-            root,
-            tangents,
-            sines,
-            top,
-            bottom,
-            a,
-            b,
-            row,
-        );
+        backward(width, root, top, bottom, a, b, c, row);
         return;
     }
-    forward(
-        width,
-        root,
-        tangents,
-        sines,
-        top,
-        bottom,
-        a,
-        b,
-        row,
-    );
+    forward(width, root, top, bottom, a, b, c, row);
 }

@@ -7,20 +7,17 @@ ghost use Rattle.integers.specs.Places.{places, at, Within};
 ghost use Rattle.tables.specs.Widths.{halfWidth};
 ghost use Rattle.stages.specs.Expanded.{cosineSums, secantSums, takenPlace};
 use crate::arranged;
-use crate::room;
 
 // Every row sum of the cosine matrix with x.
-pub fn cosine_sums(width: usize, x: &[i64], row: &mut [i64], out: &mut [i64])
+pub fn cosine_sums(width: usize, x: &[i64], row: &mut [i64], sums: &mut [i64], out: &mut [i64])
     requires { ⌜ 0 < halfWidth width ⌝ }
-    requires { ⌜ (length (now x) ≡ halfWidth width) × (length (now row) ≡ halfWidth width) × (length (now out) ≡ halfWidth width) ⌝ }
+    requires { ⌜ (length (now x) ≡ halfWidth width) × (length (now row) ≡ halfWidth width) × (length (now sums) ≡ halfWidth width) × (length (now out) ≡ halfWidth width) ⌝ }
     requires { ⌜ Within 500000000 (now x) ⌝ }
     ensures { λ _. ⌜ now (out .exit) ≡ cosineSums width (now (x .entry)) ⌝ }
 {
-    let half = x.len();
-    let mut sums = room::of_64();
     arranged::ordered(width, x, row);
-    arranged::turned(width, row, &mut sums[..half]);
-    arranged::reordered(width, &sums[..half], out);
+    arranged::turned(width, row, sums);
+    arranged::reordered(width, sums, out);
 }
 
 fn taken_place(half: usize, odd: usize, l: usize) -> usize
@@ -46,15 +43,13 @@ fn for_rows(odd: usize, x: &[i64], out: &mut [i64])
 }
 
 // Every row sum of the secants with x.
-pub fn secant_sums(width: usize, x: &[i64], row: &mut [i64], out: &mut [i64])
+pub fn secant_sums(width: usize, x: &[i64], row: &mut [i64], odd: &mut [i64], out: &mut [i64])
     requires { ⌜ 0 < halfWidth width ⌝ }
-    requires { ⌜ (length (now x) ≡ halfWidth width) × (length (now row) ≡ halfWidth width) × (length (now out) ≡ halfWidth width) ⌝ }
+    requires { ⌜ (length (now x) ≡ halfWidth width) × (length (now row) ≡ halfWidth width) × (length (now odd) ≡ halfWidth width) × (length (now out) ≡ halfWidth width) ⌝ }
     requires { ⌜ Within 10000000 (now x) ⌝ }
     ensures { λ _. ⌜ now (out .exit) ≡ secantSums width (now (x .entry)) ⌝ }
 {
-    let half = x.len();
-    let mut odd = room::of_64();
     for_rows(0, x, row);
-    for_rows(1, x, &mut odd[..half]);
-    arranged::secant_windows(width, row, &odd[..half], out);
+    for_rows(1, x, odd);
+    arranged::secant_windows(width, row, odd, out);
 }

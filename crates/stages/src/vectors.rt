@@ -47,6 +47,18 @@ pub fn copy(x: &[i64], out: &mut [i64])
     }
 }
 
+// The numbers from the last to the first.
+pub fn reverse(x: &[i64], out: &mut [i64])
+    requires { ⌜ length (now x) ≡ length (now out) ⌝ }
+    ensures { λ _. ⌜ now (out .exit) ≡ places (length (now (out .entry))) (λ i. at (now (x .entry)) (length (now (out .entry)) - 1 - i)) ⌝ }
+{
+    let mut i = 0;
+    while i < out.len() {
+        out[i] = x[out.len() - 1 - i];
+        i += 1;
+    }
+}
+
 // The numbers at these places of x, each with a sign.
 pub fn signed_gather(places: &[usize], signs: &[i64], x: &[i64], out: &mut [i64])
     requires { ⌜ (length (now places) ≡ length (now out)) × (length (now signs) ≡ length (now out)) ⌝ }
@@ -77,21 +89,7 @@ pub fn inner_product(row: &[i64], x: &[i64]) -> i64
     sum
 }
 
-// The products, place by place.
-pub fn products(c: &[i64], x: &[i64], out: &mut [i64])
-    requires { ⌜ (length (now c) ≡ length (now out)) × (length (now x) ≡ length (now out)) ⌝ }
-    requires { ⌜ Within (2 ^ 28) (now c) ⌝ }
-    requires { ⌜ Within (2 ^ 34) (now x) ⌝ }
-    ensures { λ _. ⌜ now (out .exit) ≡ places (length (now (out .entry))) (λ i. at (now (c .entry)) i *ℤ at (now (x .entry)) i) ⌝ }
-{
-    let mut i = 0;
-    while i < out.len() {
-        out[i] = c[i] * x[i];
-        i += 1;
-    }
-}
-
-fn moved(undo: bool, y: i64, amount: i64) -> i64
+pub fn moved(undo: bool, y: i64, amount: i64) -> i64
     requires { ⌜ (natAbs y ≤ 2 ^ 61) × (natAbs amount ≤ 2 ^ 61) ⌝ }
     ensures { λ r. ⌜ r ≡ Rattle.stages.specs.Moves.moved undo y amount ⌝ }
 {
@@ -195,6 +193,18 @@ pub fn widen(x: &[i32], out: &mut [i64])
     let mut i = 0;
     while i < x.len() {
         out[i] = x[i] as i64;
+        i += 1;
+    }
+}
+
+// The numbers from the place last on towards the first, each as an i64.
+pub fn widen_back(x: &[i32], last: usize, out: &mut [i64])
+    requires { ⌜ (last < length (now x)) × (length (now out) ≤ last + 1) ⌝ }
+    ensures { λ _. ⌜ now (out .exit) ≡ places (length (now (out .entry))) (λ i. at (now (x .entry)) (last - i)) ⌝ }
+{
+    let mut i = 0;
+    while i < out.len() {
+        out[i] = x[last - i] as i64;
         i += 1;
     }
 }

@@ -57,4 +57,3 @@ pub fn windows(table: &[i64], z: &[i64], w: &[i64], p: usize, q: usize, r: usize
         i += 4;
     }
 }
-

@@ -1,111 +1,18 @@
 -- `lifting::transform::staged` meets its contract.
 use borrow.Author.Needs.{needs}
-use native.Mathlib.Omega.{arith}
-use mathlib.Core.Path.{_≡_, sym, ap, subst, _∙_}
+use mathlib.Core.Path.{_≡_, sym, subst, _∙_}
 use mathlib.Core.List.{List}
-use Prim.Native.Nat.{ℕ, _+_, _-_, _≤_}
-use lib.IntN.{ℤ, negℤ}
-use lib.ListN.{length, take, drop}
-use Rattle.integers.specs.Places.{places}
-use Rattle.integers.proofs.PlaceLaws.{length-places}
-use Rattle.tables.specs.Widths.{halfWidth}
+use Prim.Native.Nat.{_≤_}
+use lib.IntN.{ℤ}
+use lib.ListN.{length}
 use Rattle.tables.proofs.ByWidth.{half-width-le}
-use Rattle.steps.specs.Steps.{sine, tangent}
-use Rattle.steps.proofs.Undo.{width-half}
-use Rattle.stages.specs.Expanded.{Turn, Secants}
-use Rattle.lifting.proofs.Parts.{part-long, front, front-long, front-le}
+use Rattle.lifting.proofs.Parts.{part-long}
 use Rattle.lifting.proofs.transform.staged.Statement.{statement}
 use Rattle.lifting.proofs.transform.staged.Tie as tie
 
-module _ (s : tie.Start) where
-  half-le : s .args .half ≤ 64
-  half-le = rw (s .pre .0 .half-is) (half-width-le (s .args .width))
-
-  width-is : s .args .half + s .args .half ≡ s .args .width
-  width-is = rw (s .pre .0 .half-is) (width-half (s .args .width) (s .pre .0 .wide))
-
--- the tables expanded
-module _ (e : tie.After-root-log) where
-  abbrev s : tie.Start
-  s = e .before .before .before .before .before .before .before .before .before .before .before .before .before .before .before .before .before .before .before .before
-
-  abbrev turn-of : List ℤ
-  turn-of = e .before .before .before .before .before .before .before .before .before .before .before .turn2 .last .1 .0
-
-  abbrev turn-rest : List ℤ
-  turn-rest = drop (s .args .width) (e .before .before .before .before .before .before .before .before .before .before .before .before .before .before .before .before .before .before .before .of-128 .result)
-
-  abbrev secants-of : List ℤ
-  secants-of = e .before .before .before .before .before .before .before .before .secants2 .last .1 .0
-
-  abbrev secants-rest : List ℤ
-  secants-rest = drop (s .args .width) (e .before .before .before .before .before .before .before .before .before .before .before .before .before .before .before .before .before .before .of-1282 .result)
-
-  abbrev tangents-of : List ℤ
-  tangents-of = e .before .before .before .before .before .tangents2 .last .1 .0
-
-  abbrev tangents-rest : List ℤ
-  tangents-rest = drop (s .args .half) (e .before .before .before .before .before .before .before .before .before .before .before .before .before .before .before .before .before .of-64 .result)
-
-  abbrev sines-of : List ℤ
-  sines-of = e .before .before .sines2 .last .1 .0
-
-  abbrev sines-rest : List ℤ
-  sines-rest = drop (s .args .half) (e .before .before .before .before .before .before .before .before .before .before .before .before .before .before .before .before .of-642 .result)
-
-  turn-part : length (take (s .args .width) (e .before .before .before .before .before .before .before .before .before .before .before .before .before .before .before .before .before .before .before .of-128 .result)) ≡ s .args .width
-  turn-part = sym (part-long _ _ (omega (arith, e .before .before .before .before .before .before .before .before .before .before .before .before .before .before .before .before .before .before .before .of-128 .ensures, half-le s, width-is s)))
-
-  secants-part : length (take (s .args .width) (e .before .before .before .before .before .before .before .before .before .before .before .before .before .before .before .before .before .before .of-1282 .result)) ≡ s .args .width
-  secants-part = sym (part-long _ _ (omega (arith, e .before .before .before .before .before .before .before .before .before .before .before .before .before .before .before .before .before .before .of-1282 .ensures, half-le s, width-is s)))
-
-  tangents-part : length (take (s .args .half) (e .before .before .before .before .before .before .before .before .before .before .before .before .before .before .before .before .before .of-64 .result)) ≡ s .args .half
-  tangents-part = sym (part-long _ _ (omega (arith, e .before .before .before .before .before .before .before .before .before .before .before .before .before .before .before .before .before .of-64 .ensures, half-le s)))
-
-  sines-part : length (take (s .args .half) (e .before .before .before .before .before .before .before .before .before .before .before .before .before .before .before .before .of-642 .result)) ≡ s .args .half
-  sines-part = sym (part-long _ _ (omega (arith, e .before .before .before .before .before .before .before .before .before .before .before .before .before .before .before .before .of-642 .ensures, half-le s)))
-
-  turn-is : Turn (s .args .width) turn-of
-  turn-is = e .before .before .before .before .before .before .before .before .before .before .before .turn2 .ensures
-
-  secants-are : Secants (s .args .width) secants-of
-  secants-are = e .before .before .before .before .before .before .before .before .secants2 .ensures
-
-  turn-long : length turn-of ≡ s .args .width
-  turn-long = ap length (turn-is .is) ∙ length-places _ _
-
-  secants-long : length secants-of ≡ s .args .width
-  secants-long = ap length (secants-are .is) ∙ length-places _ _
-
-  tangents-long : length (e .before .before .before .before .before .tangents2 .last .1 .0) ≡ s .args .half
-  tangents-long = ap length (e .before .before .before .before .before .tangents2 .ensures) ∙ length-places _ _ ∙ tangents-part
-
-  sines-long : length (e .before .before .sines2 .last .1 .0) ≡ s .args .half
-  sines-long = ap length (e .before .before .sines2 .ensures) ∙ length-places _ _ ∙ sines-part
-
-  abbrev N : ℕ
-  N = s .args .width
-
-  tangents-are : e .before .before .before .before .before .tangents2 .last .1 .0 ≡ places (halfWidth N) (λ m. negℤ (tangent N m))
-  tangents-are = e .before .before .before .before .before .tangents2 .ensures ∙ ap (λ n. places n (λ m. negℤ (tangent N m))) (tangents-part ∙ s .pre .0 .half-is)
-
-  sines-are : e .before .before .sines2 .last .1 .0 ≡ places (halfWidth N) (sine N)
-  sines-are = e .before .before .sines2 .ensures ∙ ap (λ n. places n (sine N)) (sines-part ∙ s .pre .0 .half-is)
-
-  a-long : s .args .half ≡ length (take (s .args .half) (e .before .before .before .before .before .before .before .before .before .before .before .before .before .before .before .of-643 .result))
-  a-long = part-long _ _ (omega (arith, e .before .before .before .before .before .before .before .before .before .before .before .before .before .before .before .of-643 .ensures, half-le s))
-
-  b-long : s .args .half ≡ length (take (s .args .half) (e .before .before .before .before .before .before .before .before .before .before .before .before .before .before .of-644 .result))
-  b-long = part-long _ _ (omega (arith, e .before .before .before .before .before .before .before .before .before .before .before .before .before .before .of-644 .ensures, half-le s))
-
-  row-long : s .args .half ≡ length (take (s .args .half) (e .before .before .before .before .before .before .before .before .before .before .before .before .before .of-645 .result))
-  row-long = part-long _ _ (omega (arith, e .before .before .before .before .before .before .before .before .before .before .before .before .before .of-645 .ensures, half-le s))
-
-of-128-requires : tie.Need-of-128-requires
-of-128-requires c κs = search needs
-
-of-128-requires-2 : tie.Need-of-128-requires-2
-of-128-requires-2 c κs = search needs
+-- half of the room fits
+half-le : (s : tie.Start) (room : List ℤ) → 64 ≡ length room → s .args .half ≤ length room
+half-le s room e = subst (λ n. s .args .half ≤ n) e (rw (s .pre .0 .half-is) (half-width-le (s .args .width)))
 
 of-64-requires : tie.Need-of-64-requires
 of-64-requires c κs = search needs
@@ -119,108 +26,50 @@ of-64-requires-3 c κs = search needs
 of-64-requires-4 : tie.Need-of-64-requires-4
 of-64-requires-4 c κs = search needs
 
-of-64-requires-5 : tie.Need-of-64-requires-5
-of-64-requires-5 c κs = search needs
-
-array-borrow-prefix-turn : tie.Need-array-borrow-prefix-turn
-array-borrow-prefix-turn c = omega (arith, half-le (c .before .before .before .before .before .before .before), width-is (c .before .before .before .before .before .before .before))
-
-slice-aggregate-turn : tie.Need-slice-aggregate-turn
-slice-aggregate-turn c = let z = c .before .before .before .before .before .before .before .before in part-long _ _ (omega (arith, c .before .before .before .before .before .before .before .of-128 .ensures, half-le z, width-is z))
-
-turn-requires : tie.Need-turn-requires
-turn-requires c κs =
-    let z = c .before .before .before .before .before .before .before .before in
-    (sym (part-long (z .args .width) (c .before .before .before .before .before .before .before .of-128 .result) (omega (arith, c .before .before .before .before .before .before .before .of-128 .ensures, half-le z, width-is z))), z .pre .0 .wide)
-
-array-borrow-prefix-secants : tie.Need-array-borrow-prefix-secants
-array-borrow-prefix-secants c = omega (arith, half-le (c .before .before .before .before .before .before .before .before .before .before), width-is (c .before .before .before .before .before .before .before .before .before .before))
-
-slice-aggregate-secants : tie.Need-slice-aggregate-secants
-slice-aggregate-secants c = let z = c .before .before .before .before .before .before .before .before .before .before .before in part-long _ _ (omega (arith, c .before .before .before .before .before .before .before .before .before .of-1282 .ensures, half-le z, width-is z))
-
-secants-requires : tie.Need-secants-requires
-secants-requires c κs =
-    let z = c .before .before .before .before .before .before .before .before .before .before .before in
-    (sym (part-long (z .args .width) (c .before .before .before .before .before .before .before .before .before .of-1282 .result) (omega (arith, c .before .before .before .before .before .before .before .before .before .of-1282 .ensures, half-le z, width-is z))), z .pre .0 .wide)
-
-array-borrow-prefix-tangents : tie.Need-array-borrow-prefix-tangents
-array-borrow-prefix-tangents c = omega (arith, half-le (c .before .before .before .before .before .before .before .before .before .before .before .before .before))
-
-slice-aggregate-tangents : tie.Need-slice-aggregate-tangents
-slice-aggregate-tangents c = part-long _ _ (omega (arith, c .before .before .before .before .before .before .before .before .before .before .before .of-64 .ensures, half-le (c .before .before .before .before .before .before .before .before .before .before .before .before .before .before)))
-
-tangents-requires : tie.Need-tangents-requires
-tangents-requires c κs = search needs
-
-array-borrow-prefix-sines : tie.Need-array-borrow-prefix-sines
-array-borrow-prefix-sines c = omega (arith, half-le (c .before .before .before .before .before .before .before .before .before .before .before .before .before .before .before .before))
-
-slice-aggregate-sines : tie.Need-slice-aggregate-sines
-slice-aggregate-sines c = part-long _ _ (omega (arith, c .before .before .before .before .before .before .before .before .before .before .before .before .before .of-642 .ensures, half-le (c .before .before .before .before .before .before .before .before .before .before .before .before .before .before .before .before .before)))
-
-sines-requires : tie.Need-sines-requires
-sines-requires c κs = let z = c .before .before .before .before .before .before .before .before .before .before .before .before .before .before .before .before .before in omega (arith, width-is z, z .pre .0 .half-is, z .pre .0 .wide)
-
 root-log-requires : tie.Need-root-log-requires
 root-log-requires c κs = search needs
 
-array-share-prefix-turn : tie.Need-array-share-prefix-turn
-array-share-prefix-turn c = front-le _ (turn-of c) (turn-rest c) (turn-long c)
+array-borrow-prefix-a : tie.Need-array-borrow-prefix-a
+array-borrow-prefix-a c = half-le (c .before .before .before .before .before .before .before) _ (c .before .before .before .before .before .before .of-64 .ensures)
 
 slice-aggregate-all : tie.Need-slice-aggregate-all
-slice-aggregate-all c = front-long _ (turn-of (c .before)) (turn-rest (c .before)) (turn-long (c .before))
-
-array-share-prefix-secants : tie.Need-array-share-prefix-secants
-array-share-prefix-secants c = front-le _ (secants-of (c .before)) (secants-rest (c .before)) (secants-long (c .before))
-
-slice-aggregate-all-2 : tie.Need-slice-aggregate-all-2
-slice-aggregate-all-2 c = front-long _ (secants-of (c .before .before)) (secants-rest (c .before .before)) (secants-long (c .before .before))
-
-array-share-prefix-tangents : tie.Need-array-share-prefix-tangents
-array-share-prefix-tangents c = front-le _ (tangents-of (c .before .before)) (tangents-rest (c .before .before)) (tangents-long (c .before .before))
-
-slice-aggregate-all-3 : tie.Need-slice-aggregate-all-3
-slice-aggregate-all-3 c = front-long _ (tangents-of (c .before .before .before)) (tangents-rest (c .before .before .before)) (tangents-long (c .before .before .before))
-
-array-share-prefix-sines : tie.Need-array-share-prefix-sines
-array-share-prefix-sines c = front-le _ (sines-of (c .before .before .before)) (sines-rest (c .before .before .before)) (sines-long (c .before .before .before))
-
-slice-aggregate-all-4 : tie.Need-slice-aggregate-all-4
-slice-aggregate-all-4 c = front-long _ (sines-of (c .before .before .before .before)) (sines-rest (c .before .before .before .before)) (sines-long (c .before .before .before .before))
-
-array-borrow-prefix-a : tie.Need-array-borrow-prefix-a
-array-borrow-prefix-a c = let e = c .before .before .before .before .before .before in omega (arith, e .before .before .before .before .before .before .before .before .before .before .before .before .before .before .before .of-643 .ensures, half-le (e .before .before .before .before .before .before .before .before .before .before .before .before .before .before .before .before .before .before .before .before))
-
-slice-aggregate-all-5 : tie.Need-slice-aggregate-all-5
-slice-aggregate-all-5 c = a-long (c .before .before .before .before .before .before .before)
+slice-aggregate-all c = part-long _ _ (half-le (c .before .before .before .before .before .before .before .before) _ (c .before .before .before .before .before .before .before .of-64 .ensures))
 
 array-borrow-prefix-b : tie.Need-array-borrow-prefix-b
-array-borrow-prefix-b c = let e = c .before .before .before .before .before .before .before in omega (arith, e .before .before .before .before .before .before .before .before .before .before .before .before .before .before .of-644 .ensures, half-le (e .before .before .before .before .before .before .before .before .before .before .before .before .before .before .before .before .before .before .before .before))
+array-borrow-prefix-b c = half-le (c .before .before .before .before .before .before .before .before) _ (c .before .before .before .before .before .before .of-642 .ensures)
 
-slice-aggregate-all-6 : tie.Need-slice-aggregate-all-6
-slice-aggregate-all-6 c = b-long (c .before .before .before .before .before .before .before .before)
+slice-aggregate-all-2 : tie.Need-slice-aggregate-all-2
+slice-aggregate-all-2 c = part-long _ _ (half-le (c .before .before .before .before .before .before .before .before .before) _ (c .before .before .before .before .before .before .before .of-642 .ensures))
+
+array-borrow-prefix-c : tie.Need-array-borrow-prefix-c
+array-borrow-prefix-c c = half-le (c .before .before .before .before .before .before .before .before .before) _ (c .before .before .before .before .before .before .of-643 .ensures)
+
+slice-aggregate-all-3 : tie.Need-slice-aggregate-all-3
+slice-aggregate-all-3 c = part-long _ _ (half-le (c .before .before .before .before .before .before .before .before .before .before) _ (c .before .before .before .before .before .before .before .of-643 .ensures))
 
 array-borrow-prefix-row : tie.Need-array-borrow-prefix-row
-array-borrow-prefix-row c = let e = c .before .before .before .before .before .before .before .before in omega (arith, e .before .before .before .before .before .before .before .before .before .before .before .before .before .of-645 .ensures, half-le (e .before .before .before .before .before .before .before .before .before .before .before .before .before .before .before .before .before .before .before .before))
+array-borrow-prefix-row c = half-le (c .before .before .before .before .before .before .before .before .before .before) _ (c .before .before .before .before .before .before .of-644 .ensures)
 
-slice-aggregate-all-7 : tie.Need-slice-aggregate-all-7
-slice-aggregate-all-7 c = row-long (c .before .before .before .before .before .before .before .before .before)
+slice-aggregate-all-4 : tie.Need-slice-aggregate-all-4
+slice-aggregate-all-4 c = part-long _ _ (half-le (c .before .before .before .before .before .before .before .before .before .before .before) _ (c .before .before .before .before .before .before .before .of-644 .ensures))
 
 all-requires : tie.Need-all-requires
 all-requires c κs =
-    let e = c .before .before .before .before .before .before .before .before .before in
-    let s = e .before .before .before .before .before .before .before .before .before .before .before .before .before .before .before .before .before .before .before .before in
-    let w = s .pre .0 in (
-      record {
-        turn-is = subst (Turn (s .args .width)) (sym (front _ (turn-of e) (turn-rest e) (turn-long e))) (turn-is e);
-        secants-are = subst (Secants (s .args .width)) (sym (front _ (secants-of e) (secants-rest e) (secants-long e))) (secants-are e);
-        tangents-are = record { is = front _ (tangents-of e) (tangents-rest e) (tangents-long e) ∙ tangents-are e };
-        sines-are = record { is = front _ (sines-of e) (sines-rest e) (sines-long e) ∙ sines-are e };
-        root-is = e .root-log .ensures;
-        wide = w .wide;
-      },
-      (s .pre .1 .0, (record { a-long = sym (a-long e) ∙ w .half-is; b-long = sym (b-long e) ∙ w .half-is; row-long = sym (row-long e) ∙ w .half-is }, (s .pre .1 .1 .0, s .pre .1 .1 .1))),
+    let s = c .before .before .before .before .before .before .before .before .before .before .before in
+    let h = s .pre .0 .half-is in (
+      (c .before .before .before .before .before .before .root-log .ensures, s .pre .0 .wide),
+      (
+        s .pre .1 .0,
+        (
+          record {
+            a-long = sym (part-long _ _ (half-le s _ (c .before .before .before .before .before .before .before .before .before .before .of-64 .ensures))) ∙ h;
+            b-long = sym (part-long _ _ (half-le s _ (c .before .before .before .before .before .before .before .before .before .of-642 .ensures))) ∙ h;
+            c-long = sym (part-long _ _ (half-le s _ (c .before .before .before .before .before .before .before .before .of-643 .ensures))) ∙ h;
+            row-long = sym (part-long _ _ (half-le s _ (c .before .before .before .before .before .before .before .of-644 .ensures))) ∙ h;
+          },
+          (s .pre .1 .1 .0, s .pre .1 .1 .1),
+        ),
+      ),
     )
 
 same-length : tie.Need-same-length
@@ -236,40 +85,19 @@ pub staged-spec : {M : Type 1} → statement M
 staged-spec =
     tie.close
     (tie.spec
-    of-128-requires
-    of-128-requires-2
     of-64-requires
     of-64-requires-2
     of-64-requires-3
     of-64-requires-4
-    of-64-requires-5
-    array-borrow-prefix-turn
-    slice-aggregate-turn
-    turn-requires
-    array-borrow-prefix-secants
-    slice-aggregate-secants
-    secants-requires
-    array-borrow-prefix-tangents
-    slice-aggregate-tangents
-    tangents-requires
-    array-borrow-prefix-sines
-    slice-aggregate-sines
-    sines-requires
     root-log-requires
-    array-share-prefix-turn
-    slice-aggregate-all
-    array-share-prefix-secants
-    slice-aggregate-all-2
-    array-share-prefix-tangents
-    slice-aggregate-all-3
-    array-share-prefix-sines
-    slice-aggregate-all-4
     array-borrow-prefix-a
-    slice-aggregate-all-5
+    slice-aggregate-all
     array-borrow-prefix-b
-    slice-aggregate-all-6
+    slice-aggregate-all-2
+    array-borrow-prefix-c
+    slice-aggregate-all-3
     array-borrow-prefix-row
-    slice-aggregate-all-7
+    slice-aggregate-all-4
     all-requires
     same-length
     same-length-2

@@ -8,7 +8,7 @@ use lib.IntN.{ℤ}
 use lib.ListN.{length, drop}
 use Rattle.tables.proofs.ByWidth.{half-width-le}
 use Rattle.steps.proofs.Undo.{width-half}
-use Rattle.lifting.proofs.Parts.{part-long, front-long, front-le}
+use Rattle.lifting.proofs.Parts.{part-long, front, front-long, front-le}
 use Rattle.lifting_cases.proofs.block.fold.Statement.{statement}
 use Rattle.lifting_cases.proofs.block.fold.Tie as tie
 
@@ -50,7 +50,7 @@ slice-aggregate-fold-wide : tie.Need-slice-aggregate-fold-wide
 slice-aggregate-fold-wide c = let w = c .before .before in front-long _ (wide w) (rest w) (wide-long w)
 
 fold-wide-requires : tie.Need-fold-wide-requires
-fold-wide-requires c κs = let w = c .before .before .before .before in (from w .pre .0, (sym (front-long _ (wide w) (rest w) (wide-long w)), from w .pre .1 .1, from w .pre .1 .2))
+fold-wide-requires c κs = let w = c .before .before .before .before in (from w .pre .0, (front _ (wide w) (rest w) (wide-long w) ∙ w .widen .ensures, from w .pre .1))
 
 same-length : tie.Need-same-length
 same-length c = search needs

@@ -1,11 +1,12 @@
 -- `lifting_cases::block::fold_wide` meets its contract.
 use borrow.Author.Needs.{needs}
 use native.Mathlib.Omega.{arith}
-use mathlib.Core.Path.{_≡_, sym, ap, _∙_}
+use mathlib.Core.Path.{_≡_, sym, ap, subst, _∙_}
 use mathlib.Core.List.{List}
 use Prim.Native.Nat.{_≤_}
 use lib.IntN.{ℤ}
 use lib.ListN.{length, drop}
+use Rattle.integers.specs.Places.{Within}
 use Rattle.integers.proofs.PlaceLaws.{within-up}
 use Rattle.tables.proofs.ByWidth.{half-width-le}
 use Rattle.steps.proofs.Undo.{width-half, length-lower, length-held}
@@ -37,10 +38,10 @@ module _ (f : tie.After-fold) where
   high-rest = drop (from .args .half) (f .before .before .before .of-642 .result)
 
   low-long : length low ≡ from .args .half
-  low-long = ap length (f .fold .ensures .0) ∙ length-lower (from .args .width) (from .args .wide .now) ∙ sym (from .pre .0 .half-is)
+  low-long = ap length (f .fold .ensures .0) ∙ length-lower (from .args .width) (from .args .block .now) ∙ sym (from .pre .0 .half-is)
 
   high-long : length high ≡ from .args .half
-  high-long = ap length (f .fold .ensures .1) ∙ length-held (from .args .width) (from .args .wide .now) ∙ sym (from .pre .0 .half-is)
+  high-long = ap length (f .fold .ensures .1) ∙ length-held (from .args .width) (from .args .block .now) ∙ sym (from .pre .0 .half-is)
 
 first-beyond-requires : tie.Need-first-beyond-requires
 first-beyond-requires c κs = search needs
@@ -71,13 +72,13 @@ fold-requires c κs =
     let s = c .before .before .before .before .before .before .before in (
       s .pre .0,
       (
-        s .pre .1 .0,
+        s .pre .1 .1 .0,
         (
           (
             sym (part-long _ (c .before .before .before .of-64 .result) (omega (arith, c .before .before .before .of-64 .ensures, half-le s))) ∙ s .pre .0 .half-is,
             sym (part-long _ (c .before .before .of-642 .result) (omega (arith, c .before .before .of-642 .ensures, half-le s))) ∙ s .pre .0 .half-is,
           ),
-          within-up (none-within 32767 _ (sym (c .before .before .before .before .before .before .first-beyond .ensures) ∙ c .before .before .before .before .enum-told .given .1)) (omega arith),
+          subst (Within 50000) (s .pre .1 .0) (within-up (none-within 32767 _ (sym (c .before .before .before .before .before .before .first-beyond .ensures) ∙ c .before .before .before .before .enum-told .given .1)) (omega arith)),
         ),
       ),
     )
@@ -89,7 +90,7 @@ slice-aggregate-narrowed : tie.Need-slice-aggregate-narrowed
 slice-aggregate-narrowed c = let f = c .before .before .before in front-long _ (low f) (low-rest f) (low-long f)
 
 narrowed-requires : tie.Need-narrowed-requires
-narrowed-requires c κs = let f = c .before .before .before .before in sym (front-long _ (low f) (low-rest f) (low-long f)) ∙ from f .pre .0 .half-is ∙ sym (from f .pre .1 .1)
+narrowed-requires c κs = let f = c .before .before .before .before in sym (front-long _ (low f) (low-rest f) (low-long f)) ∙ from f .pre .0 .half-is ∙ sym (from f .pre .1 .1 .1)
 
 array-share-prefix-high : tie.Need-array-share-prefix-high
 array-share-prefix-high c = let f = c .before .before .before .before .before .before in front-le _ (high f) (high-rest f) (high-long f)
@@ -98,7 +99,7 @@ slice-aggregate-narrowed-2 : tie.Need-slice-aggregate-narrowed-2
 slice-aggregate-narrowed-2 c = let f = c .before .before .before .before .before .before .before in front-long _ (high f) (high-rest f) (high-long f)
 
 narrowed-requires-2 : tie.Need-narrowed-requires-2
-narrowed-requires-2 c κs = let f = c .before .before .before .before .before .before .before .before in sym (front-long _ (high f) (high-rest f) (high-long f)) ∙ from f .pre .0 .half-is ∙ sym (from f .pre .1 .2)
+narrowed-requires-2 c κs = let f = c .before .before .before .before .before .before .before .before in sym (front-long _ (high f) (high-rest f) (high-long f)) ∙ from f .pre .0 .half-is ∙ sym (from f .pre .1 .1 .2)
 
 enum-told-2 : tie.Need-enum-told-2
 enum-told-2 c = search needs

@@ -10,8 +10,8 @@ use Rattle.stages.proofs.stages.all.Tie as tie
 
 backward-requires : tie.Need-backward-requires
 backward-requires c κs =
-    let s = c .before .before .before .before .before .before in
-    let e = ap (λ u. cond {A = ℕ} u 1048576 50000) (c .before .before .before .before .before .if1 .taken) in
+    let s = c .before .before .before .before .before .before .before in
+    let e = ap (λ u. cond {A = ℕ} u 1048576 50000) (c .before .before .before .before .before .before .if1 .taken) in
     (s .pre .0, (s .pre .1 .0, (s .pre .1 .1 .0, (subst (λ k. Within k (s .args .top .now)) e (s .pre .1 .1 .1 .0), subst (λ k. Within k (s .args .bottom .now)) e (s .pre .1 .1 .1 .1)))))
 
 same-length : tie.Need-same-length
@@ -29,10 +29,13 @@ same-length-4 c = search needs
 same-length-5 : tie.Need-same-length-5
 same-length-5 c = search needs
 
+same-length-6 : tie.Need-same-length-6
+same-length-6 c = search needs
+
 returns : tie.Need-returns
 returns c =
-    let k = c .before .before .before .before .before in
-    let t = k .before .before .before .before .before .before in
+    let k = c .before .before .before .before .before .before in
+    let t = k .before .before .before .before .before .before .before in
     let s = t .before in
     let N = s .args .width in
     let x = s .args .top .now in
@@ -41,12 +44,9 @@ returns c =
 
 forward-requires : tie.Need-forward-requires
 forward-requires c κs =
-    let s = c .before .before .before .before .before .before in
-    let e = ap (λ u. cond {A = ℕ} u 1048576 50000) (c .before .before .before .before .before .if1 .left) in
+    let s = c .before .before .before .before .before .before .before in
+    let e = ap (λ u. cond {A = ℕ} u 1048576 50000) (c .before .before .before .before .before .before .if1 .left) in
     (s .pre .0, (s .pre .1 .0, (s .pre .1 .1 .0, (subst (λ k. Within k (s .args .top .now)) e (s .pre .1 .1 .1 .0), subst (λ k. Within k (s .args .bottom .now)) e (s .pre .1 .1 .1 .1)))))
-
-same-length-6 : tie.Need-same-length-6
-same-length-6 c = search needs
 
 same-length-7 : tie.Need-same-length-7
 same-length-7 c = search needs
@@ -60,10 +60,16 @@ same-length-9 c = search needs
 same-length-10 : tie.Need-same-length-10
 same-length-10 c = search needs
 
+same-length-11 : tie.Need-same-length-11
+same-length-11 c = search needs
+
+same-length-12 : tie.Need-same-length-12
+same-length-12 c = search needs
+
 returns-2 : tie.Need-returns-2
 returns-2 c =
-    let k = c .before .before .before .before .before in
-    let t = k .before .before .before .before .before .before in
+    let k = c .before .before .before .before .before .before in
+    let t = k .before .before .before .before .before .before .before in
     let s = t .before in
     let N = s .args .width in
     let x = s .args .top .now in
@@ -80,11 +86,13 @@ all-spec =
     same-length-3
     same-length-4
     same-length-5
+    same-length-6
     returns
     forward-requires
-    same-length-6
     same-length-7
     same-length-8
     same-length-9
     same-length-10
+    same-length-11
+    same-length-12
     returns-2)

@@ -25,71 +25,62 @@ module _ (s : tie.Start) where
   bottom = s .args .bottom .now
 
 abbrev s5 : tie.After-fifth → tie.Start
-s5 c = c .before .before .before .before .before
+s5 c = c .before .before .before
 
-B5 : (c : tie.After-fifth) → c .fifth .last .1 .1 .1 .1 .0 ≡ unbottom5 (N (s5 c)) (top (s5 c)) (bottom (s5 c))
+B5 : (c : tie.After-fifth) → c .fifth .last .1 .1 .1 .0 ≡ unbottom5 (N (s5 c)) (top (s5 c)) (bottom (s5 c))
 unfolding unbottom5
 B5 c = c .fifth .ensures
 
-T4 : (c : tie.After-fourth) → c .fourth .last .1 .1 .1 .0 ≡ untop4 (N (s5 (c .before .before .before .before .before .before .before .before))) (top (s5 (c .before .before .before .before .before .before .before .before))) (bottom (s5 (c .before .before .before .before .before .before .before .before)))
+abbrev f4 : tie.After-fourth → tie.After-fifth
+f4 c = c .before .before .before .before
+
+T4 : (c : tie.After-fourth) → c .fourth .last .1 .1 .0 ≡ untop4 (N (s5 (f4 c))) (top (s5 (f4 c))) (bottom (s5 (f4 c)))
 unfolding untop4
-T4 c = let f = c .before .before .before .before .before .before .before .before in c .fourth .ensures ∙ ap (unstage4 (N (s5 f)) (top (s5 f))) (B5 f)
+T4 c = let f = f4 c in c .fourth .ensures ∙ ap (unstage4 (N (s5 f)) (top (s5 f))) (B5 f)
 
-B3 : (c : tie.After-third) → c .third .last .1 .1 .1 .1 .1 .1 .1 .0 ≡ unbottom3 (N (s5 (c .before .before .before .before .before .before .before .before .before .before .before .before .before .before .before .before .before))) (top (s5 (c .before .before .before .before .before .before .before .before .before .before .before .before .before .before .before .before .before))) (bottom (s5 (c .before .before .before .before .before .before .before .before .before .before .before .before .before .before .before .before .before)))
+abbrev g3 : tie.After-third → tie.After-fourth
+g3 c = c .before .before .before .before .before .before .before .before
+
+B3 : (c : tie.After-third) → c .third .last .1 .1 .1 .1 .0 ≡ unbottom3 (N (s5 (f4 (g3 c)))) (top (s5 (f4 (g3 c)))) (bottom (s5 (f4 (g3 c))))
 unfolding unbottom3
-B3 c = let g = c .before .before .before .before .before .before .before .before .before in c .third .ensures ∙ ap₂ (unstage3 (N (s5 (g .before .before .before .before .before .before .before .before)))) (T4 g) (B5 (g .before .before .before .before .before .before .before .before))
+B3 c = let g = g3 c in c .third .ensures ∙ ap₂ (unstage3 (N (s5 (f4 g)))) (T4 g) (B5 (f4 g))
 
-T2 : (c : tie.After-second) → c .second .last .1 .1 .1 .1 .0 ≡ untop2 (N (s5 (c .before .before .before .before .before .before .before .before .before .before .before .before .before .before .before .before .before .before .before .before .before .before .before .before .before .before))) (top (s5 (c .before .before .before .before .before .before .before .before .before .before .before .before .before .before .before .before .before .before .before .before .before .before .before .before .before .before))) (bottom (s5 (c .before .before .before .before .before .before .before .before .before .before .before .before .before .before .before .before .before .before .before .before .before .before .before .before .before .before)))
+abbrev h2 : tie.After-second → tie.After-third
+h2 c = c .before .before .before .before .before .before .before .before .before .before .before
+
+T2 : (c : tie.After-second) → c .second .last .1 .1 .1 .0 ≡ untop2 (N (s5 (f4 (g3 (h2 c))))) (top (s5 (f4 (g3 (h2 c))))) (bottom (s5 (f4 (g3 (h2 c)))))
 unfolding untop2
-T2 c = let h = c .before .before .before .before .before .before .before .before .before in c .second .ensures ∙ ap₂ (unstage2 (N (s5 (h .before .before .before .before .before .before .before .before .before .before .before .before .before .before .before .before .before)))) (T4 (h .before .before .before .before .before .before .before .before .before)) (B3 h)
+T2 c = let h = h2 c in c .second .ensures ∙ ap₂ (unstage2 (N (s5 (f4 (g3 h))))) (T4 (g3 h)) (B3 h)
 
 fifth-requires : tie.Need-fifth-requires
 fifth-requires c κs =
-    let s = c .before .before .before .before in
-    let t = s .pre .0 in
-    let r = s .pre .1 .1 .0 in
-    (t .tangents-are, (t .wide, (s .pre .1 .0, ((r .a-long, r .b-long), (within-up (s .pre .1 .1 .1 .0) (omega arith), within-up (s .pre .1 .1 .1 .1) (omega arith))))))
+    let s = c .before .before in
+    (s .pre .0 .1, (s .pre .1 .0, (within-up (s .pre .1 .1 .1 .0) (omega arith), within-up (s .pre .1 .1 .1 .1) (omega arith))))
 
 fourth-requires : tie.Need-fourth-requires
 fourth-requires c κs =
-    let f = c .before .before .before .before .before .before .before in
-    let s = s5 f in
-    let t = s .pre .0 in
-    let r = s .pre .1 .1 .0 in (
-      t .sines-are,
+    let f = c .before .before .before in
+    let s = s5 f in (
+      s .pre .0 .1,
       (
-        t .wide,
-        (
-          record { top-long = s .pre .1 .0 .top-long; bottom-long = ap length (B5 f) ∙ unlong5 (N s) (top s) (bottom s) },
-          ((c .before .before .before .before .before .a .given ∙ r .a-long, c .before .before .before .before .b .given ∙ r .b-long), (within-up (subst (Within 1572864) (sym (B5 f)) (unwithin5 (N s) (top s) (bottom s) (s .pre .1 .1 .1 .0) (s .pre .1 .1 .1 .1))) (omega arith), within-up (s .pre .1 .1 .1 .0) (omega arith))),
-        ),
+        record { top-long = s .pre .1 .0 .top-long; bottom-long = ap length (B5 f) ∙ unlong5 (N s) (top s) (bottom s) },
+        (within-up (subst (Within 1572864) (sym (B5 f)) (unwithin5 (N s) (top s) (bottom s) (s .pre .1 .1 .1 .0) (s .pre .1 .1 .1 .1))) (omega arith), within-up (s .pre .1 .1 .1 .0) (omega arith)),
       ),
     )
 
 third-requires : tie.Need-third-requires
 third-requires c κs =
-    let g = c .before .before .before .before .before .before .before .before in
-    let f = g .before .before .before .before .before .before .before .before in
-    let s = s5 f in
-    let t = s .pre .0 in
-    let r = s .pre .1 .1 .0 in (
-      t .turn-is,
+    let g = c .before .before .before .before .before .before .before in
+    let f = f4 g in
+    let s = s5 f in (
+      s .pre .0,
       (
-        t .secants-are,
+        record { top-long = ap length (T4 g) ∙ unlong4 (N s) (top s) (bottom s); bottom-long = ap length (B5 f) ∙ unlong5 (N s) (top s) (bottom s) },
         (
-          t .tangents-are,
+          s .pre .1 .1 .0,
           (
-            t .root-is,
-            (
-              record { top-long = ap length (T4 g) ∙ unlong4 (N s) (top s) (bottom s); bottom-long = ap length (B5 f) ∙ unlong5 (N s) (top s) (bottom s) },
-              (
-                (c .before .before .before .before .before .before .a2 .given ∙ g .before .before .before .before .before .before .a .given ∙ r .a-long, c .before .before .before .before .before .b2 .given ∙ g .before .before .before .before .before .b .given ∙ r .b-long, r .row-long),
-                (
-                  within-up (subst (Within 2621440) (sym (T4 g)) (unwithin4 (N s) (top s) (bottom s) (s .pre .1 .1 .1 .0) (s .pre .1 .1 .1 .1))) (omega arith),
-                  within-up (subst (Within 1572864) (sym (B5 f)) (unwithin5 (N s) (top s) (bottom s) (s .pre .1 .1 .1 .0) (s .pre .1 .1 .1 .1))) (omega arith),
-                ),
-              ),
-            ),
+            within-up (subst (Within 2621440) (sym (T4 g)) (unwithin4 (N s) (top s) (bottom s) (s .pre .1 .1 .1 .0) (s .pre .1 .1 .1 .1))) (omega arith),
+            within-up (subst (Within 1572864) (sym (B5 f)) (unwithin5 (N s) (top s) (bottom s) (s .pre .1 .1 .1 .0) (s .pre .1 .1 .1 .1))) (omega arith),
           ),
         ),
       ),
@@ -97,23 +88,18 @@ third-requires c κs =
 
 second-requires : tie.Need-second-requires
 second-requires c κs =
-    let h = c .before .before .before .before .before .before .before .before in
-    let g = h .before .before .before .before .before .before .before .before .before in
-    let f = g .before .before .before .before .before .before .before .before in
-    let s = s5 f in
-    let t = s .pre .0 in
+    let h = c .before .before .before .before .before .before .before .before .before .before in
+    let g = g3 h in
+    let s = s5 (f4 g) in
     let r = s .pre .1 .1 .0 in (
-      t .turn-is,
+      s .pre .0,
       (
-        t .root-is,
+        record { top-long = ap length (T4 g) ∙ unlong4 (N s) (top s) (bottom s); bottom-long = ap length (B3 h) ∙ unlong3 (N s) (top s) (bottom s) },
         (
-          record { top-long = ap length (T4 g) ∙ unlong4 (N s) (top s) (bottom s); bottom-long = ap length (B3 h) ∙ unlong3 (N s) (top s) (bottom s) },
+          (c .before .before .before .before .before .before .before .before .a .given ∙ r .a-long, c .before .before .before .before .before .before .c .given ∙ r .c-long, c .before .before .before .before .before .row .given ∙ r .row-long),
           (
-            (c .before .before .before .before .before .before .a3 .given ∙ h .before .before .before .before .before .before .before .a2 .given ∙ g .before .before .before .before .before .before .a .given ∙ r .a-long, c .before .before .before .before .row .given ∙ r .row-long),
-            (
-              within-up (subst (Within 56623104) (sym (B3 h)) (unwithin3 (N s) (top s) (bottom s) (s .pre .1 .1 .1 .0) (s .pre .1 .1 .1 .1))) (omega arith),
-              within-up (subst (Within 2621440) (sym (T4 g)) (unwithin4 (N s) (top s) (bottom s) (s .pre .1 .1 .1 .0) (s .pre .1 .1 .1 .1))) (omega arith),
-            ),
+            within-up (subst (Within 56623104) (sym (B3 h)) (unwithin3 (N s) (top s) (bottom s) (s .pre .1 .1 .1 .0) (s .pre .1 .1 .1 .1))) (omega arith),
+            within-up (subst (Within 2621440) (sym (T4 g)) (unwithin4 (N s) (top s) (bottom s) (s .pre .1 .1 .1 .0) (s .pre .1 .1 .1 .1))) (omega arith),
           ),
         ),
       ),
@@ -121,65 +107,48 @@ second-requires c κs =
 
 first-requires : tie.Need-first-requires
 first-requires c κs =
-    let k = c .before .before .before .before .before .before .before .before in
-    let h = k .before .before .before .before .before .before .before .before .before in
-    let g = h .before .before .before .before .before .before .before .before .before in
-    let f = g .before .before .before .before .before .before .before .before in
-    let s = s5 f in
-    let t = s .pre .0 in
+    let k = c .before .before .before .before .before .before .before .before .before .before in
+    let h = h2 k in
+    let s = s5 (f4 (g3 h)) in
     let r = s .pre .1 .1 .0 in (
-      t .turn-is,
+      s .pre .0,
       (
-        (t .root-is, t .wide),
+        record { top-long = ap length (T2 k) ∙ unlong2 (N s) (top s) (bottom s); bottom-long = ap length (B3 h) ∙ unlong3 (N s) (top s) (bottom s) },
         (
-          record { top-long = ap length (T2 k) ∙ unlong2 (N s) (top s) (bottom s); bottom-long = ap length (B3 h) ∙ unlong3 (N s) (top s) (bottom s) },
+          record { a-long = c .before .before .before .before .before .before .before .before .a2 .given ∙ c .before .before .before .before .before .before .before .before .before .before .before .before .before .before .before .before .before .before .before .a .given ∙ r .a-long; b-long = c .before .before .before .before .before .before .before .before .before .before .before .before .before .before .before .before .before .before .b .given ∙ r .b-long; c-long = c .before .before .before .before .before .before .before .c2 .given ∙ c .before .before .before .before .before .before .before .before .before .before .before .before .before .before .before .before .before .c .given ∙ r .c-long; row-long = c .before .before .before .before .before .before .row2 .given ∙ c .before .before .before .before .before .before .before .before .before .before .before .before .before .before .before .before .row .given ∙ r .row-long },
           (
-            (c .before .before .before .before .before .before .a4 .given ∙ k .before .before .before .before .before .before .before .a3 .given ∙ h .before .before .before .before .before .before .before .a2 .given ∙ g .before .before .before .before .before .before .a .given ∙ r .a-long, k .before .before .before .before .before .before .b3 .given ∙ h .before .before .before .before .before .before .b2 .given ∙ g .before .before .before .before .before .b .given ∙ r .b-long, c .before .before .before .before .before .row2 .given ∙ k .before .before .before .before .before .row .given ∙ r .row-long),
-            (
-              within-up (subst (Within 455606272) (sym (T2 k)) (unwithin2 (N s) (top s) (bottom s) (s .pre .1 .1 .1 .0) (s .pre .1 .1 .1 .1))) (omega arith),
-              within-up (subst (Within 56623104) (sym (B3 h)) (unwithin3 (N s) (top s) (bottom s) (s .pre .1 .1 .1 .0) (s .pre .1 .1 .1 .1))) (omega arith),
-            ),
+            within-up (subst (Within 455606272) (sym (T2 k)) (unwithin2 (N s) (top s) (bottom s) (s .pre .1 .1 .1 .0) (s .pre .1 .1 .1 .1))) (omega arith),
+            within-up (subst (Within 56623104) (sym (B3 h)) (unwithin3 (N s) (top s) (bottom s) (s .pre .1 .1 .1 .0) (s .pre .1 .1 .1 .1))) (omega arith),
           ),
         ),
       ),
     )
 
 same-length : tie.Need-same-length
-same-length c = omega (arith, c .before .before .before .before .before .before .before .before .before .before .before .before .top2 .given, c .before .before .before .before .before .before .before .before .before .before .before .before .before .before .before .before .before .before .before .before .before .before .before .before .before .before .before .before .before .before .top .given)
+same-length c = omega (arith, c .before .before .before .before .before .before .before .before .before .before .before .before .before .before .before .top2 .given, c .before .before .before .before .before .before .before .before .before .before .before .before .before .before .before .before .before .before .before .before .before .before .before .before .before .before .before .before .before .before .before .before .before .before .top .given)
 
 same-length-2 : tie.Need-same-length-2
-same-length-2 c = omega (arith, c .before .before .before .bottom3 .given, c .before .before .before .before .before .before .before .before .before .before .before .before .before .before .before .before .before .before .before .before .before .bottom2 .given, c .before .before .before .before .before .before .before .before .before .before .before .before .before .before .before .before .before .before .before .before .before .before .before .before .before .before .before .before .before .before .before .before .before .before .before .before .before .before .bottom .given)
+same-length-2 c = omega (arith, c .before .before .before .before .bottom3 .given, c .before .before .before .before .before .before .before .before .before .before .before .before .before .before .before .before .before .before .before .before .before .before .before .before .before .before .bottom2 .given, c .before .before .before .before .before .before .before .before .before .before .before .before .before .before .before .before .before .before .before .before .before .before .before .before .before .before .before .before .before .before .before .before .before .before .before .before .before .before .bottom .given)
 
 same-length-3 : tie.Need-same-length-3
-same-length-3 c = omega (arith, c .before .before .a5 .given, c .before .before .before .before .before .before .before .before .before .before .before .a4 .given, c .before .before .before .before .before .before .before .before .before .before .before .before .before .before .before .before .before .before .before .before .a3 .given, c .before .before .before .before .before .before .before .before .before .before .before .before .before .before .before .before .before .before .before .before .before .before .before .before .before .before .before .before .before .a2 .given, c .before .before .before .before .before .before .before .before .before .before .before .before .before .before .before .before .before .before .before .before .before .before .before .before .before .before .before .before .before .before .before .before .before .before .before .before .before .a .given)
+same-length-3 c = omega (arith, c .before .before .before .a3 .given, c .before .before .before .before .before .before .before .before .before .before .before .before .before .before .a2 .given, c .before .before .before .before .before .before .before .before .before .before .before .before .before .before .before .before .before .before .before .before .before .before .before .before .before .a .given)
 
 same-length-4 : tie.Need-same-length-4
-same-length-4 c = omega (arith, c .before .b4 .given, c .before .before .before .before .before .before .before .before .before .before .before .before .before .before .before .before .before .before .before .b3 .given, c .before .before .before .before .before .before .before .before .before .before .before .before .before .before .before .before .before .before .before .before .before .before .before .before .before .before .before .before .b2 .given, c .before .before .before .before .before .before .before .before .before .before .before .before .before .before .before .before .before .before .before .before .before .before .before .before .before .before .before .before .before .before .before .before .before .before .before .before .b .given)
+same-length-4 c = omega (arith, c .before .before .b2 .given, c .before .before .before .before .before .before .before .before .before .before .before .before .before .before .before .before .before .before .before .before .before .before .before .before .b .given)
 
 same-length-5 : tie.Need-same-length-5
-same-length-5 c = search needs
+same-length-5 c = omega (arith, c .before .c3 .given, c .before .before .before .before .before .before .before .before .before .before .before .before .before .c2 .given, c .before .before .before .before .before .before .before .before .before .before .before .before .before .before .before .before .before .before .before .before .before .before .before .c .given)
+
+same-length-6 : tie.Need-same-length-6
+same-length-6 c = omega (arith, c .row3 .given, c .before .before .before .before .before .before .before .before .before .before .before .before .row2 .given, c .before .before .before .before .before .before .before .before .before .before .before .before .before .before .before .before .before .before .before .before .before .before .row .given)
 
 returns : tie.Need-returns
 unfolding unbottom1
 returns c =
-    let e = c .before .before .before .before in
-    let k = e .before .before .before .before .before .before .before .before .before in
-    let h = k .before .before .before .before .before .before .before .before .before in
-    let s = s5 (h .before .before .before .before .before .before .before .before .before .before .before .before .before .before .before .before .before) in
-    (T2 k, e .first .ensures ∙ ap₂ (unstage1 (N s)) (T2 k) (B3 h))
+    let k = c .before .before .before .before .before .before .before .before .before .before .before .before .before .before .before .before in
+    let h = h2 k in
+    let s = s5 (f4 (g3 h)) in
+    (T2 k, c .before .before .before .before .before .first .ensures ∙ ap₂ (unstage1 (N s)) (T2 k) (B3 h))
 
 pub backward-spec : {M : Type 1} → statement M
-backward-spec =
-    tie.close
-    (tie.spec
-    fifth-requires
-    fourth-requires
-    third-requires
-    second-requires
-    first-requires
-    same-length
-    same-length-2
-    same-length-3
-    same-length-4
-    same-length-5
-    returns)
+backward-spec = tie.close (tie.spec fifth-requires fourth-requires third-requires second-requires first-requires same-length same-length-2 same-length-3 same-length-4 same-length-5 same-length-6 returns)

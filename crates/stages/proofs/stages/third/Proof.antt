@@ -4,18 +4,17 @@ use native.Mathlib.Omega.{arith}
 use mathlib.Core.Path.{_≡_, sym, ap, ap₂, subst, _∙_}
 use mathlib.Core.List.{List}
 use Prim.Native.Nat.{ℕ, _+_, _-_, _*_, _^_, _≤_}
-use lib.IntN.{ℤ, _*ℤ_}
+use lib.IntN.{ℤ, negℤ, _*ℤ_}
 use lib.ListN.{length}
 use Rattle.integers.specs.Places.{places, at, Within}
 use Rattle.integers.proofs.PlaceLaws.{length-places, within-up}
 use Rattle.tables.specs.Widths.{halfWidth}
 use Rattle.tables.proofs.ByWidth.{half-width-le}
 use Rattle.stages.specs.Moves.{Moves}
-use Rattle.steps.specs.Steps.{rootLog}
+use Rattle.steps.specs.Steps.{rootLog, tangent}
 use Rattle.stages.specs.Expanded.{cosineSums, secantSums}
 use Rattle.stages.proofs.StageLaws.{lifted, amounts3, stage3-is}
 use Rattle.stages.proofs.StageSizes.{root-le, cosine-sums-size, secant-sums-size, amounts3-move}
-use Rattle.stages.proofs.TableSizes.{tangents-within, tangents-long}
 use Rattle.stages.specs.Expanded.{third as thirdOf}
 use Rattle.stages.proofs.stages.third.Statement.{statement}
 use Rattle.stages.proofs.stages.third.Tie as tie
@@ -28,25 +27,28 @@ module _ (s : tie.Start) where
   M = halfWidth N
 
   top-long : length (s .args .top .now) ≡ M
-  top-long = s .pre .1 .1 .1 .1 .0 .top-long
+  top-long = s .pre .1 .0 .top-long
 
   bottom-long : length (s .args .bottom .now) ≡ M
-  bottom-long = s .pre .1 .1 .1 .1 .0 .bottom-long
+  bottom-long = s .pre .1 .0 .bottom-long
 
   a-long : length (s .args .a .now) ≡ M
-  a-long = s .pre .1 .1 .1 .1 .1 .0 .0
+  a-long = s .pre .1 .1 .0 .a-long
 
   b-long : length (s .args .b .now) ≡ M
-  b-long = s .pre .1 .1 .1 .1 .1 .0 .1
+  b-long = s .pre .1 .1 .0 .b-long
 
   row-long : length (s .args .row .now) ≡ M
-  row-long = s .pre .1 .1 .1 .1 .1 .0 .2
+  row-long = s .pre .1 .1 .0 .row-long
+
+  c-long : length (s .args .c .now) ≡ M
+  c-long = s .pre .1 .1 .0 .c-long
 
   top-small : Within 7500000 (s .args .top .now)
-  top-small = s .pre .1 .1 .1 .1 .1 .1 .0
+  top-small = s .pre .1 .1 .1 .0
 
   root-is : s .args .root ≡ rootLog N
-  root-is = s .pre .1 .1 .1 .0
+  root-is = s .pre .0 .0
 
   root-small : s .args .root ≤ 3
   root-small = rw root-is (root-le N)
@@ -54,10 +56,10 @@ module _ (s : tie.Start) where
 -- behind both sums
 module _ (q : tie.After-cosine-sums) where
   abbrev p : tie.After-secant-sums
-  p = q .before .before .before .before .before
+  p = q .before .before .before .before .before .before .before
 
   abbrev from : tie.Start
-  from = p .before .before .before
+  from = p .before .before .before .before
 
   abbrev secants : List ℤ
   secants = p .secant-sums .last .1 .1 .1 .1 .0
@@ -82,47 +84,43 @@ module _ (q : tie.After-cosine-sums) where
 -- behind the amounts
 module _ (r : tie.After-third-amounts) where
   abbrev sums : tie.After-cosine-sums
-  sums = r .before .before .before .before .before
+  sums = r .before .before .before .before .before .before
 
   abbrev start : tie.Start
   start = from sums
 
-  amounts : r .third-amounts .last .1 .1 .1 .0 ≡ amounts3 (N start) (start .args .tangents .now) (start .args .top .now)
+  amounts : r .third-amounts .last .1 .1 .1 .0 ≡ amounts3 (N start) (start .args .top .now)
   amounts =
       let top = start .args .top .now in
-      let tangents = start .args .tangents .now in
+      let t : ℕ → ℤ = λ i. negℤ (tangent (N start) (M start - 1 - i)) *ℤ at top (M start - 1 - i) in
       r .third-amounts .ensures
-      ∙ ap₂ (λ l a. places (length a) (λ i. thirdOf l (at a i) (at (cosines sums) i) (at tangents (length a - 1 - i) *ℤ at top (length a - 1 - i)))) (root-is start) (p sums .secant-sums .ensures)
-      ∙ ap (λ b. let a = secantSums (N start) top in places (length a) (λ i. thirdOf (rootLog (N start)) (at a i) (at b i) (at tangents (length a - 1 - i) *ℤ at top (length a - 1 - i)))) (sums .cosine-sums .ensures)
+      ∙ ap₂ (λ l a. places (M start) (λ i. thirdOf l (at a i) (at (cosines sums) i) (t i))) (root-is start) (p sums .secant-sums .ensures)
+      ∙ ap (λ b. places (M start) (λ i. thirdOf (rootLog (N start)) (at (secantSums (N start) top) i) (at b i) (t i))) (sums .cosine-sums .ensures)
 
   amounts-long : length (r .third-amounts .last .1 .1 .1 .0) ≡ M start
-  unfolding secantSums
-  amounts-long = ap length amounts ∙ length-places _ _ ∙ length-places _ _
+  amounts-long = ap length amounts ∙ length-places _ _
 
   amounts-move : Moves (28 + 2 * start .args .root) (r .third-amounts .last .1 .1 .1 .0)
   amounts-move =
       subst (λ k. Moves (28 + 2 * k) (r .third-amounts .last .1 .1 .1 .0)) (sym (root-is start))
       (subst (Moves (28 + 2 * rootLog (N start))) (sym amounts)
-      (amounts3-move (N start) (start .args .tangents .now) (start .args .top .now) (start .args .bottom .now) (top-long start) (bottom-long start) (start .pre .1 .1 .0) (top-small start)))
+      (amounts3-move (N start) (start .args .top .now) (start .args .bottom .now) (top-long start) (bottom-long start) (top-small start)))
 
 secant-sums-requires : tie.Need-secant-sums-requires
 secant-sums-requires c κs =
-    let s = c .before .before in
-    (s .pre .1 .0, ((top-long s, row-long s, a-long s), within-up (top-small s) (omega arith)))
+    let s = c .before .before .before in
+    (s .pre .0 .1, ((top-long s, row-long s, c-long s, a-long s), within-up (top-small s) (omega arith)))
 
 cosine-sums-requires : tie.Need-cosine-sums-requires
 cosine-sums-requires c κs =
-    let s = c .before .before .before .before .before .before .before in
-    (s .pre .0, ((top-long s, c .before .before .before .row .given ∙ row-long s, b-long s), within-up (top-small s) (omega arith)))
+    let s = c .before .before .before .before .before .before .before .before .before .before in
+    (s .pre .0 .1, ((top-long s, c .before .before .before .before .before .row .given ∙ row-long s, c .before .before .before .before .c .given ∙ c-long s, b-long s), within-up (top-small s) (omega arith)))
 
 third-amounts-requires : tie.Need-third-amounts-requires
 third-amounts-requires c κs =
-    let q = c .before .before .before .before in
+    let q = c .before .before .before .before .before in
     let s = from q in
-    let n = secants-long q in (
-      (root-small s, tangents-long (N s) (s .args .tangents .now) (s .pre .1 .1 .0) ∙ sym n, top-long s ∙ sym n, cosines-long q ∙ sym n),
-      (tangents-within (N s) (s .args .tangents .now) (s .pre .1 .1 .0), (top-small s, (secants-small q, cosines-small q))),
-    )
+    ((root-small s, s .pre .0 .1), ((top-long s, secants-long q, cosines-long q), (top-small s, (secants-small q, cosines-small q))))
 
 mul-lift : tie.Need-mul-lift
 mul-lift c = record { fits = omega (arith, root-small (start (c .before))) }
@@ -134,7 +132,7 @@ lift-requires : tie.Need-lift-requires
 lift-requires c κs =
     let r = c .before .before .before in
     let s = start r in
-    (amounts-long r ∙ sym (bottom-long s), (amounts-move r, within-up (s .pre .1 .1 .1 .1 .1 .1 .1) (omega arith)))
+    (amounts-long r ∙ sym (bottom-long s), (amounts-move r, within-up (s .pre .1 .1 .1 .1) (omega arith)))
 
 same-length : tie.Need-same-length
 same-length c = search needs
@@ -148,13 +146,16 @@ same-length-3 c = search needs
 same-length-4 : tie.Need-same-length-4
 same-length-4 c = search needs
 
+same-length-5 : tie.Need-same-length-5
+same-length-5 c = search needs
+
 returns : tie.Need-returns
 returns c =
     let l = c .before in
     let r = l .before .before .before .before in
     let s = start r in
     l .lift .ensures ∙ ap₂ (λ k a. lifted (s .args .undo) (28 + 2 * k) a (s .args .bottom .now)) (root-is s) (amounts r)
-    ∙ stage3-is (N s) (s .args .top .now) (s .args .bottom .now) (top-long s) (bottom-long s) (s .args .undo) (s .args .tangents .now) (s .pre .1 .1 .0)
+    ∙ stage3-is (N s) (s .args .top .now) (s .args .bottom .now) (top-long s) (bottom-long s) (s .args .undo)
 
 pub third-spec : {M : Type 1} → statement M
 third-spec =
@@ -170,4 +171,5 @@ third-spec =
     same-length-2
     same-length-3
     same-length-4
+    same-length-5
     returns)

@@ -84,7 +84,7 @@ windows-requires c κs =
     let q = s r .pre in (
       (q .0 .0 ∙ sym (row-long r), ap (λ m. m % 4) (row-long r) ∙ q .0 .2, q .0 .3 ∙ sym (ap (λ m. m + m) (row-long r))),
       subst (λ m. Words m (t (s r)) (r .raise .last .0)) (sym (row-long r))
-      (subst (Words (n (s r)) (t (s r))) (sym (row-is r)) (raised-words (n (s r)) (t (s r)) (s r .args .weights .now) (s r .args .row .now) (q .1 .0) (q .0 .3) refl (q .0 .4) (q .1 .1))),
+          (subst (Words (n (s r)) (t (s r))) (sym (row-is r)) (raised-words (n (s r)) (t (s r)) (s r .args .weights .now) (s r .args .row .now) (q .1 .0) (q .0 .3) refl (q .0 .4) (q .1 .1))),
     )
 
 total-requires : tie.Need-total-requires

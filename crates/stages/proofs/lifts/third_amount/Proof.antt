@@ -1,4 +1,4 @@
--- `stages::stages::third_amount` meets its contract.
+-- `stages::lifts::third_amount` meets its contract.
 use borrow.Author.Needs.{needs}
 use native.Mathlib.Omega.{arith}
 use mathlib.Core.Path.{ap, _∙_}
@@ -11,8 +11,8 @@ use Rattle.integers.proofs.Words.{minus}
 use Rattle.integers.proofs.Held.{held-power}
 use Rattle.integers.proofs.Num.{Num, num, num-lit, num-add, num-sub, num-mul, add-asks, sub-asks, mul-asks}
 use Rattle.stages.specs.Expanded.{third}
-use Rattle.stages.proofs.stages.third_amount.Statement.{statement}
-use Rattle.stages.proofs.stages.third_amount.Tie as tie
+use Rattle.stages.proofs.lifts.third_amount.Statement.{statement}
+use Rattle.stages.proofs.lifts.third_amount.Tie as tie
 
 zero : Num w64 0 0 (pos 0)
 zero = num-lit w64 0 tt

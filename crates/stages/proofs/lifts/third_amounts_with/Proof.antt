@@ -1,4 +1,4 @@
--- `stages::stages::third_amounts` meets its contract.
+-- `stages::lifts::third_amounts_with` meets its contract.
 use borrow.Author.Needs.{needs}
 use native.Mathlib.Omega.{arith}
 use mathlib.Core.Path.{_≡_, ap, ap₂, _∙_}
@@ -12,8 +12,8 @@ use Rattle.integers.proofs.Held.{held-ok}
 use Rattle.integers.proofs.Num.{Num, num, num-mul, mul-asks}
 use Rattle.integers.proofs.Fills.{Filling, filling-none, filling-next, filling-here, filling-all}
 use Rattle.stages.specs.Expanded.{third}
-use Rattle.stages.proofs.stages.third_amounts.Statement.{statement}
-use Rattle.stages.proofs.stages.third_amounts.Tie as tie
+use Rattle.stages.proofs.lifts.third_amounts_with.Statement.{statement}
+use Rattle.stages.proofs.lifts.third_amounts_with.Tie as tie
 
 abbrev Inv-loop : tie.InvT-loop
 Inv-loop root tangents top a₀ b i₀ a i = (i ≤ length a₀) × Filling (λ i. third root (at a₀ i) (at b i) (at tangents (length a₀ - 1 - i) *ℤ at top (length a₀ - 1 - i))) a₀ i a
@@ -111,8 +111,8 @@ same-length c = omega arith
 returns : tie.Need-returns Inv-loop μ-loop
 returns c = filling-all (c .before .loop .inv .1) (omega arith)
 
-pub third-amounts-spec : {M : Type 1} → statement M
-third-amounts-spec =
+pub third-amounts-with-spec : {M : Type 1} → statement M
+third-amounts-with-spec =
     tie.close
     (tie.spec
     Inv-loop
