@@ -5,7 +5,7 @@ use mathlib.Core.List.{List, []}
 use Prim.Native.Nat.{ℕ, _≤_}
 use native.Mathlib.Omega.{arith}
 use borrow.Author.Tests.{lt-ltb, le-ltb, leb-true, eq-eqb, ne-eqb}
-use lib.IntN.{ℤ}
+use lib.IntN.{ℤ, pos}
 use lib.ListN.{length}
 use Rattle.integers.specs.Places.{Within}
 use Rattle.tables.specs.Widths.{halfWidth}
@@ -19,9 +19,11 @@ use Rattle.run.specs.declared.record.Run.{Run}
 use Rattle.run.specs.declared.gate.Fault.{Fault}
 use Rattle.run.specs.declared.gate.Fault.the-variants.{Dead, Beyond, Clear}
 use Rattle.run.specs.Record.{blockLimit, zeros, filled, opened, advanced, closed}
-use Rattle.run.specs.Gate.{Given, ask, askEach, admitted, sound, firstDead, firstOut}
+use Rattle.run.specs.Gate.{Given, ask, askEach, admitted, sound, inside, firstDead, firstOut}
 use Rattle.run.specs.Forward.{started, frameOn, takenIn, ended}
 use Rattle.run.specs.Faults.{faultBy, faultOf}
+use Rattle.run.proofs.Searches.{nothing-is, all-inside}
+use Rattle.run.proofs.GateLaws.{none-marked}
 use Rattle.run.proofs.CallLaws.{every-answer}
 
 -- ---- a fresh start
@@ -55,6 +57,10 @@ module _ (block : List ℤ) where
     pub none-found : firstOut block 0 ≡ Nothing → Clear ≡ faultOf block
     unfolding faultOf faultBy
     none-found e = rw (d, e)
+
+pub range-clear : (block : List ℤ) → inside (pos readingLimit) block ≡ true → Clear ≡ faultOf block
+unfolding inside
+range-clear block e = none-found block (none-marked block (all-inside readingLimit block e)) (nothing-is _ e)
 
 clear-inside : (f g : Found) → faultBy f g ≡ Clear → g ≡ Nothing
 unfolding faultBy
