@@ -62,15 +62,18 @@ pub range-clear : (block : List ℤ) → inside (pos readingLimit) block ≡ tru
 unfolding inside
 range-clear block e = none-found block (none-marked block (all-inside readingLimit block e)) (nothing-is _ e)
 
-clear-inside : (f g : Found) → faultBy f g ≡ Clear → g ≡ Nothing
+neither-found : (f g : Found) → faultBy f g ≡ Clear → (f ≡ Nothing) × (g ≡ Nothing)
 unfolding faultBy
-clear-inside (At place) g e = cc
-clear-inside Nothing (At place) e = cc
-clear-inside Nothing Nothing e = refl
+neither-found (At place) g e = (cc, cc)
+neither-found Nothing (At place) e = (cc, cc)
+neither-found Nothing Nothing e = (refl, refl)
+
+pub clear-both : (block : List ℤ) → faultOf block ≡ Clear → (firstDead block 0 ≡ Nothing) × (firstOut block 0 ≡ Nothing)
+unfolding faultOf
+clear-both block e = neither-found (firstDead block 0) (firstOut block 0) e
 
 pub clear-within : (block : List ℤ) → faultOf block ≡ Clear → Within readingLimit block
-unfolding faultOf
-clear-within block e = none-within readingLimit block (clear-inside (firstDead block 0) (firstOut block 0) e)
+clear-within block e = none-within readingLimit block (clear-both block e .1)
 
 -- ---- questions 8 and 9 to a block
 module _ (run : Run) (block out : List ℤ) where

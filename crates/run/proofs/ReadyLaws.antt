@@ -2,23 +2,26 @@
 use mathlib.Core.Path.{_≡_, refl, sym, ap, ap₂, _∙_}
 use mathlib.Core.Bool.{true, false}
 use mathlib.Core.List.{List, [], _∷_, _++_}
-use Prim.Native.Nat.{ℕ, zero, suc, _+_, _-_, _≤_}
+use Prim.Native.Nat.{ℕ, zero, suc, _+_, _-_, _≤_, _<_}
 use native.Mathlib.Omega.{arith}
 use borrow.Author.Tests.{ltb-true, leb-true}
 use lib.IntN.{ℤ, pos}
 use lib.ListN.{length, take, drop, length-drop}
+use Rattle.integers.specs.Places.{Within}
 use Rattle.integers.specs.Vectors.{AllAbs}
 use Rattle.integers.proofs.Order.{natAbs-zero}
 use Rattle.integers.proofs.PlaceLaws.{within-all}
 use Rattle.tables.specs.Widths.{halfWidth}
-use Rattle.steps.specs.Limits.{foldedLimit}
+use Rattle.steps.specs.Limits.{readingLimit, foldedLimit}
 use Rattle.steps.specs.Steps.{held, frame}
 use Rattle.steps.proofs.Undo.{length-held}
+use Rattle.distance.proofs.ZeroBlock.{zero-block}
 use Rattle.run.specs.declared.record.Run.{Run}
 use Rattle.run.specs.Record.{frameLimit, zeros, filled, opened, advanced}
 use Rattle.run.specs.Gate.{inside, sound}
 use Rattle.run.specs.Forward.{frameOn}
 use Rattle.run.specs.Ready.{Ready}
+use Rattle.run.proofs.FaultLaws.{width-le}
 use Rattle.run.proofs.Searches.{all-inside}
 use Rattle.run.proofs.CallLaws.{every-answer}
 
@@ -31,6 +34,13 @@ pub zeros-part : (n m : ℕ) → n ≤ m → take n (zeros m) ≡ zeros n
 zeros-part zero m h = refl
 zeros-part (suc n) zero h = absurd (omega arith)
 zeros-part (suc n) (suc m) h = ap (λ (l : List ℤ). pos 0 ∷ l) (zeros-part n m (omega arith))
+
+-- a block of zeros, as long as the width
+pub zero-part : (N : ℕ) (xs : List ℤ) → 0 < halfWidth N → xs ≡ zeros 128 → take N xs ≡ zeros N
+zero-part N xs w e = ap (take N) e ∙ zeros-part N 128 (width-le N w)
+
+pub zero-within : (N : ℕ) → Within readingLimit (zeros N)
+zero-within N = within-all readingLimit _ (zero-block N readingLimit .within)
 
 pub passed : (top : ℕ) → top ≤ frameLimit → (run : Run) (half : ℕ) → sound top run ≡ true → half ≡ halfWidth (run .width) → length (run .held) ≡ 64 → Ready run half
 unfolding sound inside
