@@ -1,12 +1,13 @@
 -- A record that the gate has passed: what the steps can rely on, and the record that they leave.
 use mathlib.Core.Path.{_≡_, refl, sym, ap, ap₂, _∙_}
-use mathlib.Core.Bool.{true, false}
+use mathlib.Core.Bool.{Bool, true, false}
 use mathlib.Core.List.{List, [], _∷_, _++_}
 use Prim.Native.Nat.{ℕ, zero, suc, _+_, _-_, _≤_, _<_}
 use native.Mathlib.Omega.{arith}
 use borrow.Author.Tests.{ltb-true, leb-true}
 use lib.IntN.{ℤ, pos}
-use lib.ListN.{length, take, drop, length-drop}
+use lib.ListN.{length, take, drop, length-drop, take-append-drop}
+use lib.Seq.{length-take-le}
 use Rattle.integers.specs.Places.{Within}
 use Rattle.integers.specs.Vectors.{AllAbs}
 use Rattle.integers.proofs.Order.{natAbs-zero}
@@ -53,24 +54,31 @@ passed top m run half e h l = record {
       ∙ ap zeros (length-drop (halfWidth (run .width)) (run .held) ∙ ap (λ n. n - halfWidth (run .width)) l);
 }
 
+-- ---- held values written in front of zeros
+module _ (N half count : ℕ) (kept low : List ℤ) (rest : drop half kept ≡ zeros (64 - halfWidth N)) (long : length low ≡ halfWidth N) where
+  pub stored-opened : (xs : List ℤ) → xs ≡ low ++ drop half kept → record { width = N; count = count; held = xs; finished = false } ≡ opened N count low
+  unfolding opened filled
+  stored-opened xs e = ap (λ (h : List ℤ). record { width = N; count = count; held = h; finished = false }) (e ∙ ap (λ xs. low ++ xs) (rest ∙ ap (λ n. zeros (64 - n)) (sym long)))
+
 module _ (run : Run) (half : ℕ) (ready : Ready run half) where
   abbrev N : ℕ
   N = run .width
 
-  -- the rest of the held values is zero, as it was
-  stored-is : (low : List ℤ) → length low ≡ halfWidth N → low ++ drop half (run .held) ≡ filled low
-  unfolding filled
-  stored-is low l = ap (λ xs. low ++ xs) (ap (λ n. drop n (run .held)) (ready .good .half-is) ∙ ready .rest ∙ ap (λ n. zeros (64 - n)) (sym l))
+  -- the rest of the held values is zero
+  pub rest-zero : drop half (run .held) ≡ zeros (64 - halfWidth N)
+  rest-zero = ap (λ n. drop n (run .held)) (ready .good .half-is) ∙ ready .rest
 
-  pub opened-is : (low xs : List ℤ) → length low ≡ halfWidth N → xs ≡ low ++ drop half (run .held)
-      → record { width = N; count = run .count + 1; held = xs; finished = false } ≡ opened N (suc (run .count)) low
-  unfolding opened
-  opened-is low xs l e = ap₂ (λ (c : ℕ) (h : List ℤ). record { width = N; count = c; held = h; finished = false }) (omega arith) (e ∙ stored-is low l)
+  pub run-is : run .finished ≡ false → half ≤ length (run .held) → run ≡ opened N (run .count) (take half (run .held))
+  run-is o l =
+      ap (λ (f : Bool). record { width = N; count = run .count; held = run .held; finished = f }) o
+      ∙ stored-opened N half (run .count) (run .held) (take half (run .held)) rest-zero (length-take-le half (run .held) l ∙ ready .good .half-is) (run .held) (sym (take-append-drop half (run .held)))
 
   module _ (block : List ℤ) where
     pub advanced-is : (xs : List ℤ) → xs ≡ held N block ++ drop half (run .held) → record { width = N; count = run .count + 1; held = xs; finished = false } ≡ advanced run block
     unfolding advanced
-    advanced-is xs e = opened-is (held N block) xs (length-held N block) e
+    advanced-is xs e =
+        let c : run .count + 1 ≡ suc (run .count) = omega arith in
+        ap (λ (n : ℕ). record { width = N; count = n; held = xs; finished = false }) c ∙ stored-opened N half (suc (run .count)) (run .held) (held N block) rest-zero (length-held N block) xs e
 
     pub frame-on : frame N (take half (run .held)) block ≡ frameOn run block
     unfolding frameOn
