@@ -13,6 +13,7 @@ use Rattle.integers.specs.Vectors.{AllAbs}
 use Rattle.integers.proofs.Order.{natAbs-zero}
 use Rattle.integers.proofs.PlaceLaws.{within-all}
 use Rattle.tables.specs.Widths.{halfWidth}
+use Rattle.tables.proofs.ByWidth.{half-width-le}
 use Rattle.steps.specs.Limits.{readingLimit, foldedLimit}
 use Rattle.steps.specs.Steps.{held, frame}
 use Rattle.steps.proofs.Undo.{length-held}
@@ -35,6 +36,10 @@ pub zeros-part : (n m : ℕ) → n ≤ m → take n (zeros m) ≡ zeros n
 zeros-part zero m h = refl
 zeros-part (suc n) zero h = absurd (omega arith)
 zeros-part (suc n) (suc m) h = ap (λ (l : List ℤ). pos 0 ∷ l) (zeros-part n m (omega arith))
+
+-- nothing is held at the start
+pub none-held : (N half : ℕ) (xs : List ℤ) → half ≡ halfWidth N → xs ≡ zeros 64 → take half xs ≡ zeros (halfWidth N)
+none-held N half xs h e = ap (take half) e ∙ zeros-part half 64 (omega (arith, half-width-le N)) ∙ ap zeros h
 
 -- a block of zeros, as long as the width
 pub zero-part : (N : ℕ) (xs : List ℤ) → 0 < halfWidth N → xs ≡ zeros 128 → take N xs ≡ zeros N

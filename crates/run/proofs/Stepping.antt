@@ -11,7 +11,6 @@ use lib.ListN.{length, take, drop, length-drop}
 use Rattle.integers.specs.Places.{Within}
 use Rattle.integers.proofs.PlaceLaws.{within-all}
 use Rattle.tables.specs.Widths.{halfWidth}
-use Rattle.tables.proofs.ByWidth.{half-width-le}
 use Rattle.steps.specs.Limits.{readingLimit, foldedLimit}
 use Rattle.steps.specs.Steps.{held, frame}
 use Rattle.steps.proofs.Rotation.{held-gate}
@@ -27,7 +26,7 @@ use Rattle.run.specs.Whole.{callsOf, outputs}
 use Rattle.run.specs.Ready.{Blocks}
 use Rattle.run.proofs.StepLaws.{length-frame}
 use Rattle.run.proofs.RecordLaws.{Reached, reached-first, reached-next}
-use Rattle.run.proofs.ReadyLaws.{zeros-part}
+use Rattle.run.proofs.ReadyLaws.{none-held}
 use Rattle.run.proofs.CallLaws.{accepted-block, taken-decided, ended-decided}
 use Rattle.run.proofs.AskLaws.{clear-within}
 use Rattle.run.proofs.FaultLaws.{block-in, no-block, block-long, both-clear}
@@ -51,7 +50,7 @@ stepping-first N half readings out kept h b c k = record {
   count = 0;
   previous = zeros N;
   reached = reached-first N (b .wide);
-  kept-is = ap (take half) k ∙ zeros-part half 64 (omega (arith, half-width-le N)) ∙ ap zeros h ∙ sym (held-zeros N N);
+  kept-is = none-held N half kept h k ∙ sym (held-zeros N N);
   few = omega (arith, b .some);
   clear = c;
   so-far = ap (λ (r : Run). outputs (made r (callsOf N (length readings / N) readings out))) (started-open N (b .wide));

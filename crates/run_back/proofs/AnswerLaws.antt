@@ -43,7 +43,7 @@ alike-either true a c = a
 alike-either false a c = c
 
 module _ (run : Run) (frame o p : List ℤ) where
-  undone-alike : Alike (undoneIn run frame o) (undoneIn run frame p)
+  pub undone-alike : Alike (undoneIn run frame o) (undoneIn run frame p)
   unfolding undoneIn unfoldedIn firstFrame laterFrame
   undone-alike =
       alike-each 9 run o p _ (alike-each 10 run o p _ (alike-either (eqb (run .count) 0)
