@@ -1,7 +1,7 @@
 -- `run_back::back::counted` meets its contract.
 use borrow.Author.Needs.{needs}
 use native.Mathlib.Omega.{arith}
-use mathlib.Core.Path.{_≡_, sym, ap, _∙_}
+use mathlib.Core.Path.{sym, ap}
 use Rattle.run_back.specs.Faults.{countAfter}
 use Rattle.run_back.proofs.back.counted.Statement.{statement}
 use Rattle.run_back.proofs.back.counted.Tie as tie

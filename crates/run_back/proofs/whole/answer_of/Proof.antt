@@ -1,7 +1,7 @@
 -- `run_back::whole::answer_of` meets its contract: the answer of all calls is that of the calls left.
 use borrow.Author.Needs.{needs}
 use native.Mathlib.Omega.{arith}
-use mathlib.Core.Path.{_≡_, refl, sym, ap, ap₂, subst, _∙_}
+use mathlib.Core.Path.{_≡_, sym, ap, ap₂, subst, _∙_}
 use mathlib.Core.List.{List, _++_}
 use Prim.Native.Nat.{ℕ, suc, _+_, _-_, _*_, _/_, _≤_, _<_}
 use lib.IntN.{ℤ, pos}
@@ -13,7 +13,7 @@ use Rattle.lifting.specs.Gate.{told, firstBeyond}
 use Rattle.run.specs.declared.record.Run.{Run}
 use Rattle.run.specs.Record.{frameLimit, zeros, opened}
 use Rattle.run.specs.Gate.{Given}
-use Rattle.run.proofs.FaultLaws.{width-le, width-pos, block-next, block-in, no-block, block-long, part-is, beyond-at}
+use Rattle.run.proofs.FaultLaws.{width-pos, block-next, block-in, no-block, block-long, part-is, beyond-at}
 use Rattle.run_back.specs.Faults.{toldFault, countAfter}
 use Rattle.run_back.specs.Back.{undoneIn, takenBack}
 use Rattle.run_back.specs.Whole.{answerFrom, firstAnswer}

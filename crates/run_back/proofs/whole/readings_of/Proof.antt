@@ -19,8 +19,8 @@ use Rattle.run.proofs.GateLaws.{rest-part}
 use Rattle.run.proofs.FaultLaws.{width-room, half-room}
 use Rattle.run.proofs.ReadyLaws.{none-held}
 use Rattle.run_back.specs.Faults.{toldFault, countAfter}
-use Rattle.run_back.specs.Back.{undoneIn, takenBack}
-use Rattle.run_back.specs.Whole.{answerFrom, outputsFrom, allOutputs}
+use Rattle.run_back.specs.Back.{takenBack}
+use Rattle.run_back.specs.Whole.{answerFrom, outputsFrom}
 use Rattle.run_back.proofs.BackLaws.{started-back, ReachedBack, back-first}
 use Rattle.run_back.proofs.LoopLaws.{one-frame, one-block-less, rest-count, rest-blocks, first-yes, first-behind, outputs-behind}
 use Rattle.run_back.proofs.Undoing.{low-within, frame-taken, run-after, reached-after}
