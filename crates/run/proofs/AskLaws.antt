@@ -5,7 +5,7 @@ use mathlib.Core.List.{List, []}
 use Prim.Native.Nat.{ℕ, _≤_}
 use native.Mathlib.Omega.{arith}
 use borrow.Author.Tests.{lt-ltb, le-ltb, leb-true, eq-eqb, ne-eqb}
-use lib.IntN.{ℤ}
+use lib.IntN.{ℤ, pos}
 use lib.ListN.{length}
 use Rattle.integers.specs.Places.{Within}
 use Rattle.tables.specs.Widths.{halfWidth}
@@ -19,9 +19,11 @@ use Rattle.run.specs.declared.record.Run.{Run}
 use Rattle.run.specs.declared.gate.Fault.{Fault}
 use Rattle.run.specs.declared.gate.Fault.the-variants.{Dead, Beyond, Clear}
 use Rattle.run.specs.Record.{blockLimit, zeros, filled, opened, advanced, closed}
-use Rattle.run.specs.Gate.{Given, ask, askEach, admitted, sound, firstDead, firstOut}
+use Rattle.run.specs.Gate.{Given, ask, askEach, admitted, sound, inside, firstDead, firstOut}
 use Rattle.run.specs.Forward.{started, frameOn, takenIn, ended}
 use Rattle.run.specs.Faults.{faultBy, faultOf}
+use Rattle.run.proofs.Searches.{nothing-is, all-inside}
+use Rattle.run.proofs.GateLaws.{none-marked}
 use Rattle.run.proofs.CallLaws.{every-answer}
 
 -- ---- a fresh start
@@ -56,15 +58,22 @@ module _ (block : List ℤ) where
     unfolding faultOf faultBy
     none-found e = rw (d, e)
 
-clear-inside : (f g : Found) → faultBy f g ≡ Clear → g ≡ Nothing
+pub range-clear : (block : List ℤ) → inside (pos readingLimit) block ≡ true → Clear ≡ faultOf block
+unfolding inside
+range-clear block e = none-found block (none-marked block (all-inside readingLimit block e)) (nothing-is _ e)
+
+neither-found : (f g : Found) → faultBy f g ≡ Clear → (f ≡ Nothing) × (g ≡ Nothing)
 unfolding faultBy
-clear-inside (At place) g e = cc
-clear-inside Nothing (At place) e = cc
-clear-inside Nothing Nothing e = refl
+neither-found (At place) g e = (cc, cc)
+neither-found Nothing (At place) e = (cc, cc)
+neither-found Nothing Nothing e = (refl, refl)
+
+pub clear-both : (block : List ℤ) → faultOf block ≡ Clear → (firstDead block 0 ≡ Nothing) × (firstOut block 0 ≡ Nothing)
+unfolding faultOf
+clear-both block e = neither-found (firstDead block 0) (firstOut block 0) e
 
 pub clear-within : (block : List ℤ) → faultOf block ≡ Clear → Within readingLimit block
-unfolding faultOf
-clear-within block e = none-within readingLimit block (clear-inside (firstDead block 0) (firstOut block 0) e)
+clear-within block e = none-within readingLimit block (clear-both block e .1)
 
 -- ---- questions 8 and 9 to a block
 module _ (run : Run) (block out : List ℤ) where

@@ -1,12 +1,12 @@
 -- The first fault of the blocks of a whole run, block by block; and parts of the readings that are blocks.
-use mathlib.Core.Path.{_≡_, sym, ap, _∙_}
+use mathlib.Core.Path.{_≡_, refl, sym, ap, _∙_}
 use mathlib.Core.Bool.{Bool, true, false, cond}
-use mathlib.Core.List.{List, [], _∷_}
+use mathlib.Core.List.{List, [], _∷_, _++_}
 use Prim.Native.Nat.{ℕ, zero, suc, _+_, _-_, _*_, _≤_, _<_}
 use native.Mathlib.Nat.{mul-le-mul-right}
 use native.Mathlib.Omega.{arith}
 use lib.IntN.{ℤ}
-use lib.ListN.{length, take, drop, length-drop}
+use lib.ListN.{length, take, drop, length-append, length-drop}
 use lib.Seq.{length-take-le, drop-drop}
 use Rattle.tables.specs.Widths.{halfWidth}
 use Rattle.tables.proofs.ByWidth.{half-width-le}
@@ -63,6 +63,17 @@ width-le N w = omega (arith, width-half N w, half-width-le N)
 pub width-pos : (N : ℕ) → 0 < halfWidth N → 0 < N
 width-pos N w = omega (arith, width-half N w)
 
+-- room for a width, and for half of it
+pub width-room : (N : ℕ) (xs : List ℤ) → 0 < halfWidth N → 128 ≡ length xs → N ≤ length xs
+width-room N xs w e = omega (arith, width-le N w)
+
+pub half-room : (N half : ℕ) (xs : List ℤ) → half ≡ halfWidth N → length xs ≡ 64 → half ≤ length xs
+half-room N half xs h e = omega (arith, half-width-le N)
+
+-- a list whose front was written is as long as it was
+pub front-same : (n : ℕ) (xs ys : List ℤ) → n ≤ length xs → length ys ≡ length (take n xs) → length (ys ++ drop n xs) ≡ length xs
+front-same n xs ys h e = omega (arith, length-append ys (drop n xs), length-take-le n xs h, length-drop n xs)
+
 pub few-readings : (N : ℕ) (xs : List ℤ) → Blocks N xs → length xs ≤ 8388608
 few-readings N xs h = omega (arith, h .whole, mul-le-mul-right N (h .some), width-le N (h .wide))
 
@@ -78,6 +89,10 @@ module _ (place left N all : ℕ) (e : place + left * N ≡ all) (h : 0 < left) 
   pub block-in : place + N ≤ all
   block-in = omega (arith, block-next)
 
+-- behind the last block
+pub no-block : (place left N all : ℕ) → place + left * N ≡ all → left ≡ 0 → place ≡ all
+no-block place left N all e z = let d = rw z at e in omega arith
+
 -- the part that the code lends
 pub part-is : (place N : ℕ) (xs : List ℤ) → take (place + N - place) (drop place xs) ≡ take N (drop place xs)
 part-is place N xs = let e : place + N - place ≡ N = omega arith in ap (λ n. take n (drop place xs)) e
@@ -86,7 +101,7 @@ pub block-long : (place N : ℕ) (xs : List ℤ) → place + N ≤ length xs →
 block-long place N xs h = length-take-le N (drop place xs) (omega (arith, length-drop place xs))
 
 -- ---- the first fault of the blocks left: of the next one, or of those after it
-module _ (N before left b : ℕ) (readings : List ℤ) (h : 0 < left) (e : firstFault N 0 b readings ≡ firstFault N before left (drop before readings)) where
+module _ (N before left : ℕ) (readings : List ℤ) (h : 0 < left) where
   abbrev later : Fault
   later = firstFault N (before + N) (left - 1) (drop (before + N) readings)
 
@@ -98,8 +113,19 @@ module _ (N before left b : ℕ) (readings : List ℤ) (h : 0 < left) (e : first
       by zero h = absurd (omega arith)
       by (suc l) h = let d : suc l - 1 ≡ l = omega arith in rw (d, ← drop-drop N before readings)
 
-  fault-here : (f : Fault) → faultOf (take N (drop before readings)) ≡ f → firstFault N 0 b readings ≡ faultFrom before f later
-  fault-here f d = e ∙ fault-next ∙ ap (λ g. faultFrom before g later) d
+  -- without a fault among them, the next one has none and those after it have none
+  pub both-clear : firstFault N before left (drop before readings) ≡ Clear → (faultOf (take N (drop before readings)) ≡ Clear) × (later ≡ Clear)
+  unfolding faultFrom
+  both-clear e = by (faultOf (take N (drop before readings))) (sym fault-next ∙ e)
+    where
+      by : (f : Fault) → faultFrom before f later ≡ Clear → (f ≡ Clear) × (later ≡ Clear)
+      by (Dead place) e = (cc, cc)
+      by (Beyond place) e = (cc, cc)
+      by Clear e = (refl, e)
+
+module _ (N before left b : ℕ) (readings : List ℤ) (h : 0 < left) (e : firstFault N 0 b readings ≡ firstFault N before left (drop before readings)) where
+  fault-here : (f : Fault) → faultOf (take N (drop before readings)) ≡ f → firstFault N 0 b readings ≡ faultFrom before f (later N before left readings h)
+  fault-here f d = e ∙ fault-next N before left readings h ∙ ap (λ g. faultFrom before g (later N before left readings h)) d
 
   pub dead-here : (place : ℕ) → faultOf (take N (drop before readings)) ≡ Dead place → Dead (before + place) ≡ firstFault N 0 b readings
   unfolding faultFrom
@@ -109,7 +135,7 @@ module _ (N before left b : ℕ) (readings : List ℤ) (h : 0 < left) (e : first
   unfolding faultFrom
   beyond-here place d = sym (fault-here (Beyond place) d)
 
-  pub clear-here : faultOf (take N (drop before readings)) ≡ Clear → firstFault N 0 b readings ≡ later
+  pub clear-here : faultOf (take N (drop before readings)) ≡ Clear → firstFault N 0 b readings ≡ (later N before left readings h)
   unfolding faultFrom
   clear-here d = fault-here Clear d
 

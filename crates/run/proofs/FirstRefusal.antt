@@ -14,6 +14,7 @@ use Rattle.lifting.specs.declared.gate.Found.{Found}
 use Rattle.lifting.specs.declared.gate.Found.the-variants.{At, Nothing}
 use Rattle.run.specs.declared.record.Run.{Run}
 use Rattle.run.specs.declared.gate.Fault.{Fault}
+use Rattle.run.specs.declared.gate.Fault.the-variants.{Clear}
 use Rattle.run.specs.Record.{blockLimit, opened}
 use Rattle.run.specs.Gate.{askEach, nothing, every, firstDead, firstOut}
 use Rattle.run.specs.Forward.{takenIn}
@@ -22,6 +23,7 @@ use Rattle.run.specs.Whole.{callsOf, firstRefusal}
 use Rattle.run.specs.Faults.{toldFault, faultBy, faultOf, faultFrom, firstFault}
 use Rattle.run.proofs.RecordLaws.{Reached, reached-next}
 use Rattle.run.proofs.CallLaws.{accepted-block, taken-decided, ended-decided, taken-in}
+use Rattle.run.proofs.AskLaws.{clear-both}
 
 -- ---- the first refusal: of the first call, or of those after it
 module _ (N before : ℕ) (run : Run) (c : Call) (calls : List Call) where
@@ -41,6 +43,9 @@ module _ (N b : ℕ) (previous : List ℤ) (r : Reached N b previous) (xs out : 
   clear : firstDead xs 0 ≡ Nothing → firstOut xs 0 ≡ Nothing → accepted N b false (block xs out) ≡ true
   unfolding accepted every nothing
   clear d e = rw (lt-ltb b blockLimit h, eq-eqb (length xs) N l, eq-eqb (length out) N m, d, e)
+
+  pub clear-accepted : faultOf xs ≡ Clear → accepted N b false (block xs out) ≡ true
+  clear-accepted e = clear (clear-both xs e .0) (clear-both xs e .1)
 
   block-refusal : (before : ℕ) (calls : List Call) (rest : Fault)
       → (Reached N (suc b) xs → firstRefusal N (before + N) (made (opened N (suc b) (held N xs)) calls) ≡ toldFault rest)

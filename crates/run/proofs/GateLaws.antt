@@ -1,19 +1,25 @@
 -- What the tests of the code decide of the gate's questions.
-use mathlib.Core.Path.{_≡_, refl, ap, _∙_}
-use mathlib.Core.Bool.{Bool, true, false, _&&_}
-use mathlib.Core.List.{List}
-use Prim.Native.Nat.{ℕ, _-_, _≤_, _<_}
+use mathlib.Core.Path.{_≡_, refl, sym, ap, _∙_}
+use mathlib.Core.Bool.{Bool, true, false, _&&_, and-false}
+use mathlib.Core.List.{List, [], _∷_}
+use Prim.Native.Nat.{ℕ, _-_, _≤_, _<_, zero-le}
 use native.Mathlib.Omega.{arith}
 use borrow.Author.Tests.{eq-eqb, ne-eqb, lt-ltb, le-ltb, le-leb, lt-leb}
-use lib.IntN.{ℤ, pos, negsuc}
-use lib.ListN.{length, take, drop, length-drop}
+use lib.IntN.{ℤ, pos, negsuc, natAbs}
+use lib.ListN.{length, take, drop, length-drop, take-append-drop}
 use lib.Seq.{take-all}
+use Rattle.integers.specs.Vectors.{AllAbs}
+use Rattle.integers.proofs.PlaceLaws.{within-all, within-up}
+use Rattle.integers.proofs.Products.{all-append}
 use Rattle.tables.specs.Widths.{halfWidth}
-use Rattle.steps.specs.Limits.{foldedLimit}
+use Rattle.steps.specs.Limits.{readingLimit, foldedLimit}
 use Rattle.lifting.specs.Gate.{firstBeyond}
 use Rattle.lifting.specs.declared.gate.Found.the-variants.{At, Nothing}
 use Rattle.run.specs.declared.record.Run.{Run}
-use Rattle.run.specs.Gate.{nothing, inside, every, sound, dead}
+use Rattle.run.specs.Gate.{nothing, inside, every, sound, dead, firstDead}
+use Rattle.run.proofs.StepLaws.{all-within}
+use Rattle.run.proofs.Searches.{All, none-found, inside-all, all-inside}
+use Rattle.run.proofs.RecordLaws.{all-take}
 
 pub marked : (x : ℤ) → x ≡ negsuc 32767 → dead x ≡ true
 unfolding dead
@@ -23,6 +29,14 @@ pub unmarked : (x : ℤ) → (x ≡ negsuc 32767 → ⊥) → dead x ≡ false
 unfolding dead
 unmarked (pos n) h = refl
 unmarked (negsuc n) h = ne-eqb n 32767 (λ e. h (ap negsuc e))
+
+-- the dead mark is out of range
+none-dead : (xs : List ℤ) → AllAbs readingLimit xs → All (λ x. dead x ≡ false) xs
+none-dead [] h = tt
+none-dead (x ∷ xs) h = (unmarked x (λ e. let d = ap natAbs e in omega (arith, h .0, d)), none-dead xs (h .1))
+
+pub none-marked : (xs : List ℤ) → AllAbs readingLimit xs → firstDead xs 0 ≡ Nothing
+none-marked xs h = none-found dead xs 0 (none-dead xs h)
 
 -- ---- a search that the code has made
 pub outside : (limit : ℤ) (xs : List ℤ) (i : ℕ) → firstBeyond limit xs 0 ≡ At i → inside limit xs ≡ false
@@ -38,13 +52,38 @@ within limit xs e = ap nothing e
 pub rest-part : (all m n : ℕ) (xs : List ℤ) → length xs ≡ all → m ≡ n → take (all - m) (drop m xs) ≡ drop n xs
 rest-part all m n xs l e = take-all (all - m) (drop m xs) (omega (arith, length-drop m xs, l)) ∙ ap (λ k. drop k xs) e
 
+-- the numbers up to place n decide, where those behind them are zero
+same-answer : (a b : Bool) → (a ≡ true → b ≡ true) → (b ≡ true → a ≡ true) → a ≡ b
+same-answer true b h k = sym (h refl)
+same-answer false true h k = k refl
+same-answer false false h k = refl
+
+inside-up : (l m : ℕ) (xs : List ℤ) → l ≤ m → inside (pos l) xs ≡ true → inside (pos m) xs ≡ true
+unfolding inside
+inside-up l m xs h e = inside-all m xs (all-within m xs (within-up (within-all l xs (all-inside l xs e)) h))
+
+inside-front : (l n : ℕ) (xs : List ℤ) → inside (pos 0) (drop n xs) ≡ true → inside (pos l) xs ≡ inside (pos l) (take n xs)
+unfolding inside
+inside-front l n xs r =
+    same-answer _ _
+    (λ e. inside-all l (take n xs) (all-take l n xs (all-inside l xs e)))
+    (λ e. inside-all l xs (rw (← take-append-drop n xs) (all-append l (take n xs) (drop n xs) (all-inside l (take n xs) e) (all-inside l (drop n xs) (inside-up 0 l (drop n xs) zero-le r)))))
+
 last-asked : (b : Bool) → b ≡ (b && true)
 last-asked true = refl
 last-asked false = refl
 
+both-asked : (a b : Bool) → (a ≡ true → b ≡ true) → a ≡ (b && (a && true))
+both-asked true b h = sym (h refl) ∙ last-asked b
+both-asked false true h = refl
+both-asked false false h = refl
+
 module _ (top : ℕ) (run : Run) where
   abbrev M : ℕ
   M = halfWidth (run .width)
+
+  abbrev front : List ℤ
+  front = take M (run .held)
 
   pub no-width : M ≡ 0 → false ≡ sound top run
   unfolding sound every
@@ -59,25 +98,24 @@ module _ (top : ℕ) (run : Run) where
     no-count h = rw (lt-ltb 0 M wide, lt-leb _ _ h)
 
     module _ (n : run .count ≤ top) where
-      pub held-beyond : inside (pos foldedLimit) (run .held) ≡ false → false ≡ sound top run
+      pub rest-held : inside (pos 0) (drop M (run .held)) ≡ false → false ≡ sound top run
       unfolding sound every
-      held-beyond h = rw (lt-ltb 0 M wide, le-leb _ _ n, h)
+      rest-held r = rw (lt-ltb 0 M wide, le-leb _ _ n, r, and-false)
 
-      module _ (h : inside (pos foldedLimit) (run .held) ≡ true) where
-        pub rest-held : inside (pos 0) (drop M (run .held)) ≡ false → false ≡ sound top run
+      module _ (r : inside (pos 0) (drop M (run .held)) ≡ true) where
+        pub none-taken : run .count ≡ 0 → inside (pos 0) front ≡ sound top run
         unfolding sound every
-        rest-held r = rw (lt-ltb 0 M wide, le-leb _ _ n, h, r)
+        none-taken e =
+            rw (lt-ltb 0 M wide, le-leb _ _ n, r, eq-eqb _ _ e, inside-front foldedLimit M (run .held) r, inside-front 0 M (run .held) r)
+            (both-asked _ _ (inside-up 0 foldedLimit front zero-le))
 
-        module _ (r : inside (pos 0) (drop M (run .held)) ≡ true) where
-          pub none-taken : run .count ≡ 0 → inside (pos 0) (run .held) ≡ sound top run
+        module _ (k : run .count ≡ 0 → ⊥) where
+          pub run-over : run .finished ≡ true → inside (pos 0) front ≡ sound top run
           unfolding sound every
-          none-taken e = rw (lt-ltb 0 M wide, le-leb _ _ n, h, r, eq-eqb _ _ e) (last-asked _)
+          run-over e =
+              rw (lt-ltb 0 M wide, le-leb _ _ n, r, ne-eqb _ _ k, e, inside-front foldedLimit M (run .held) r, inside-front 0 M (run .held) r)
+              (both-asked _ _ (inside-up 0 foldedLimit front zero-le))
 
-          module _ (k : run .count ≡ 0 → ⊥) where
-            pub run-over : run .finished ≡ true → inside (pos 0) (run .held) ≡ sound top run
-            unfolding sound every
-            run-over e = rw (lt-ltb 0 M wide, le-leb _ _ n, h, r, ne-eqb _ _ k, e) (last-asked _)
-
-            pub run-open : run .finished ≡ false → true ≡ sound top run
-            unfolding sound every
-            run-open e = rw (lt-ltb 0 M wide, le-leb _ _ n, h, r, ne-eqb _ _ k, e)
+          pub run-open : run .finished ≡ false → inside (pos foldedLimit) front ≡ sound top run
+          unfolding sound every
+          run-open e = rw (lt-ltb 0 M wide, le-leb _ _ n, r, ne-eqb _ _ k, e, inside-front foldedLimit M (run .held) r) (last-asked _)

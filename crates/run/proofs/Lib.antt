@@ -11,3 +11,4 @@ pub mod ReadyLaws
 pub mod AskLaws
 pub mod FaultLaws
 pub mod PartLaws
+pub mod Stepping

@@ -1,24 +1,29 @@
 -- A record that the gate has passed: what the steps can rely on, and the record that they leave.
 use mathlib.Core.Path.{_≡_, refl, sym, ap, ap₂, _∙_}
-use mathlib.Core.Bool.{true, false}
+use mathlib.Core.Bool.{Bool, true, false}
 use mathlib.Core.List.{List, [], _∷_, _++_}
-use Prim.Native.Nat.{ℕ, zero, suc, _+_, _-_, _≤_}
+use Prim.Native.Nat.{ℕ, zero, suc, _+_, _-_, _≤_, _<_}
 use native.Mathlib.Omega.{arith}
 use borrow.Author.Tests.{ltb-true, leb-true}
 use lib.IntN.{ℤ, pos}
-use lib.ListN.{length, take, drop, length-drop}
+use lib.ListN.{length, take, drop, length-drop, take-append-drop}
+use lib.Seq.{length-take-le}
+use Rattle.integers.specs.Places.{Within}
 use Rattle.integers.specs.Vectors.{AllAbs}
 use Rattle.integers.proofs.Order.{natAbs-zero}
 use Rattle.integers.proofs.PlaceLaws.{within-all}
 use Rattle.tables.specs.Widths.{halfWidth}
-use Rattle.steps.specs.Limits.{foldedLimit}
+use Rattle.tables.proofs.ByWidth.{half-width-le}
+use Rattle.steps.specs.Limits.{readingLimit, foldedLimit}
 use Rattle.steps.specs.Steps.{held, frame}
 use Rattle.steps.proofs.Undo.{length-held}
+use Rattle.distance.proofs.ZeroBlock.{zero-block}
 use Rattle.run.specs.declared.record.Run.{Run}
 use Rattle.run.specs.Record.{frameLimit, zeros, filled, opened, advanced}
 use Rattle.run.specs.Gate.{inside, sound}
 use Rattle.run.specs.Forward.{frameOn}
 use Rattle.run.specs.Ready.{Ready}
+use Rattle.run.proofs.FaultLaws.{width-le}
 use Rattle.run.proofs.Searches.{all-inside}
 use Rattle.run.proofs.CallLaws.{every-answer}
 
@@ -32,6 +37,17 @@ zeros-part zero m h = refl
 zeros-part (suc n) zero h = absurd (omega arith)
 zeros-part (suc n) (suc m) h = ap (λ (l : List ℤ). pos 0 ∷ l) (zeros-part n m (omega arith))
 
+-- nothing is held at the start
+pub none-held : (N half : ℕ) (xs : List ℤ) → half ≡ halfWidth N → xs ≡ zeros 64 → take half xs ≡ zeros (halfWidth N)
+none-held N half xs h e = ap (take half) e ∙ zeros-part half 64 (omega (arith, half-width-le N)) ∙ ap zeros h
+
+-- a block of zeros, as long as the width
+pub zero-part : (N : ℕ) (xs : List ℤ) → 0 < halfWidth N → xs ≡ zeros 128 → take N xs ≡ zeros N
+zero-part N xs w e = ap (take N) e ∙ zeros-part N 128 (width-le N w)
+
+pub zero-within : (N : ℕ) → Within readingLimit (zeros N)
+zero-within N = within-all readingLimit _ (zero-block N readingLimit .within)
+
 pub passed : (top : ℕ) → top ≤ frameLimit → (run : Run) (half : ℕ) → sound top run ≡ true → half ≡ halfWidth (run .width) → length (run .held) ≡ 64 → Ready run half
 unfolding sound inside
 passed top m run half e h l = record {
@@ -43,24 +59,31 @@ passed top m run half e h l = record {
       ∙ ap zeros (length-drop (halfWidth (run .width)) (run .held) ∙ ap (λ n. n - halfWidth (run .width)) l);
 }
 
+-- ---- held values written in front of zeros
+module _ (N half count : ℕ) (kept low : List ℤ) (rest : drop half kept ≡ zeros (64 - halfWidth N)) (long : length low ≡ halfWidth N) where
+  pub stored-opened : (xs : List ℤ) → xs ≡ low ++ drop half kept → record { width = N; count = count; held = xs; finished = false } ≡ opened N count low
+  unfolding opened filled
+  stored-opened xs e = ap (λ (h : List ℤ). record { width = N; count = count; held = h; finished = false }) (e ∙ ap (λ xs. low ++ xs) (rest ∙ ap (λ n. zeros (64 - n)) (sym long)))
+
 module _ (run : Run) (half : ℕ) (ready : Ready run half) where
   abbrev N : ℕ
   N = run .width
 
-  -- the rest of the held values is zero, as it was
-  stored-is : (low : List ℤ) → length low ≡ halfWidth N → low ++ drop half (run .held) ≡ filled low
-  unfolding filled
-  stored-is low l = ap (λ xs. low ++ xs) (ap (λ n. drop n (run .held)) (ready .good .half-is) ∙ ready .rest ∙ ap (λ n. zeros (64 - n)) (sym l))
+  -- the rest of the held values is zero
+  pub rest-zero : drop half (run .held) ≡ zeros (64 - halfWidth N)
+  rest-zero = ap (λ n. drop n (run .held)) (ready .good .half-is) ∙ ready .rest
 
-  pub opened-is : (low xs : List ℤ) → length low ≡ halfWidth N → xs ≡ low ++ drop half (run .held)
-      → record { width = N; count = run .count + 1; held = xs; finished = false } ≡ opened N (suc (run .count)) low
-  unfolding opened
-  opened-is low xs l e = ap₂ (λ (c : ℕ) (h : List ℤ). record { width = N; count = c; held = h; finished = false }) (omega arith) (e ∙ stored-is low l)
+  pub run-is : run .finished ≡ false → half ≤ length (run .held) → run ≡ opened N (run .count) (take half (run .held))
+  run-is o l =
+      ap (λ (f : Bool). record { width = N; count = run .count; held = run .held; finished = f }) o
+      ∙ stored-opened N half (run .count) (run .held) (take half (run .held)) rest-zero (length-take-le half (run .held) l ∙ ready .good .half-is) (run .held) (sym (take-append-drop half (run .held)))
 
   module _ (block : List ℤ) where
     pub advanced-is : (xs : List ℤ) → xs ≡ held N block ++ drop half (run .held) → record { width = N; count = run .count + 1; held = xs; finished = false } ≡ advanced run block
     unfolding advanced
-    advanced-is xs e = opened-is (held N block) xs (length-held N block) e
+    advanced-is xs e =
+        let c : run .count + 1 ≡ suc (run .count) = omega arith in
+        ap (λ (n : ℕ). record { width = N; count = n; held = xs; finished = false }) c ∙ stored-opened N half (suc (run .count)) (run .held) (held N block) rest-zero (length-held N block) xs e
 
     pub frame-on : frame N (take half (run .held)) block ≡ frameOn run block
     unfolding frameOn

@@ -15,7 +15,6 @@ use crate::record::Run;
 use crate::step;
 use lifting::gate::Answer;
 use stages::room;
-use stages::vectors;
 use tables::widths;
 
 // A fresh run of a width.
@@ -53,16 +52,16 @@ fn advance(run: Run, half: usize, block: &[i32], frame: &mut [i32]) -> Run
     ensures { λ r. ⌜ (r ≡ advanced run (now (block .entry))) × (now (frame .exit) ≡ frameOn run (now (block .entry))) ⌝ }
 {
     let width = run.width;
-    let previous = run.held;
     let mut held = run.held;
     let mut wide = room::of_128();
-    vectors::widen(block, &mut wide[..width]);
+    let mut folded = room::of_128();
     step::step(
         width,
         half,
-        &previous[..half],
-        &wide[..width],
+        block,
         &mut held[..half],
+        &mut wide[..width],
+        &mut folded[..width],
         frame,
     );
     Run {
@@ -102,15 +101,17 @@ fn close(run: Run, half: usize, frame: &mut [i32]) -> Run
     ensures { λ r. ⌜ (r ≡ closed run) × (now (frame .exit) ≡ frameOn run (zeros (run .width))) ⌝ }
 {
     let width = run.width;
-    let previous = run.held;
     let zeros = record::zero_block();
-    let mut spare = room::of_64();
+    let mut held = run.held;
+    let mut wide = room::of_128();
+    let mut folded = room::of_128();
     step::step(
         width,
         half,
-        &previous[..half],
         &zeros[..width],
-        &mut spare[..half],
+        &mut held[..half],
+        &mut wide[..width],
+        &mut folded[..width],
         frame,
     );
     Run {

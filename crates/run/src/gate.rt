@@ -4,6 +4,7 @@ ghost use Prim.Native.Nat.{_≤_, _<_, _^_};
 ghost use lib.IntN.{pos, natAbs};
 ghost use lib.ListN.{length};
 ghost use lib.Signed.{_≤ℤ_};
+ghost use Rattle.steps.specs.Limits.{readingLimit};
 ghost use Rattle.run.specs.Gate.{firstDead};
 ghost use Rattle.run.specs.Faults.{faultOf};
 use crate::record::Run;
@@ -43,19 +44,16 @@ pub fn sound(top: usize, run: Run) -> bool
         return false;
     }
     let held = run.held;
-    if !inside(&held, 50000) {
-        return false;
-    }
     if !inside(&held[half..], 0) {
         return false;
     }
     if run.count == 0 {
-        return inside(&held, 0);
+        return inside(&held[..half], 0);
     }
     if run.finished {
-        return inside(&held, 0);
+        return inside(&held[..half], 0);
     }
-    true
+    inside(&held[..half], 50000)
 }
 
 fn first_dead(x: &[i64]) -> Found
@@ -85,8 +83,8 @@ fn fault_in(block: &[i64]) -> Fault
     Fault::Clear
 }
 
-// Questions 8 and 9.
-pub fn fault_of(block: &[i32]) -> Fault
+// The search for the fault of a block that has one.
+fn searched(block: &[i32]) -> Fault
     requires { ⌜ length (now block) ≤ 128 ⌝ }
     ensures { λ r. ⌜ r ≡ faultOf (now (block .entry)) ⌝ }
 {
@@ -94,4 +92,33 @@ pub fn fault_of(block: &[i32]) -> Fault
     let mut wide = room::of_128();
     vectors::widen(block, &mut wide[..n]);
     fault_in(&wide[..n])
+}
+
+// The dead mark is out of range too, so that a block in range has no fault.
+fn in_range(block: &[i32]) -> bool
+    ensures { λ r. ⌜ r ≡ Rattle.run.specs.Gate.inside (pos readingLimit) (now (block .entry)) ⌝ }
+{
+    let mut i = 0;
+    while i < block.len() {
+        let value = block[i];
+        if 32767 < value {
+            return false;
+        }
+        if value < -32767 {
+            return false;
+        }
+        i += 1;
+    }
+    true
+}
+
+// Questions 8 and 9.
+pub fn fault_of(block: &[i32]) -> Fault
+    requires { ⌜ length (now block) ≤ 128 ⌝ }
+    ensures { λ r. ⌜ r ≡ faultOf (now (block .entry)) ⌝ }
+{
+    if in_range(block) {
+        return Fault::Clear;
+    }
+    searched(block)
 }

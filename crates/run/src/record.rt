@@ -23,7 +23,7 @@ pub fn nothing_held() -> [i64; 64]
     [0; 64]
 }
 
-pub fn zero_block() -> [i64; 128]
+pub fn zero_block() -> [i32; 128]
     ensures { λ r. ⌜ r ≡ replicate 128 (pos 0) ⌝ }
 {
     [0; 128]

@@ -5,14 +5,17 @@ ghost use Rattle.lifting.specs.Gate.{told};
 ghost use Prim.Native.Nat.{_+_, _*_, _/_, _≤_, _<_};
 ghost use Rattle.tables.specs.Widths.{halfWidth};
 ghost use Rattle.run.specs.Faults.{firstFault};
+ghost use Rattle.run.specs.declared.gate.Fault.the-variants.{Clear};
 ghost use Rattle.run.specs.Forward.{started};
 ghost use Rattle.run.specs.Calls.{made};
 ghost use Rattle.run.specs.Whole.{callsOf, outputs, wholeForward, WholeRun};
 ghost use Rattle.run.specs.Ready.{Blocks};
-use crate::forward;
 use crate::gate;
 use crate::gate::Fault;
+use crate::record;
+use crate::step;
 use lifting::gate::Answer;
+use stages::room;
 use tables::widths;
 
 // The first reading that a block refuses, its place counted through the run.
@@ -40,24 +43,43 @@ fn first_fault(width: usize, readings: &[i32]) -> Fault
     Fault::Clear
 }
 
-// Each block is lent to the block step as it lies.
-fn frames_of(width: usize, readings: &[i32], frames: &mut [i32])
+// Each block is lent to the block step as it lies; the held values and the room are made once.
+fn frames_of(width: usize, half: usize, readings: &[i32], frames: &mut [i32])
+    requires { ⌜ half ≡ halfWidth width ⌝ }
     requires { ⌜ Blocks width (now readings) ⌝ }
     requires { ⌜ length (now frames) ≡ length (now readings) + width ⌝ }
+    requires { ⌜ firstFault width 0 (length (now readings) / width) (now readings) ≡ Clear ⌝ }
     ensures { λ _. ⌜ now (frames .exit) ≡ outputs (made (started width .1) (callsOf width (length (now (readings .entry)) / width) (now (readings .entry)) (now (frames .entry)))) ⌝ }
 {
-    let fresh = forward::start(width);
-    let mut run = fresh.run;
+    let mut held = record::nothing_held();
+    let mut wide = room::of_128();
+    let mut folded = room::of_128();
     let mut at = 0;
     let mut left = readings.len() / width;
     while 0 < left {
         let end = at + width;
-        let taken = forward::take(run, &readings[at..end], &mut frames[at..end]);
-        run = taken.run;
+        step::step(
+            width,
+            half,
+            &readings[at..end],
+            &mut held[..half],
+            &mut wide[..width],
+            &mut folded[..width],
+            &mut frames[at..end],
+        );
         at = end;
         left -= 1;
     }
-    forward::finish(run, &mut frames[at..]);
+    let zeros = record::zero_block();
+    step::step(
+        width,
+        half,
+        &zeros[..width],
+        &mut held[..half],
+        &mut wide[..width],
+        &mut folded[..width],
+        &mut frames[at..],
+    );
 }
 
 // The whole run forward: every block's frame, and the finish's.
@@ -83,7 +105,7 @@ pub fn forward(width: usize, readings: &[i32], frames: &mut [i32]) -> Answer
         Fault::Dead(place) => Answer::DeadMark(place),
         Fault::Beyond(place) => Answer::Range(place),
         Fault::Clear => {
-            frames_of(width, readings, frames);
+            frames_of(width, half, readings, frames);
             Answer::Done
         }
     }

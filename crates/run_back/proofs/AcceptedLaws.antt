@@ -2,7 +2,7 @@
 use mathlib.Core.Path.{_≡_, refl, ap, _∙_}
 use mathlib.Core.Bool.{Bool, true, false}
 use mathlib.Core.List.{List}
-use Prim.Native.Nat.{ℕ, suc, _<_}
+use Prim.Native.Nat.{ℕ, zero, suc, _<_}
 use native.Mathlib.Omega.{arith}
 use borrow.Author.Tests.{eqb-false}
 use lib.IntN.{ℤ, pos}
@@ -22,7 +22,7 @@ use Rattle.run.proofs.Searches.{all-inside}
 use Rattle.run.proofs.RecordLaws.{all-take}
 use Rattle.run.proofs.CallLaws.{Decided, every-answer}
 use Rattle.run.proofs.ReadyLaws.{zeros-are}
-use Rattle.run_back.specs.Back.{takenBack, endedBack}
+use Rattle.run_back.specs.Back.{undoneIn, takenBack, endedBack}
 use Rattle.run_back.proofs.BackLaws.{ReachedBack, back-first, back-next, taken-undone, lowHalf, highHalf, first-undone, later-undone, ended-decided, nothing-anywhere}
 
 -- what gives an answer 0 was answered yes
@@ -90,3 +90,15 @@ module _ (N b : ℕ) (low : List ℤ) (r : ReachedBack N (suc b) low) where
 
   pub ended-accepted : endedBack (opened N (suc b) low) .0 .0 ≡ 0 → low ≡ zeros (halfWidth N)
   ended-accepted e = zeros-inside (halfWidth N) low (r .long) (every-answer _ (answered-yes (ended-decided N b low r) e) 0)
+
+-- ---- any frame: without a fault its lower half is held
+pub undone-next : (N b : ℕ) (low : List ℤ) → ReachedBack N b low → (c out : List ℤ) → b < frameLimit → undoneIn (opened N b low) c out .0 .0 ≡ 0
+    → (undoneIn (opened N b low) c out .1 ≡ opened N (suc b) (lowHalf N c)) × ReachedBack N (suc b) (lowHalf N c)
+undone-next N zero low r c out h e =
+    let d = first-undone N low c out in
+    let yes = answered-yes d e in
+    (ap (λ (g : Given). g .1) (d .when-yes yes), back-next N 0 low r (lowHalf N c) h (low-long N (r .wide) c) (low-within N c (every-answer _ yes 1)))
+undone-next N (suc b) low r c out h e =
+    let d = later-undone N b low c out (r .long) in
+    let yes = answered-yes d e in
+    (ap (λ (g : Given). g .1) (d .when-yes yes), back-next N (suc b) low r (lowHalf N c) h (low-long N (r .wide) c) (low-within N c (every-answer _ yes 1)))

@@ -1,15 +1,14 @@
 -- The answer and the record that a call of a run back gives do not depend on what its output holds; and an answer's place is at most 128.
 use mathlib.Core.Path.{_≡_, refl}
 use mathlib.Core.Bool.{Bool, true, false, cond}
-use mathlib.Core.List.{List, []}
+use mathlib.Core.List.{List}
 use Prim.Native.Nat.{ℕ, _≤_, _<_, zero-le}
 use native.Mathlib.Omega.{arith}
 use borrow.Author.Tests.{ltb-true, eqb-true}
 use lib.Dec.{eqb}
 use lib.IntN.{ℤ, pos}
-use lib.ListN.{length, take, drop, length-take, length-drop}
+use lib.ListN.{length, drop, length-drop}
 use Rattle.tables.specs.Widths.{halfWidth}
-use Rattle.tables.proofs.ByWidth.{half-width-le}
 use Rattle.steps.specs.Limits.{readingLimit, foldedLimit, coefficientLimit}
 use Rattle.steps.specs.Steps.{unstages}
 use Rattle.steps.proofs.Undo.{length-unstages, width-half}
@@ -20,7 +19,7 @@ use Rattle.run.specs.declared.record.Run.{Run}
 use Rattle.run.specs.Gate.{Given, ask, askEach, sound, admitted}
 use Rattle.run.proofs.CallLaws.{every-answer}
 use Rattle.run.proofs.FaultLaws.{placeFound, found-place, width-le}
-use Rattle.run_back.specs.Back.{blockOn, firstUpper, firstFrame, laterFrame, unfoldedIn, undoneIn, takenBack, firstHeld, endedBack}
+use Rattle.run_back.specs.Back.{blockOn, firstUpper, firstFrame, laterFrame, unfoldedIn, undoneIn, takenBack}
 use Rattle.run_back.proofs.UndoLaws.{length-block}
 
 -- ---- the same answer and the same record
@@ -43,7 +42,7 @@ alike-either true a c = a
 alike-either false a c = c
 
 module _ (run : Run) (frame o p : List ℤ) where
-  undone-alike : Alike (undoneIn run frame o) (undoneIn run frame p)
+  pub undone-alike : Alike (undoneIn run frame o) (undoneIn run frame p)
   unfolding undoneIn unfoldedIn firstFrame laterFrame
   undone-alike =
       alike-each 9 run o p _ (alike-each 10 run o p _ (alike-either (eqb (run .count) 0)
@@ -96,13 +95,3 @@ module _ (run : Run) (frame out : List ℤ) where
       place-asked 128 _ 4 run out _ (λ _.
       place-asked 128 _ 6 run out _ (λ e.
       place-asked 128 _ 7 run out _ (λ _. undone-place (sound-wide _ run s) (eqb-true _ _ e))))))
-
-pub ended-place : (run : Run) → endedBack run .0 .1 ≤ 128
-unfolding endedBack firstHeld
-ended-place run =
-    let few = half-width-le (run .width) in
-    let kept = take (halfWidth (run .width)) (run .held) in
-    place-asked 128 _ 2 run [] _ (λ _.
-    place-asked 128 _ 3 run [] _ (λ _.
-    place-asked 128 _ 5 run [] _ (λ _.
-    place-each 128 _ 11 run [] _ (omega (arith, few, found-place (beyond (pos 0)) kept 0, length-take (halfWidth (run .width)) (run .held))) zero-le)))

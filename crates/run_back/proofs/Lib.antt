@@ -13,3 +13,4 @@ pub mod UndoLaws
 pub mod EndLaws
 pub mod PlacedLaws
 pub mod LoopLaws
+pub mod Undoing

@@ -9,7 +9,7 @@ use native.Mathlib.Omega.{arith}
 use borrow.Author.Tests.{eqb-true, eqb-false, eq-eqb, ne-eqb}
 use lib.Dec.{eqb}
 use lib.IntN.{ℤ, pos}
-use lib.ListN.{length, take, drop, length-replicate}
+use lib.ListN.{length, take, drop, length-drop, length-replicate}
 use lib.Seq.{take-all, drop-drop, take-at, drop-at}
 use Rattle.tables.specs.Widths.{halfWidth}
 use Rattle.lifting.specs.declared.gate.Found.{Found}
@@ -18,6 +18,7 @@ use Rattle.run.specs.declared.record.Run.{Run}
 use Rattle.run.specs.Record.{frameLimit, zeros, opened}
 use Rattle.run.specs.Gate.{Given, ask, askEach, admitted}
 use Rattle.run.specs.Forward.{started}
+use Rattle.run.specs.Ready.{Blocks}
 use Rattle.run.proofs.FaultLaws.{width-le, width-pos}
 use Rattle.run.proofs.WholeLaws.{whole-blocks}
 use Rattle.run.proofs.PartLaws.{written, written-front, written-rest}
@@ -49,6 +50,20 @@ module _ (N : ℕ) (frames out : List ℤ) (f : Frames N frames) (r : length out
 
   pub readings-whole : length out / N * N ≡ length out
   readings-whole = let e = rw one-block-less at (f .whole) in omega (arith, e, r)
+
+  rest-long : length (drop N frames) ≡ length out
+  rest-long = omega (arith, length-drop N frames, r)
+
+  pub rest-count : length (drop N frames) / N ≡ length out / N
+  rest-count = ap (λ (n : ℕ). n / N) rest-long
+
+  -- the frames behind the first one
+  pub rest-blocks : Blocks N (drop N frames)
+  rest-blocks = record {
+    wide = f .wide;
+    whole = rest-long ∙ sym readings-whole ∙ ap (λ (n : ℕ). n * N) (sym rest-count);
+    some = omega (arith, rest-count, one-block-less, f .few);
+  }
 
 -- ---- one call, and those behind it
 module _ {left : ℕ} {given : Given} (N b : ℕ) (run : Run) (frames out : List ℤ) (l : left ≡ suc b) (e : takenBack run (take N frames) (take N out) ≡ given) where
@@ -104,13 +119,13 @@ started-count N = by (eqb (halfWidth N) 0)
 
 -- ---- the outputs of the calls left, behind those that are written
 pub blocks-next : (N place left : ℕ) (run after : Run) (answer : ℕ × ℕ) (frames out ys : List ℤ) → 0 < left → place + N ≤ length out → length ys ≡ N
-    → (answer, after, ys) ≡ takenBack run (take N (drop (place + N) frames)) (take N (drop place out))
-    → take place out ++ outputsFrom N run left (drop (place + N) frames) (drop place out)
-    ≡ take (place + N) (written place N out ys) ++ outputsFrom N after (left - 1) (drop (place + N + N) frames) (drop (place + N) (written place N out ys))
+    → (answer, after, ys) ≡ takenBack run (take N (drop place frames)) (take N (drop place out))
+    → take place out ++ outputsFrom N run left (drop place frames) (drop place out)
+    ≡ take (place + N) (written place N out ys) ++ outputsFrom N after (left - 1) (drop (place + N) frames) (drop (place + N) (written place N out ys))
 blocks-next N place left run after answer frames out ys h i l e =
     let d : left ≡ suc (left - 1) = omega arith in
-    ap (λ (zs : List ℤ). take place out ++ zs) (outputs-next N (left - 1) run (drop (place + N) frames) (drop place out) d (sym e))
-    ∙ rw (written-front place N out ys i l, written-rest place N out ys i l, drop-drop N (place + N) frames, drop-drop N place out, append-assoc)
+    ap (λ (zs : List ℤ). take place out ++ zs) (outputs-next N (left - 1) run (drop place frames) (drop place out) d (sym e))
+    ∙ rw (written-front place N out ys i l, written-rest place N out ys i l, drop-drop N place frames, drop-drop N place out, append-assoc)
 
 pub no-blocks : (N place left : ℕ) (run : Run) (frames out : List ℤ) → left ≡ 0 → length out ≤ place → take place out ++ outputsFrom N run left frames (drop place out) ≡ out
 unfolding outputsFrom

@@ -1,5 +1,5 @@
--- What questions 9 to 12 decide of a frame, test by test; and the record that holds a frame's lower half.
-use mathlib.Core.Path.{_≡_, refl, sym, ap, _∙_}
+-- What questions 9 to 12 decide of a frame, test by test, where a run holds the lower half of the frame before.
+use mathlib.Core.Path.{_≡_, refl, sym, ap, ap₂, _∙_}
 use mathlib.Core.Bool.{Bool, true, false, cond}
 use mathlib.Core.List.{List, [], _∷_}
 use Prim.Native.Nat.{ℕ, suc, _+_}
@@ -15,10 +15,16 @@ use Rattle.lifting.specs.Gate.{first, firstBeyond}
 use Rattle.lifting.specs.declared.gate.Found.{Found}
 use Rattle.lifting.specs.declared.gate.Found.the-variants.{At, Nothing}
 use Rattle.run.specs.declared.record.Run.{Run}
-use Rattle.run.specs.Gate.{Given, askEach, firstOut}
+use Rattle.run.specs.Record.{opened}
+use Rattle.run.specs.Gate.{askEach, firstOut}
+use Rattle.run.proofs.RecordLaws.{take-filled}
 use Rattle.run_back.specs.declared.undo.Fault.the-variants.{Range, Folded, Halves, Unfolded, Clear}
-use Rattle.run_back.specs.Faults.{toldFault}
+use Rattle.run_back.specs.Faults.{toldFault, countAfter}
 use Rattle.run_back.specs.Back.{framed, blockOn, firstUpper, firstFrame, laterFrame, unfoldedIn, undoneIn}
+
+pub length-block : (run : Run) (folded : List ℤ) → length (blockOn run folded) ≡ run .width
+unfolding blockOn
+length-block run folded = length-unfolded (run .width) _ _
 
 -- ---- a search whose places count from elsewhere
 from : ℕ → Found → Found
@@ -34,66 +40,74 @@ first-from test (x ∷ xs) m k = by (test x) (first-from test xs m (suc k))
     by true h = refl
     by false h = rw (← add-suc m k) h
 
--- ---- 11 and 12
-module _ (run : Run) (folded out : List ℤ) where
+-- ---- 11 and 12, where a run holds `low`
+module _ (N count : ℕ) (low folded out : List ℤ) where
+  abbrev run : Run
+  run = opened N count low
+
   abbrev upper : List ℤ
-  upper = drop (halfWidth (run .width)) folded
+  upper = drop (halfWidth N) folded
 
-  upper-at : (f : Found) → firstBeyond (pos 0) upper 0 ≡ f → firstUpper run folded ≡ from (halfWidth (run .width)) f
-  unfolding firstUpper
-  upper-at f e = ap (first _ upper) (sym (add-zero (halfWidth (run .width)))) ∙ first-from _ upper (halfWidth (run .width)) 0 ∙ ap (from (halfWidth (run .width))) e
+  upper-at : (f : Found) → firstBeyond (pos 0) upper 0 ≡ f → firstUpper run folded ≡ from (halfWidth N) f
+  unfolding firstUpper opened
+  upper-at f e = ap (first _ upper) (sym (add-zero (halfWidth N))) ∙ first-from _ upper (halfWidth N) 0 ∙ ap (from (halfWidth N)) e
 
-  pub upper-refused : (half place : ℕ) → half ≡ halfWidth (run .width) → firstBeyond (pos 0) upper 0 ≡ At place → (toldFault (Halves (half + place)), run, out) ≡ firstFrame run folded out
-  unfolding toldFault firstFrame askEach from
-  upper-refused half place h e = rw (h, upper-at (At place) e)
+  framed-is : (kept : List ℤ) → kept ≡ take (halfWidth N) folded → opened N (suc count) kept ≡ framed run folded
+  unfolding framed opened
+  framed-is kept e = ap (opened N (suc count)) e
 
-  pub first-done : firstBeyond (pos 0) upper 0 ≡ Nothing → (toldFault Clear, framed run folded, out) ≡ firstFrame run folded out
-  unfolding toldFault firstFrame askEach from
-  first-done e = rw (upper-at Nothing e)
+  module _ (z : count ≡ 0) where
+    is-first : firstFrame run folded out ≡ unfoldedIn run folded out
+    unfolding unfoldedIn opened
+    is-first = rw (eq-eqb _ _ z)
 
-  pub later-refused : (place : ℕ) → firstOut (blockOn run folded) 0 ≡ At place → (toldFault (Unfolded place), run, out) ≡ laterFrame run folded out
-  unfolding toldFault laterFrame askEach
-  later-refused place e = rw e
+    pub upper-refused : (half place : ℕ) → half ≡ halfWidth N → firstBeyond (pos 0) upper 0 ≡ At place
+        → (toldFault (Halves (half + place)), opened N (countAfter count (Halves (half + place))) low, out) ≡ unfoldedIn run folded out
+    unfolding toldFault countAfter firstFrame askEach from
+    upper-refused half place h e = sym (ap (λ f. askEach 11 f run out ((0, 0), framed run folded, out)) (upper-at (At place) e) ∙ ap (λ n. ((11, n + place), run, out)) (sym h)) ∙ is-first
 
-  pub later-done : firstOut (blockOn run folded) 0 ≡ Nothing → (toldFault Clear, framed run folded, blockOn run folded) ≡ laterFrame run folded out
-  unfolding toldFault laterFrame askEach
-  later-done e = rw e
+    pub first-done : (kept : List ℤ) → kept ≡ take (halfWidth N) folded → firstBeyond (pos 0) upper 0 ≡ Nothing → (toldFault Clear, opened N (countAfter count Clear) kept, out) ≡ unfoldedIn run folded out
+    unfolding toldFault countAfter firstFrame askEach from
+    first-done kept k e = ap (λ (r : Run). ((0, 0), r, out)) (framed-is kept k) ∙ sym (ap (λ f. askEach 11 f run out ((0, 0), framed run folded, out)) (upper-at Nothing e)) ∙ is-first
 
-  pub is-later : (run .count ≡ 0 → ⊥) → laterFrame run folded out ≡ unfoldedIn run folded out
-  unfolding unfoldedIn
-  is-later e = rw (ne-eqb _ _ e)
+  -- the block between what is held and the frame's upper half
+  pub block-is : (half : ℕ) → half ≡ halfWidth N → length low ≡ halfWidth N → unfolded N low (drop half folded) ≡ blockOn run folded
+  unfolding blockOn opened
+  block-is half h l = ap (λ n. unfolded N low (drop n folded)) h ∙ ap (λ xs. unfolded N xs (drop (halfWidth N) folded)) (sym (take-filled (halfWidth N) low l))
 
--- the first frame's output is as it was
-out-kept : (run : Run) (found : Found) (next : Run) (out : List ℤ) (g : Given) → g ≡ askEach 11 found run [] ((0, 0), next, [])
-    → (g .0, g .1, out) ≡ askEach 11 found run out ((0, 0), next, out)
-unfolding askEach
-out-kept run (At place) next out g e = ap (λ (x : Given). (x .0, x .1, out)) e
-out-kept run Nothing next out g e = ap (λ (x : Given). (x .0, x .1, out)) e
+  pub block-long : length (blockOn run folded) ≡ N
+  unfolding opened
+  block-long = length-block run folded
 
-pub is-first : (run : Run) (folded out : List ℤ) (answer : ℕ × ℕ) (after : Run) → run .count ≡ 0 → (answer, after, []) ≡ firstFrame run folded [] → (answer, after, out) ≡ unfoldedIn run folded out
-unfolding unfoldedIn firstFrame
-is-first run folded out answer after z e = rw (eq-eqb _ _ z) (out-kept run (firstUpper run folded) (framed run folded) out (answer, after, []) e)
+  module _ (n : count ≡ 0 → ⊥) where
+    is-later : laterFrame run folded out ≡ unfoldedIn run folded out
+    unfolding unfoldedIn opened
+    is-later = rw (ne-eqb _ _ n)
+
+    pub later-refused : (place : ℕ) → firstOut (blockOn run folded) 0 ≡ At place → (toldFault (Unfolded place), opened N (countAfter count (Unfolded place)) low, out) ≡ unfoldedIn run folded out
+    unfolding toldFault countAfter laterFrame askEach
+    later-refused place e = sym (ap (λ f. askEach 12 f run out ((0, 0), framed run folded, blockOn run folded)) e) ∙ is-later
+
+    pub later-done : (kept block : List ℤ) → kept ≡ take (halfWidth N) folded → block ≡ blockOn run folded → firstOut (blockOn run folded) 0 ≡ Nothing
+        → (toldFault Clear, opened N (countAfter count Clear) kept, block) ≡ unfoldedIn run folded out
+    unfolding toldFault countAfter laterFrame askEach
+    later-done kept block k b e =
+        ap₂ (λ (r : Run) (w : List ℤ). ((0, 0), r, w)) (framed-is kept k) b ∙ sym (ap (λ f. askEach 12 f run out ((0, 0), framed run folded, blockOn run folded)) e) ∙ is-later
 
 -- ---- 9 and 10
-module _ (run : Run) (frame out : List ℤ) where
-  pub range-refused : (place : ℕ) → firstBeyond (pos coefficientLimit) frame 0 ≡ At place → (toldFault (Range place), run, out) ≡ undoneIn run frame out
-  unfolding toldFault undoneIn askEach
+module _ (N count : ℕ) (low frame out : List ℤ) where
+  abbrev asked : Run
+  asked = opened N count low
+
+  pub range-refused : (place : ℕ) → firstBeyond (pos coefficientLimit) frame 0 ≡ At place → (toldFault (Range place), opened N (countAfter count (Range place)) low, out) ≡ undoneIn asked frame out
+  unfolding toldFault countAfter undoneIn askEach
   range-refused place e = rw e
 
   module _ (e : firstBeyond (pos coefficientLimit) frame 0 ≡ Nothing) where
-    pub folded-refused : (place : ℕ) → firstBeyond (pos foldedLimit) (unstages (run .width) frame) 0 ≡ At place → (toldFault (Folded place), run, out) ≡ undoneIn run frame out
-    unfolding toldFault undoneIn askEach
+    pub folded-refused : (place : ℕ) → firstBeyond (pos foldedLimit) (unstages N frame) 0 ≡ At place → (toldFault (Folded place), opened N (countAfter count (Folded place)) low, out) ≡ undoneIn asked frame out
+    unfolding toldFault countAfter undoneIn askEach opened
     folded-refused place d = rw (e, d)
 
-    pub folded-passed : firstBeyond (pos foldedLimit) (unstages (run .width) frame) 0 ≡ Nothing → unfoldedIn run (unstages (run .width) frame) out ≡ undoneIn run frame out
-    unfolding undoneIn askEach
+    pub folded-passed : firstBeyond (pos foldedLimit) (unstages N frame) 0 ≡ Nothing → unfoldedIn asked (unstages N frame) out ≡ undoneIn asked frame out
+    unfolding undoneIn askEach opened
     folded-passed d = rw (e, d)
-
--- ---- what the code computes
-pub block-is : (run : Run) (half : ℕ) (folded : List ℤ) → half ≡ halfWidth (run .width) → unfolded (run .width) (take half (run .held)) (drop half folded) ≡ blockOn run folded
-unfolding blockOn
-block-is run half folded h = ap (λ n. unfolded (run .width) (take n (run .held)) (drop n folded)) h
-
-pub length-block : (run : Run) (folded : List ℤ) → length (blockOn run folded) ≡ run .width
-unfolding blockOn
-length-block run folded = length-unfolded (run .width) _ _

@@ -1,5 +1,5 @@
 -- What questions 9 to 12 find in a frame, as the code answers it: the paper's number and place.
-use Prim.Native.Nat.{ℕ}
+use Prim.Native.Nat.{ℕ, suc}
 use Rattle.run_back.specs.declared.undo.Fault.{Fault}
 use Rattle.run_back.specs.declared.undo.Fault.the-variants.{Range, Folded, Halves, Unfolded, Clear}
 
@@ -9,3 +9,11 @@ toldFault (Folded place) = (10, place)
 toldFault (Halves place) = (11, place)
 toldFault (Unfolded place) = (12, place)
 toldFault Clear = (0, 0)
+
+-- the frames taken, once this one is asked
+unfoldable pub countAfter : ℕ → Fault → ℕ
+countAfter count (Range place) = count
+countAfter count (Folded place) = count
+countAfter count (Halves place) = count
+countAfter count (Unfolded place) = count
+countAfter count Clear = suc count

@@ -1,11 +1,13 @@
 // A run back, call by call, for any caller: the record goes in by value and comes back with the answer.
 ghost use mathlib.Core.Path.{_≡_};
+ghost use mathlib.Core.Bool.{false};
 ghost use mathlib.Core.List.{[]};
+ghost use Prim.Native.Nat.{_≤_};
 ghost use lib.ListN.{length};
 ghost use Rattle.lifting.specs.Gate.{told};
 ghost use Rattle.run.specs.Ready.{Ready};
 ghost use Rattle.run_back.specs.Back.{undoneIn, takenBack, firstHeld, endedBack};
-ghost use Rattle.run_back.specs.Faults.{toldFault};
+ghost use Rattle.run_back.specs.Faults.{toldFault, countAfter};
 use crate::undo;
 use crate::undo::Fault;
 use lifting::gate::Answer;
@@ -14,9 +16,10 @@ use run::gate;
 use run::record;
 use run::record::Outcome;
 use run::record::Run;
+use stages::room;
 use tables::widths;
 
-fn answered(fault: Fault) -> Answer
+pub fn answered(fault: Fault) -> Answer
     ensures { λ r. ⌜ told r ≡ toldFault fault ⌝ }
 {
     match fault {
@@ -28,17 +31,48 @@ fn answered(fault: Fault) -> Answer
     }
 }
 
+fn counted(count: usize, fault: Fault) -> usize
+    requires { ⌜ count ≤ 65537 ⌝ }
+    ensures { λ r. ⌜ r ≡ countAfter count fault ⌝ }
+{
+    match fault {
+        Fault::Range(_) => count,
+        Fault::Folded(_) => count,
+        Fault::Halves(_) => count,
+        Fault::Unfolded(_) => count,
+        Fault::Clear => count + 1,
+    }
+}
+
 // Questions 9 to 12, and the block before the frame.
 fn take_in(run: Run, half: usize, frame: &[i32], block: &mut [i32]) -> Outcome
     requires { ⌜ Ready run half ⌝ }
+    requires { ⌜ run .finished ≡ false ⌝ }
     requires { ⌜ (length (now frame) ≡ run .width) × (length (now block) ≡ run .width) ⌝ }
     ensures { λ r. ⌜ (told (r .answer), r .run, now (block .exit)) ≡ undoneIn run (now (frame .entry)) (now (block .entry)) ⌝ }
 {
-    let undone = undo::undo(run, half, frame, block);
-    let fault = undone.fault;
-    let after = undone.run;
+    let width = run.width;
+    let count = run.count;
+    let mut held = run.held;
+    let mut folded = room::of_128();
+    let mut wide = room::of_128();
+    let fault = undo::undo(
+        width,
+        half,
+        count,
+        frame,
+        &mut held[..half],
+        &mut folded[..width],
+        &mut wide[..width],
+        block,
+    );
     Outcome {
-        run: after,
+        run: Run {
+            width: width,
+            count: counted(count, fault),
+            held: held,
+            finished: false,
+        },
         answer: answered(fault),
     }
 }

@@ -1,15 +1,22 @@
 // A whole run back over lent slices, for any caller.
 ghost use mathlib.Core.Path.{_≡_};
-ghost use Prim.Native.Nat.{_+_, _-_, _≤_};
+ghost use Prim.Native.Nat.{_+_, _-_, _/_, _≤_};
 ghost use lib.ListN.{length, drop};
+ghost use Rattle.integers.specs.Places.{Within};
+ghost use Rattle.tables.specs.Widths.{halfWidth};
+ghost use Rattle.steps.specs.Limits.{foldedLimit};
 ghost use Rattle.lifting.specs.Gate.{told};
-ghost use Rattle.run.specs.Record.{zeros};
-ghost use Rattle.run_back.specs.Whole.{firstAnswer, allOutputs, wholeBack};
+ghost use Rattle.run.specs.Record.{zeros, opened};
+ghost use Rattle.run.specs.Ready.{Blocks};
+ghost use Rattle.run_back.specs.Whole.{answerFrom, outputsFrom, firstAnswer, allOutputs, wholeBack};
 ghost use Rattle.run_back.specs.Ready.{Frames};
 use crate::back;
+use crate::undo;
 use lifting::gate;
 use lifting::gate::Answer;
-use run::forward;
+use lifting::gate::Found;
+use run::record;
+use stages::room;
 use tables::widths;
 
 // An answer with its place counted through the run; 12 counts by blocks.
@@ -45,53 +52,142 @@ fn spare() -> [i32; 128]
     [0; 128]
 }
 
-// The answer of the first refused call, with nothing written.
-fn first_answer(width: usize, frames: &[i32]) -> Answer
+// The answer of the first refused call of a fresh run, where block is room for what a frame writes.
+fn answer_of(
+    width: usize,
+    half: usize,
+    frames: &[i32],
+    held: &mut [i64],
+    folded: &mut [i64],
+    wide: &mut [i64],
+    block: &mut [i32],
+) -> Answer
+    requires { ⌜ half ≡ halfWidth width ⌝ }
     requires { ⌜ Frames width (now frames) ⌝ }
+    requires { ⌜ now held ≡ zeros (halfWidth width) ⌝ }
+    requires { ⌜ (length (now folded) ≡ width) × (length (now wide) ≡ width) × (length (now block) ≡ width) ⌝ }
     ensures { λ r. ⌜ told r ≡ firstAnswer width (now (frames .entry)) (zeros (length (now (frames .entry)) - width)) ⌝ }
 {
-    let fresh = forward::start(width);
-    let mut run = fresh.run;
-    let mut block = spare();
     let mut at = 0;
+    let mut count = 0;
     let mut left = frames.len() / width;
     while 0 < left {
         let end = at + width;
-        let taken = back::take(run, &frames[at..end], &mut block[..width]);
-        let answer = taken.answer;
+        let fault = undo::undo(
+            width,
+            half,
+            count,
+            &frames[at..end],
+            held,
+            folded,
+            wide,
+            block,
+        );
+        let answer = back::answered(fault);
         if gate::number(answer) != 0 {
             return placed(width, at, answer);
         }
-        run = taken.run;
         at = end;
+        count += 1;
         left -= 1;
     }
-    let ended = back::finish(run);
-    let last = ended.answer;
-    placed(width, at - width, last)
+    let lower = gate::first_beyond(held, 0);
+    if let Found::At(place) = lower {
+        return Answer::Halves(at - width + place);
+    }
+    Answer::Done
 }
 
-// Each frame is lent to the frame step as it lies. The first one writes nothing.
-fn readings_of(width: usize, frames: &[i32], readings: &mut [i32])
+// The answer of the first refused call, with nothing written.
+fn first_answer(width: usize, half: usize, frames: &[i32]) -> Answer
+    requires { ⌜ half ≡ halfWidth width ⌝ }
     requires { ⌜ Frames width (now frames) ⌝ }
-    requires { ⌜ length (now readings) + width ≡ length (now frames) ⌝ }
-    ensures { λ _. ⌜ now (readings .exit) ≡ drop width (allOutputs width (now (frames .entry)) (now (readings .entry))) ⌝ }
+    ensures { λ r. ⌜ told r ≡ firstAnswer width (now (frames .entry)) (zeros (length (now (frames .entry)) - width)) ⌝ }
 {
-    let fresh = forward::start(width);
-    let begun = fresh.run;
+    let mut held = record::nothing_held();
+    let mut folded = room::of_128();
+    let mut wide = room::of_128();
     let mut block = spare();
-    let first = back::take(begun, &frames[..width], &mut block[..width]);
-    let mut run = first.run;
+    answer_of(
+        width,
+        half,
+        frames,
+        &mut held[..half],
+        &mut folded[..width],
+        &mut wide[..width],
+        &mut block[..width],
+    )
+}
+
+// The blocks before the frames that follow the first one. Each frame is lent to the frame step as it lies.
+fn blocks_before(
+    width: usize,
+    half: usize,
+    frames: &[i32],
+    held: &mut [i64],
+    folded: &mut [i64],
+    wide: &mut [i64],
+    readings: &mut [i32],
+)
+    requires { ⌜ half ≡ halfWidth width ⌝ }
+    requires { ⌜ Blocks width (now frames) ⌝ }
+    requires { ⌜ (length (now held) ≡ halfWidth width) × (length (now folded) ≡ width) × (length (now wide) ≡ width) × (length (now readings) ≡ length (now frames)) ⌝ }
+    requires { ⌜ Within foldedLimit (now held) ⌝ }
+    requires { ⌜ answerFrom width width (opened width 1 (now held)) (length (now frames) / width) (now frames) (now readings) .0 ≡ 0 ⌝ }
+    ensures { λ _. ⌜ now (readings .exit) ≡ outputsFrom width (opened width 1 (now (held .entry))) (length (now (frames .entry)) / width) (now (frames .entry)) (now (readings .entry)) ⌝ }
+{
     let mut at = 0;
-    let mut left = readings.len() / width;
+    let mut count = 1;
+    let mut left = frames.len() / width;
     while 0 < left {
         let end = at + width;
-        let after = end + width;
-        let taken = back::take(run, &frames[end..after], &mut readings[at..end]);
-        run = taken.run;
+        undo::undo(
+            width,
+            half,
+            count,
+            &frames[at..end],
+            held,
+            folded,
+            wide,
+            &mut readings[at..end],
+        );
         at = end;
+        count += 1;
         left -= 1;
     }
+}
+
+// The first frame writes nothing.
+fn readings_of(width: usize, half: usize, frames: &[i32], readings: &mut [i32])
+    requires { ⌜ half ≡ halfWidth width ⌝ }
+    requires { ⌜ Frames width (now frames) ⌝ }
+    requires { ⌜ length (now readings) + width ≡ length (now frames) ⌝ }
+    requires { ⌜ firstAnswer width (now frames) (now readings) .0 ≡ 0 ⌝ }
+    ensures { λ _. ⌜ now (readings .exit) ≡ drop width (allOutputs width (now (frames .entry)) (now (readings .entry))) ⌝ }
+{
+    let mut held = record::nothing_held();
+    let mut folded = room::of_128();
+    let mut wide = room::of_128();
+    let mut block = spare();
+    undo::undo(
+        width,
+        half,
+        0,
+        &frames[..width],
+        &mut held[..half],
+        &mut folded[..width],
+        &mut wide[..width],
+        &mut block[..width],
+    );
+    blocks_before(
+        width,
+        half,
+        &frames[width..],
+        &mut held[..half],
+        &mut folded[..width],
+        &mut wide[..width],
+        readings,
+    );
 }
 
 // The whole run back: the readings that its frames came from.
@@ -114,10 +210,10 @@ pub fn back(width: usize, frames: &[i32], readings: &mut [i32]) -> Answer
     if frames.len() - width != readings.len() {
         return Answer::OutputLength;
     }
-    let answer = first_answer(width, frames);
+    let answer = first_answer(width, half, frames);
     if gate::number(answer) != 0 {
         return answer;
     }
-    readings_of(width, frames, readings);
+    readings_of(width, half, frames, readings);
     answer
 }

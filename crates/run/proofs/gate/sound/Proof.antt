@@ -3,46 +3,53 @@ use borrow.Author.Needs.{needs}
 use borrow.Author.Tests.{not-true, not-false}
 use native.Mathlib.Omega.{arith}
 use mathlib.Core.Path.{_≡_, sym, ap, _∙_}
-use mathlib.Core.Bool.{true}
-use Prim.Native.Nat.{_≤_}
-use lib.IntN.{pos}
-use lib.ListN.{length, drop}
+use Prim.Native.Nat.{ℕ, _≤_}
+use lib.IntN.{ℤ, pos}
+use lib.ListN.{length, take, drop}
 use Rattle.tables.specs.Widths.{halfWidth}
 use Rattle.tables.proofs.ByWidth.{half-width-le}
-use Rattle.steps.specs.Limits.{foldedLimit}
+use Rattle.lifting.proofs.Parts.{part-long}
+use Rattle.run.specs.declared.record.Run.{Run}
 use Rattle.run.specs.Gate.{inside}
-use Rattle.run.proofs.GateLaws.{rest-part, no-width, no-count, held-beyond, rest-held, none-taken, run-over, run-open}
+use Rattle.run.proofs.GateLaws.{rest-part, no-width, no-count, rest-held, none-taken, run-over, run-open}
 use Rattle.run.proofs.gate.sound.Statement.{statement}
 use Rattle.run.proofs.gate.sound.Tie as tie
 
-has-width : (e : tie.Else1) → halfWidth (e .before .before .args .run .width) ≡ 0 → ⊥
-has-width e h = e .if1 .left (e .before .half-width .ensures ∙ h)
+module _ (e : tie.Else1) where
+  abbrev start : tie.Start
+  start = e .before .before
 
-half-le : (h : tie.After-half-width) → h .half-width .result ≤ 64
-half-le h = omega (arith, h .half-width .ensures, half-width-le (h .before .args .run .width))
+  abbrev run : Run
+  run = start .args .run
 
-held-long : (s : tie.Start) → length (s .args .run .held) ≡ 64
-held-long s = search needs
+  abbrev half : ℕ
+  half = e .before .half-width .result
 
--- the answers so far
-module _ (e : tie.Else3) where
+  has-width : halfWidth (run .width) ≡ 0 → ⊥
+  has-width h = e .if1 .left (e .before .half-width .ensures ∙ h)
+
+  held-long : length (run .held) ≡ 64
+  held-long = let s = start in search needs
+
+  half-le : half ≤ 64
+  half-le = omega (arith, e .before .half-width .ensures, half-width-le (run .width))
+
+  in-held : half ≤ length (run .held)
+  in-held = omega (arith, held-long, half-le)
+
+  front-is : (limit : ℤ) → inside limit (take half (run .held)) ≡ inside limit (take (halfWidth (run .width)) (run .held))
+  front-is limit = ap (λ (n : ℕ). inside limit (take n (run .held))) (e .before .half-width .ensures)
+
+-- what the places from half on are found to be
+module _ (i : tie.After-inside) where
+  abbrev counted : tie.Else2
+  counted = i .before .before .before .before
+
   abbrev first : tie.Else1
-  first = e .before .before .before .before .before .before
+  first = counted .before .before
 
-  abbrev from : tie.Start
-  from = first .before .before
-
-  held-inside : inside (pos foldedLimit) (from .args .run .held) ≡ true
-  held-inside = sym (e .before .inside .ensures) ∙ not-false _ (e .if3 .left)
-
-module _ (i : tie.After-inside2) where
-  abbrev third : tie.Else3
-  third = i .before .before .before
-
-  rest-seen : inside (pos 0) (drop (halfWidth (from third .args .run .width)) (from third .args .run .held)) ≡ i .inside2 .result
-  rest-seen =
-      let h = third .before .before .before .before .before .before .before in
-      sym (i .inside2 .ensures ∙ ap (inside (pos 0)) (rest-part 64 (h .half-width .result) _ (from third .args .run .held) (held-long (from third)) (h .half-width .ensures)))
+  rest-seen : inside (pos 0) (drop (halfWidth (run first .width)) (run first .held)) ≡ i .inside .result
+  rest-seen = sym (i .inside .ensures ∙ ap (inside (pos 0)) (rest-part 64 (half first) _ (run first .held) (held-long first) (first .before .half-width .ensures)))
 
 half-width-requires : tie.Need-half-width-requires
 half-width-requires c κs = search needs
@@ -51,55 +58,66 @@ returns : tie.Need-returns
 returns c = let s = c .before .before in no-width (s .args .top) (s .args .run) (sym (c .before .half-width .ensures) ∙ c .if1 .taken)
 
 returns-2 : tie.Need-returns-2
-returns-2 c = let e = c .before .before in no-count (e .before .before .args .top) (e .before .before .args .run) (has-width e) (c .if2 .taken)
+returns-2 c = let e = c .before .before in no-count (start e .args .top) (run e) (has-width e) (c .if2 .taken)
 
-slice-aggregate-inside : tie.Need-slice-aggregate-inside
-slice-aggregate-inside c = search needs
+mul-inside : tie.Need-mul-inside
+mul-inside c = record { fits = omega (arith, half-le (c .before .before .before)) }
+
+sub-inside : tie.Need-sub-inside
+sub-inside c = half-le (c .before .before .before)
+
+part-inside-start : tie.Need-part-inside-start
+part-inside-start c = half-le (c .before .before .before .before)
+
+part-inside-end : tie.Need-part-inside-end
+part-inside-end c = omega (arith, held-long (c .before .before .before .before))
 
 inside-requires : tie.Need-inside-requires
 inside-requires c κs = search needs
 
 returns-3 : tie.Need-returns-3
 returns-3 c =
-    let e = c .before .before .before .before .before .before in
-    held-beyond (e .before .before .args .top) (e .before .before .args .run) (has-width e) (c .before .before .before .before .if2 .left) (sym (c .before .inside .ensures) ∙ not-true _ (c .if3 .taken))
+    let i = c .before in
+    let e = first i in
+    rest-held (start e .args .top) (run e) (has-width e) (counted i .if2 .left) (rest-seen i ∙ not-true _ (c .if3 .taken))
 
-mul-inside : tie.Need-mul-inside
-mul-inside c = record { fits = omega (arith, half-le (c .before .before .before .before .before .before .before)) }
+array-share-prefix-held : tie.Need-array-share-prefix-held
+array-share-prefix-held c = in-held (first (c .before .before .before))
 
-sub-inside : tie.Need-sub-inside
-sub-inside c = half-le (c .before .before .before .before .before .before .before)
-
-part-inside-start : tie.Need-part-inside-start
-part-inside-start c = half-le (c .before .before .before .before .before .before .before .before)
-
-part-inside-end : tie.Need-part-inside-end
-part-inside-end c = omega (arith, held-long (c .before .before .before .before .before .before .before .before .before))
+slice-aggregate-inside : tie.Need-slice-aggregate-inside
+slice-aggregate-inside c = let e = first (c .before .before .before .before) in part-long _ (run e .held) (in-held e)
 
 inside-requires-2 : tie.Need-inside-requires-2
 inside-requires-2 c κs = search needs
 
 returns-4 : tie.Need-returns-4
 returns-4 c =
-    let e = c .before .before .before .before in
-    let s = from e in
-    rest-held (s .args .top) (s .args .run) (has-width (first e)) (e .before .before .before .before .if2 .left) (held-inside e) (rest-seen (c .before) ∙ not-true _ (c .if4 .taken))
+    let f = c .before .before .before .before in
+    let i = f .before in
+    let e = first i in
+    c .inside2 .ensures ∙ front-is e _ ∙ none-taken (start e .args .top) (run e) (has-width e) (counted i .if2 .left) (rest-seen i ∙ not-false _ (f .if3 .left)) (c .before .before .if4 .taken)
+
+array-share-prefix-held-2 : tie.Need-array-share-prefix-held-2
+array-share-prefix-held-2 c = in-held (first (c .before .before .before .before))
 
 slice-aggregate-inside-2 : tie.Need-slice-aggregate-inside-2
-slice-aggregate-inside-2 c = search needs
+slice-aggregate-inside-2 c = let e = first (c .before .before .before .before .before) in part-long _ (run e .held) (in-held e)
 
 inside-requires-3 : tie.Need-inside-requires-3
 inside-requires-3 c κs = search needs
 
 returns-5 : tie.Need-returns-5
 returns-5 c =
-    let f = c .before .before .before .before in
-    let e = third (f .before) in
-    let s = from e in
-    c .inside3 .ensures ∙ none-taken (s .args .top) (s .args .run) (has-width (first e)) (e .before .before .before .before .if2 .left) (held-inside e) (rest-seen (f .before) ∙ not-false _ (f .if4 .left)) (c .before .before .if5 .taken)
+    let f = c .before .before .before .before .before in
+    let i = f .before in
+    let e = first i in
+    c .inside3 .ensures ∙ front-is e _ ∙ run-over (start e .args .top) (run e) (has-width e) (counted i .if2 .left) (rest-seen i ∙ not-false _ (f .if3 .left)) (c .before .before .before .if4 .left) (c .before .before .if5 .taken)
+
+array-share-prefix-held-3 : tie.Need-array-share-prefix-held-3
+array-share-prefix-held-3 c = in-held (first (c .before .before .before .before))
 
 slice-aggregate-inside-3 : tie.Need-slice-aggregate-inside-3
-slice-aggregate-inside-3 c = search needs
+slice-aggregate-inside-3 c = let e = first (c .before .before .before .before .before) in part-long _ (run e .held) (in-held e)
 
 inside-requires-4 : tie.Need-inside-requires-4
 inside-requires-4 c κs = search needs
@@ -107,16 +125,9 @@ inside-requires-4 c κs = search needs
 returns-6 : tie.Need-returns-6
 returns-6 c =
     let f = c .before .before .before .before .before in
-    let e = third (f .before) in
-    let s = from e in
-    c .inside4 .ensures ∙ run-over (s .args .top) (s .args .run) (has-width (first e)) (e .before .before .before .before .if2 .left) (held-inside e) (rest-seen (f .before) ∙ not-false _ (f .if4 .left)) (c .before .before .before .if5 .left) (c .before .before .if6 .taken)
-
-returns-7 : tie.Need-returns-7
-returns-7 c =
-    let f = c .before .before .before in
-    let e = third (f .before) in
-    let s = from e in
-    run-open (s .args .top) (s .args .run) (has-width (first e)) (e .before .before .before .before .if2 .left) (held-inside e) (rest-seen (f .before) ∙ not-false _ (f .if4 .left)) (c .before .if5 .left) (c .if6 .left)
+    let i = f .before in
+    let e = first i in
+    c .inside4 .ensures ∙ front-is e _ ∙ run-open (start e .args .top) (run e) (has-width e) (counted i .if2 .left) (rest-seen i ∙ not-false _ (f .if3 .left)) (c .before .before .before .if4 .left) (c .before .before .if5 .left)
 
 pub sound-spec : {M : Type 1} → statement M
 sound-spec =
@@ -125,19 +136,21 @@ sound-spec =
     half-width-requires
     returns
     returns-2
-    slice-aggregate-inside
-    inside-requires
-    returns-3
     mul-inside
     sub-inside
     part-inside-start
     part-inside-end
+    inside-requires
+    returns-3
+    array-share-prefix-held
+    slice-aggregate-inside
     inside-requires-2
     returns-4
+    array-share-prefix-held-2
     slice-aggregate-inside-2
     inside-requires-3
     returns-5
+    array-share-prefix-held-3
     slice-aggregate-inside-3
     inside-requires-4
-    returns-6
-    returns-7)
+    returns-6)

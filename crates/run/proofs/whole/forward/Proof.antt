@@ -103,7 +103,11 @@ enum-told : tie.Need-enum-told
 enum-told c = search needs
 
 frames-of-requires : tie.Need-frames-of-requires
-frames-of-requires c κs = let f = c .before .before .before in (blocks (third f), f .before .if4 .left)
+frames-of-requires c κs =
+    let n = c .before in
+    let f = n .before .before in
+    let l = third f in
+    (first l .before .half-width .ensures, (blocks l, (f .before .if4 .left, clear n)))
 
 returns-5 : tie.Need-returns-5
 unfolding told toldFault

@@ -1,40 +1,49 @@
 -- `run::whole::frames_of` meets its contract: what is written, and what the calls left give, is what all calls give.
 use native.Mathlib.Omega.{arith}
-use mathlib.Core.Path.{_≡_, refl, sym, ap, ap₂, _∙_}
-use mathlib.Core.List.{List, _++_}
-use Prim.Native.Nat.{ℕ, _+_, _*_, _/_, _≤_}
-use lib.IntN.{ℤ}
-use lib.ListN.{length, take, drop}
-use Rattle.lifting.specs.Gate.{told}
-use Rattle.run.specs.declared.record.Run.{Run}
-use Rattle.run.specs.Forward.{started, taken, ended}
-use Rattle.run.specs.Calls.{made}
-use Rattle.run.specs.Whole.{callsOf, outputs}
+use mathlib.Core.Path.{_≡_, refl, sym, ap, subst, _∙_}
+use mathlib.Core.List.{List}
+use Prim.Native.Nat.{ℕ, _+_, _-_, _*_, _≤_}
+use lib.IntN.{ℤ, pos}
+use lib.ListN.{length, take, drop, length-drop, length-replicate}
+use Rattle.integers.specs.Places.{Within}
+use Rattle.steps.specs.Limits.{readingLimit}
+use Rattle.steps.specs.Steps.{held, frame}
+use Rattle.steps.proofs.Undo.{length-held}
+use Rattle.lifting.proofs.Parts.{part-long, front}
+use Rattle.run.specs.Record.{zeros}
 use Rattle.run.proofs.GateLaws.{rest-part}
-use Rattle.run.proofs.FaultLaws.{width-pos, few-readings, block-next, block-in, block-long, part-is}
-use Rattle.run.proofs.PartLaws.{frames-next, frames-end}
+use Rattle.run.proofs.FaultLaws.{width-pos, width-room, half-room, front-same, few-readings, block-next, block-in, no-block, block-long, part-is}
+use Rattle.run.proofs.ReadyLaws.{zero-part, zero-within}
+use Rattle.run.proofs.Stepping.{Stepping, stepping-first, kept-within, next-within, stepping-next, stepping-end}
 use Rattle.run.proofs.whole.frames_of.Statement.{statement}
 use Rattle.run.proofs.whole.frames_of.Tie as tie
 
 abbrev Inv-loop : tie.InvT-loop
-Inv-loop width readings frames₀ run₀ at₀ left₀ frames run at left =
+Inv-loop width half readings frames₀ held₀ wide₀ folded₀ at₀ left₀ frames held wide folded at left =
     (at + left * width ≡ length readings)
     × (length frames ≡ length readings + width)
-    × (outputs (made (started width .1) (callsOf width (length readings / width) readings frames₀)) ≡ take at frames ++ outputs (made run (callsOf width left (drop at readings) (drop at frames))))
+    × (length held ≡ 64)
+    × (128 ≡ length wide)
+    × (128 ≡ length folded)
+    × Stepping width half at left readings frames₀ frames held
 
 abbrev μ-loop : tie.MeasureT-loop
-μ-loop width readings frames₀ run₀ at₀ left₀ frames run at left = left
+μ-loop width half readings frames₀ held₀ wide₀ folded₀ at₀ left₀ frames held wide folded at left =
+    left
 
 module _ (s : tie.Start Inv-loop μ-loop) where
   abbrev N : ℕ
   N = s .args .width
+
+  abbrev half : ℕ
+  half = s .args .half
 
   abbrev readings : List ℤ
   readings = s .args .readings .now
 
 module _ (k : tie.At-loop Inv-loop μ-loop) where
   abbrev from : tie.Start Inv-loop μ-loop
-  from = k .before .before .before
+  from = k .before .before .before .before
 
   abbrev place : ℕ
   place = k .loop .at
@@ -42,13 +51,29 @@ module _ (k : tie.At-loop Inv-loop μ-loop) where
   abbrev frames : List ℤ
   frames = k .loop .frames
 
+  abbrev kept : List ℤ
+  kept = k .loop .held
+
   place-le : place ≤ 8388608
-  place-le = omega (arith, k .loop .inv .0, few-readings (N from) (readings from) (from .pre .0))
+  place-le = omega (arith, k .loop .inv .0, few-readings (N from) (readings from) (from .pre .1 .0))
+
+  -- the room lent
+  held-le : half from ≤ length kept
+  held-le = half-room (N from) (half from) kept (from .pre .0) (k .loop .inv .2)
+
+  wide-le : N from ≤ length (k .loop .wide)
+  wide-le = width-room (N from) (k .loop .wide) (from .pre .1 .0 .wide) (k .loop .inv .3)
+
+  folded-le : N from ≤ length (k .loop .folded)
+  folded-le = width-room (N from) (k .loop .folded) (from .pre .1 .0 .wide) (k .loop .inv .4)
 
 -- a block is left
 module _ (i : tie.In-loop Inv-loop μ-loop) where
   abbrev at : tie.At-loop Inv-loop μ-loop
   at = i .before
+
+  abbrev block : List ℤ
+  block = take (N (from at)) (drop (place at) (readings (from at)))
 
   in-readings : place at + N (from at) ≤ length (readings (from at))
   in-readings = block-in (place at) (at .loop .left) (N (from at)) _ (at .loop .inv .0) (i .loop-test .taken)
@@ -57,64 +82,118 @@ module _ (i : tie.In-loop Inv-loop μ-loop) where
   in-frames = omega (arith, in-readings, at .loop .inv .1)
 
   end-le : place at + N (from at) ≤ 8388608
-  end-le = omega (arith, in-readings, few-readings (N (from at)) (readings (from at)) (from at .pre .0))
+  end-le = omega (arith, in-readings, few-readings (N (from at)) (readings (from at)) (from at .pre .1 .0))
 
--- the block step on the parts lent
-module _ (t : tie.After-take Inv-loop μ-loop) where
-  abbrev inside : tie.In-loop Inv-loop μ-loop
-  inside = t .before .before .before
+-- none is left: the finish's block is zeros
+module _ (z : tie.After-zero-block Inv-loop μ-loop) where
+  abbrev over : tie.At-loop Inv-loop μ-loop
+  over = z .before .before
 
-  abbrev here : tie.At-loop Inv-loop μ-loop
-  here = inside .before
+  none : over .loop .left ≡ 0
+  none = omega (arith, z .before .loop-test .left)
 
-  given :
-      _≡_ {A = (ℕ × ℕ) × Run × List ℤ} (told (t .take .result .answer), t .take .result .run, t .take .last .1 .1 .0)
-      (taken (here .loop .run) (take (N (from here)) (drop (place here) (readings (from here)))) (take (N (from here)) (drop (place here) (frames here))))
-  given = t .take .ensures ∙ ap₂ (taken (here .loop .run)) (part-is (place here) (N (from here)) (readings (from here))) (part-is (place here) (N (from here)) (frames here))
+  zeros-le : N (from over) ≤ length (z .zero-block .result)
+  zeros-le = width-room (N (from over)) (z .zero-block .result) (from over .pre .1 .0 .wide) (sym (ap length (z .zero-block .ensures) ∙ length-replicate 128 (pos 0)))
 
-start-requires : tie.Need-start-requires Inv-loop μ-loop
-start-requires c κs = tt
+  last-is : take (N (from over)) (z .zero-block .result) ≡ zeros (N (from over))
+  last-is = zero-part (N (from over)) (z .zero-block .result) (from over .pre .1 .0 .wide) (z .zero-block .ensures)
+
+  last-at : place over + N (from over) ≡ length (frames over)
+  last-at = omega (arith, no-block (place over) (over .loop .left) (N (from over)) _ (over .loop .inv .0) none, over .loop .inv .1)
+
+  last-long : length (take (length (frames over) - place over) (drop (place over) (frames over))) ≡ N (from over)
+  last-long = ap length (rest-part (length (frames over)) (place over) (place over) (frames over) refl refl) ∙ omega (arith, length-drop (place over) (frames over), last-at)
+
+nothing-held-requires : tie.Need-nothing-held-requires Inv-loop μ-loop
+nothing-held-requires c κs = tt
+
+of-128-requires : tie.Need-of-128-requires Inv-loop μ-loop
+of-128-requires c κs = tt
+
+of-128-requires-2 : tie.Need-of-128-requires-2 Inv-loop μ-loop
+of-128-requires-2 c κs = tt
 
 div-left : tie.Need-div-left Inv-loop μ-loop
-div-left c = let s = c .before .before in width-pos (N s) (s .pre .0 .wide)
+div-left c = let s = c .before .before .before in width-pos (N s) (s .pre .1 .0 .wide)
 
 loop-holds : tie.Need-loop-holds Inv-loop μ-loop
 loop-holds c =
-    let s = c .before .before in (
-      omega (arith, s .pre .0 .whole),
-      s .pre .1,
-      ap (λ (r : Run). outputs (made r (callsOf (N s) (length (readings s) / N s) (readings s) (s .args .frames .now)))) (sym (ap (λ (x : (ℕ × ℕ) × Run). x .1) (c .before .start .ensures))),
+    let s = c .before .before .before in
+    let h = c .before .before in (
+      omega (arith, s .pre .1 .0 .whole),
+      s .pre .1 .1 .0,
+      ap length (h .nothing-held .ensures) ∙ length-replicate 64 (pos 0),
+      c .before .of-128 .ensures,
+      c .of-1282 .ensures,
+      stepping-first (N s) (half s) (readings s) (s .args .frames .now) (h .nothing-held .result) (s .pre .0) (s .pre .1 .0) (s .pre .1 .1 .1) (h .nothing-held .ensures),
     )
 
 add-end : tie.Need-add-end Inv-loop μ-loop
 add-end c = record { fits = omega (arith, end-le c) }
 
-mul-take : tie.Need-mul-take Inv-loop μ-loop
-mul-take c = record { fits = omega (arith, end-le c) }
+mul-step : tie.Need-mul-step Inv-loop μ-loop
+mul-step c = record { fits = omega (arith, end-le c) }
 
-sub-take : tie.Need-sub-take Inv-loop μ-loop
-sub-take c = omega arith
+sub-step : tie.Need-sub-step Inv-loop μ-loop
+sub-step c = omega arith
 
-part-take-start : tie.Need-part-take-start Inv-loop μ-loop
-part-take-start c = omega arith
+part-step-start : tie.Need-part-step-start Inv-loop μ-loop
+part-step-start c = omega arith
 
-part-take-end : tie.Need-part-take-end Inv-loop μ-loop
-part-take-end c = in-readings c
+part-step-end : tie.Need-part-step-end Inv-loop μ-loop
+part-step-end c = in-readings c
 
-mul-take-2 : tie.Need-mul-take-2 Inv-loop μ-loop
-mul-take-2 c = record { fits = omega (arith, end-le (c .before)) }
+array-borrow-prefix-held : tie.Need-array-borrow-prefix-held Inv-loop μ-loop
+array-borrow-prefix-held c = held-le (c .before .before)
 
-sub-take-2 : tie.Need-sub-take-2 Inv-loop μ-loop
-sub-take-2 c = omega arith
+slice-aggregate-step : tie.Need-slice-aggregate-step Inv-loop μ-loop
+slice-aggregate-step c = part-long _ (kept (c .before .before .before)) (held-le (c .before .before .before))
 
-part-take-start-2 : tie.Need-part-take-start-2 Inv-loop μ-loop
-part-take-start-2 c = omega arith
+array-borrow-prefix-wide : tie.Need-array-borrow-prefix-wide Inv-loop μ-loop
+array-borrow-prefix-wide c = wide-le (c .before .before .before)
 
-part-take-end-2 : tie.Need-part-take-end-2 Inv-loop μ-loop
-part-take-end-2 c = in-frames (c .before)
+slice-aggregate-step-2 : tie.Need-slice-aggregate-step-2 Inv-loop μ-loop
+slice-aggregate-step-2 c = part-long _ (c .before .before .before .before .loop .wide) (wide-le (c .before .before .before .before))
 
-take-requires : tie.Need-take-requires Inv-loop μ-loop
-take-requires c κs = tt
+array-borrow-prefix-folded : tie.Need-array-borrow-prefix-folded Inv-loop μ-loop
+array-borrow-prefix-folded c = folded-le (c .before .before .before .before)
+
+slice-aggregate-step-3 : tie.Need-slice-aggregate-step-3 Inv-loop μ-loop
+slice-aggregate-step-3 c = part-long _ (c .before .before .before .before .before .loop .folded) (folded-le (c .before .before .before .before .before))
+
+mul-step-2 : tie.Need-mul-step-2 Inv-loop μ-loop
+mul-step-2 c = record { fits = omega (arith, place-le (c .before .before .before .before .before)) }
+
+sub-step-2 : tie.Need-sub-step-2 Inv-loop μ-loop
+sub-step-2 c = omega arith
+
+part-step-start-2 : tie.Need-part-step-start-2 Inv-loop μ-loop
+part-step-start-2 c = omega arith
+
+part-step-end-2 : tie.Need-part-step-end-2 Inv-loop μ-loop
+part-step-end-2 c = in-frames (c .before .before .before .before)
+
+step-requires : tie.Need-step-requires Inv-loop μ-loop
+step-requires c κs =
+    let i = c .before .before .before .before .before in
+    let k = at i in
+    let s = from k in
+    let same = part-is (place k) (N s) (readings s) in (
+      record { half-is = s .pre .0; wide = s .pre .1 .0 .wide },
+      (
+        (
+          ap length same ∙ block-long (place k) (N s) (readings s) (in-readings i),
+          sym (part-long _ (kept k) (held-le k)) ∙ s .pre .0,
+          sym (part-long _ (k .loop .wide) (wide-le k)),
+          sym (part-long _ (k .loop .folded) (folded-le k)),
+          ap length (part-is (place k) (N s) (frames k)) ∙ block-long (place k) (N s) (frames k) (in-frames i),
+        ),
+        (
+          kept-within (N s) (half s) (place k) (k .loop .left) (readings s) _ (frames k) (kept k) (k .loop .inv .5),
+          subst (Within readingLimit) (sym same) (next-within (N s) (half s) (place k) (k .loop .left) (readings s) _ (frames k) (kept k) (k .loop .inv .5) (i .loop-test .taken) (k .loop .inv .0) (k .loop .inv .1)),
+        ),
+      ),
+    )
 
 sub-left : tie.Need-sub-left Inv-loop μ-loop
 sub-left c = omega arith
@@ -124,42 +203,91 @@ loop-less c = omega arith
 
 loop-again : tie.Need-loop-again Inv-loop μ-loop
 loop-again c =
-    let t = c .before .before in
-    let k = here t in
+    let t = c .before .before .before .before in
+    let i = c .before .before .before .before .before .before .before .before .before .before in
+    let k = at i in
     let s = from k in
-    let long = c .before .frames .given .0 ∙ ap length (part-is (place k) (N s) (frames k)) ∙ block-long (place k) (N s) (frames k) (in-frames (inside t)) in (
-      block-next (place k) (k .loop .left) (N s) _ (k .loop .inv .0) (inside t .loop-test .taken),
-      c .before .frames .given .1 ∙ k .loop .inv .1,
-      k .loop .inv .2 ∙ frames-next (N s) (place k) (k .loop .left) (k .loop .run) _ _ (readings s) (frames k) _ (inside t .loop-test .taken) (in-frames (inside t)) long (given t),
+    let same = part-is (place k) (N s) (readings s) in (
+      block-next (place k) (k .loop .left) (N s) _ (k .loop .inv .0) (i .loop-test .taken),
+      c .frames .given .1 ∙ k .loop .inv .1,
+      front-same (half s) (kept k) (t .step .last .1 .1 .1 .0) (held-le k) (c .before .before .before .held2 .given) ∙ k .loop .inv .2,
+      k .loop .inv .3 ∙ sym (front-same (N s) (k .loop .wide) (t .step .last .1 .1 .1 .1 .0) (wide-le k) (c .before .before .wide2 .given)),
+      k .loop .inv .4 ∙ sym (front-same (N s) (k .loop .folded) (t .step .last .1 .1 .1 .1 .1 .0) (folded-le k) (c .before .folded2 .given)),
+      stepping-next (N s) (half s) (place k) (k .loop .left) (readings s) _ (frames k) (kept k) (k .loop .inv .5) (i .loop-test .taken) (k .loop .inv .0) (k .loop .inv .1) _ _
+          (t .step .ensures .1 ∙ ap (frame (N s) (take (half s) (kept k))) same)
+          (front (half s) (t .step .last .1 .1 .1 .0) (drop (half s) (kept k)) (ap length (t .step .ensures .0) ∙ length-held (N s) _ ∙ sym (s .pre .0)) ∙ t .step .ensures .0 ∙ ap (held (N s)) same),
     )
 
-mul-finish : tie.Need-mul-finish Inv-loop μ-loop
-mul-finish c = record { fits = omega (arith, place-le (c .before)) }
+zero-block-requires : tie.Need-zero-block-requires Inv-loop μ-loop
+zero-block-requires c κs = tt
 
-sub-finish : tie.Need-sub-finish Inv-loop μ-loop
-sub-finish c = omega (arith, c .before .loop .inv .0, c .before .loop .inv .1)
+array-share-prefix-zeros : tie.Need-array-share-prefix-zeros Inv-loop μ-loop
+array-share-prefix-zeros c = zeros-le c
 
-part-finish-start : tie.Need-part-finish-start Inv-loop μ-loop
-part-finish-start c = omega (arith, c .before .loop .inv .0, c .before .loop .inv .1)
+slice-aggregate-step-4 : tie.Need-slice-aggregate-step-4 Inv-loop μ-loop
+slice-aggregate-step-4 c = part-long _ (c .before .zero-block .result) (zeros-le (c .before))
 
-part-finish-end : tie.Need-part-finish-end Inv-loop μ-loop
-part-finish-end c = omega arith
+array-borrow-prefix-held-2 : tie.Need-array-borrow-prefix-held-2 Inv-loop μ-loop
+array-borrow-prefix-held-2 c = held-le (c .before .before .before)
 
-finish-requires : tie.Need-finish-requires Inv-loop μ-loop
-finish-requires c κs = tt
+slice-aggregate-step-5 : tie.Need-slice-aggregate-step-5 Inv-loop μ-loop
+slice-aggregate-step-5 c = part-long _ (kept (c .before .before .before .before)) (held-le (c .before .before .before .before))
+
+array-borrow-prefix-wide-2 : tie.Need-array-borrow-prefix-wide-2 Inv-loop μ-loop
+array-borrow-prefix-wide-2 c = wide-le (c .before .before .before .before)
+
+slice-aggregate-step-6 : tie.Need-slice-aggregate-step-6 Inv-loop μ-loop
+slice-aggregate-step-6 c = part-long _ (c .before .before .before .before .before .loop .wide) (wide-le (c .before .before .before .before .before))
+
+array-borrow-prefix-folded-2 : tie.Need-array-borrow-prefix-folded-2 Inv-loop μ-loop
+array-borrow-prefix-folded-2 c = folded-le (c .before .before .before .before .before)
+
+slice-aggregate-step-7 : tie.Need-slice-aggregate-step-7 Inv-loop μ-loop
+slice-aggregate-step-7 c = part-long _ (c .before .before .before .before .before .before .loop .folded) (folded-le (c .before .before .before .before .before .before))
+
+mul-step-3 : tie.Need-mul-step-3 Inv-loop μ-loop
+mul-step-3 c = record { fits = omega (arith, place-le (c .before .before .before .before .before .before)) }
+
+sub-step-3 : tie.Need-sub-step-3 Inv-loop μ-loop
+sub-step-3 c = omega (arith, last-at (c .before .before .before .before))
+
+part-step-start-3 : tie.Need-part-step-start-3 Inv-loop μ-loop
+part-step-start-3 c = omega (arith, last-at (c .before .before .before .before))
+
+part-step-end-3 : tie.Need-part-step-end-3 Inv-loop μ-loop
+part-step-end-3 c = omega arith
+
+step-requires-2 : tie.Need-step-requires-2 Inv-loop μ-loop
+step-requires-2 c κs =
+    let z = c .before .before .before .before .before in
+    let k = over z in
+    let s = from k in (
+      record { half-is = s .pre .0; wide = s .pre .1 .0 .wide },
+      (
+        (
+          sym (part-long _ (z .zero-block .result) (zeros-le z)),
+          sym (part-long _ (kept k) (held-le k)) ∙ s .pre .0,
+          sym (part-long _ (k .loop .wide) (wide-le k)),
+          sym (part-long _ (k .loop .folded) (folded-le k)),
+          last-long z,
+        ),
+        (
+          kept-within (N s) (half s) (place k) (k .loop .left) (readings s) _ (frames k) (kept k) (k .loop .inv .5),
+          subst (Within readingLimit) (sym (last-is z)) (zero-within (N s)),
+        ),
+      ),
+    )
 
 same-length : tie.Need-same-length Inv-loop μ-loop
-same-length c = let k = c .before .before .before .before in c .frames2 .given .1 ∙ k .loop .inv .1 ∙ sym (from k .pre .1)
+same-length c = let k = over (c .before .before .before .before .before .before .before .before .before .before) in c .frames2 .given .1 ∙ k .loop .inv .1 ∙ sym (from k .pre .1 .1 .0)
 
 returns : tie.Need-returns Inv-loop μ-loop
 returns c =
-    let k = c .before .before .before .before in
+    let z = c .before .before .before .before .before .before .before .before .before .before in
+    let k = over z in
     let s = from k in
-    let e : k .loop .left ≡ 0 = omega (arith, c .before .before .before .loop-test .left) in
-    let l : place k ≤ length (frames k) = omega (arith, k .loop .inv .0, k .loop .inv .1) in
-    frames-end (N s) (place k) (k .loop .left) (k .loop .run) _ _ (readings s) (frames k) _ e l
-    (c .before .finish .ensures ∙ ap (ended (k .loop .run)) (rest-part (length (frames k)) (place k) (place k) (frames k) refl refl))
-    ∙ sym (k .loop .inv .2)
+    stepping-end (N s) (half s) (place k) (k .loop .left) (readings s) _ (frames k) (kept k) (k .loop .inv .5) (none z) (k .loop .inv .0) (k .loop .inv .1) _
+    (c .before .before .before .before .step2 .ensures .1 ∙ ap (frame (N s) (take (half s) (kept k))) (last-is z))
 
 pub frames-of-spec : {M : Type 1} → statement M
 frames-of-spec =
@@ -167,26 +295,43 @@ frames-of-spec =
     (tie.spec
     Inv-loop
     μ-loop
-    start-requires
+    nothing-held-requires
+    of-128-requires
+    of-128-requires-2
     div-left
     loop-holds
     add-end
-    mul-take
-    sub-take
-    part-take-start
-    part-take-end
-    mul-take-2
-    sub-take-2
-    part-take-start-2
-    part-take-end-2
-    take-requires
+    mul-step
+    sub-step
+    part-step-start
+    part-step-end
+    array-borrow-prefix-held
+    slice-aggregate-step
+    array-borrow-prefix-wide
+    slice-aggregate-step-2
+    array-borrow-prefix-folded
+    slice-aggregate-step-3
+    mul-step-2
+    sub-step-2
+    part-step-start-2
+    part-step-end-2
+    step-requires
     sub-left
     loop-less
     loop-again
-    mul-finish
-    sub-finish
-    part-finish-start
-    part-finish-end
-    finish-requires
+    zero-block-requires
+    array-share-prefix-zeros
+    slice-aggregate-step-4
+    array-borrow-prefix-held-2
+    slice-aggregate-step-5
+    array-borrow-prefix-wide-2
+    slice-aggregate-step-6
+    array-borrow-prefix-folded-2
+    slice-aggregate-step-7
+    mul-step-3
+    sub-step-3
+    part-step-start-3
+    part-step-end-3
+    step-requires-2
     same-length
     returns)

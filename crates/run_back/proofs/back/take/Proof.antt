@@ -66,7 +66,7 @@ take-in-requires c κs =
     let l = c .before .before in
     let e = l .before .before .before .before .before in
     let s = e .before .before in
-    (passed frameLimit (omega arith) (run s) _ (is-sound e) (c .before .half-width .ensures) (held-long s), (l .before .if4 .left, l .if5 .left))
+    (passed frameLimit (omega arith) (run s) _ (is-sound e) (c .before .half-width .ensures) (held-long s), (l .before .before .before .before .if2 .left, (l .before .if4 .left, l .if5 .left)))
 
 same-length : tie.Need-same-length
 same-length c = search needs

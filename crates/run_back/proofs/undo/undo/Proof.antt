@@ -1,68 +1,159 @@
 -- `run_back::undo::undo` meets its contract.
 use borrow.Author.Needs.{needs}
-use native.Mathlib.Omega.{arith}
-use mathlib.Core.Path.{_≡_, sym}
+use mathlib.Core.Path.{_≡_, sym, ap, subst, _∙_}
+use mathlib.Core.List.{List}
 use Prim.Native.Nat.{ℕ}
-use lib.ListN.{length, take}
-use Rattle.lifting.proofs.Parts.{part-long}
-use Rattle.run.proofs.FaultLaws.{width-le}
+use lib.IntN.{ℤ, pos}
+use lib.ListN.{length}
+use Rattle.integers.specs.Places.{Within}
+use Rattle.steps.specs.Limits.{foldedLimit, coefficientLimit}
+use Rattle.steps.specs.Steps.{unstages}
+use Rattle.steps.proofs.Undo.{length-unstages}
+use Rattle.lifting.specs.Gate.{firstBeyond}
+use Rattle.lifting.specs.declared.gate.Found.the-variants.{Nothing}
+use Rattle.lifting.proofs.GateLaws.{none-within}
+use Rattle.run.specs.Record.{opened}
+use Rattle.run_back.specs.Back.{unfoldedIn}
+use Rattle.run_back.proofs.UndoLaws.{range-refused, folded-refused, folded-passed}
 use Rattle.run_back.proofs.undo.undo.Statement.{statement}
 use Rattle.run_back.proofs.undo.undo.Tie as tie
 
-abbrev N : tie.Start → ℕ
-N s = s .args .run .width
+module _ (s : tie.Start) where
+  abbrev N : ℕ
+  N = s .args .width
 
--- the room lent
-module _ (c : tie.After-of-1282) where
+  abbrev low : List ℤ
+  low = s .args .held .now
+
+  abbrev frame : List ℤ
+  frame = s .args .frame .now
+
+  abbrev out : List ℤ
+  out = s .args .block .now
+
+-- the coefficients widened, and the question's finding about them
+module _ (f : tie.After-first-beyond) where
   abbrev from : tie.Start
-  from = c .before .before
+  from = f .before .before .before .before .before
 
-  folded-room : N from ≡ length (take (N from) (c .before .of-128 .result))
-  folded-room = part-long _ (c .before .of-128 .result) (omega (arith, c .before .of-128 .ensures, width-le (N from) (from .pre .0 .good .wide)))
+  wide : f .before .before .before .widen .last .1 .0 ≡ frame from
+  wide = f .before .before .before .widen .ensures
 
-  wide-room : N from ≡ length (take (N from) (c .of-1282 .result))
-  wide-room = part-long _ (c .of-1282 .result) (omega (arith, c .of-1282 .ensures, width-le (N from) (from .pre .0 .good .wide)))
+  seen : firstBeyond (pos coefficientLimit) (frame from) 0 ≡ f .first-beyond .result
+  seen = sym (f .first-beyond .ensures ∙ ap (λ (l : List ℤ). firstBeyond (pos coefficientLimit) l 0) wide)
 
-of-128-requires : tie.Need-of-128-requires
-of-128-requires c κs = search needs
+none : (c : tie.After-enum-told) → firstBeyond (pos coefficientLimit) (frame (from (c .before .before))) 0 ≡ Nothing
+none c = seen (c .before .before) ∙ c .enum-told .given .1
 
-of-128-requires-2 : tie.Need-of-128-requires-2
-of-128-requires-2 c κs = search needs
+-- the folded values made of them, and the finding about these
+module _ (h : tie.After-first-beyond2) where
+  abbrev passed : tie.After-enum-told
+  passed = h .before .before .before .before .before
 
-array-borrow-prefix-folded : tie.Need-array-borrow-prefix-folded
-array-borrow-prefix-folded c = omega (arith, c .before .of-128 .ensures, width-le (N (from c)) (from c .pre .0 .good .wide))
+  abbrev source : tie.Start
+  source = from (passed .before .before)
 
-slice-aggregate-undo-in : tie.Need-slice-aggregate-undo-in
-slice-aggregate-undo-in c = folded-room (c .before)
+  made : h .before .before .before .unstages .last .1 .1 .0 ≡ unstages (N source) (frame source)
+  made = h .before .before .before .unstages .ensures ∙ ap (unstages (N source)) (wide (passed .before .before))
 
-array-borrow-prefix-wide : tie.Need-array-borrow-prefix-wide
-array-borrow-prefix-wide c = let r = c .before in omega (arith, r .of-1282 .ensures, width-le (N (from r)) (from r .pre .0 .good .wide))
+  seen2 : firstBeyond (pos foldedLimit) (unstages (N source) (frame source)) 0 ≡ h .first-beyond2 .result
+  seen2 = sym (h .first-beyond2 .ensures ∙ ap (λ (l : List ℤ). firstBeyond (pos foldedLimit) l 0) made)
 
-slice-aggregate-undo-in-2 : tie.Need-slice-aggregate-undo-in-2
-slice-aggregate-undo-in-2 c = wide-room (c .before .before)
+none2 : (d : tie.After-enum-told2) → firstBeyond (pos foldedLimit) (unstages (N (source (d .before .before))) (frame (source (d .before .before)))) 0 ≡ Nothing
+none2 d = seen2 (d .before .before) ∙ d .enum-told2 .given .1
 
-undo-in-requires : tie.Need-undo-in-requires
-undo-in-requires c κs =
-    let r = c .before .before .before in
-    let s = from r in
-    (s .pre .0, (s .pre .1 .0, sym (folded-room r), sym (wide-room r), s .pre .1 .1))
+widen-requires : tie.Need-widen-requires
+widen-requires c κs = search needs
+
+first-beyond-requires : tie.Need-first-beyond-requires
+first-beyond-requires c κs = search needs
+
+enum-known-coefficient : tie.Need-enum-known-coefficient
+enum-known-coefficient c = search needs
 
 same-length : tie.Need-same-length
 same-length c = search needs
 
 returns : tie.Need-returns
-returns c = search needs
+returns c = let f = c .before .before .before in let s = from f in range-refused (N s) (s .args .count) (low s) (frame s) (out s) _ (seen f ∙ c .before .coefficient .given .1)
+
+enum-told : tie.Need-enum-told
+enum-told c = search needs
+
+unstages-requires : tie.Need-unstages-requires
+unstages-requires c κs =
+    let n = c .before in
+    let f = n .before .before in
+    let s = from f in
+    (s .pre .0, (ap length (wide f) ∙ s .pre .1 .0 .0, subst (Within coefficientLimit) (sym (wide f)) (none-within coefficientLimit _ (none n))))
+
+first-beyond-requires-2 : tie.Need-first-beyond-requires-2
+first-beyond-requires-2 c κs = search needs
+
+enum-known-value : tie.Need-enum-known-value
+enum-known-value c = search needs
+
+same-length-2 : tie.Need-same-length-2
+same-length-2 c = search needs
+
+returns-2 : tie.Need-returns-2
+returns-2 c = let h = c .before .before .before in let s = source h in folded-refused (N s) (s .args .count) (low s) (frame s) (out s) (none (passed h)) _ (seen2 h ∙ c .before .value .given .1)
+
+enum-told-2 : tie.Need-enum-told-2
+enum-told-2 c = search needs
+
+unfolded-requires : tie.Need-unfolded-requires
+unfolded-requires c κs =
+    let d = c .before .before .before .before in
+    let h = d .before .before in
+    let s = source h in (
+      s .pre .0,
+      (
+        (ap length (made h) ∙ length-unstages (N s) (frame s), s .pre .1 .0 .1, s .pre .1 .0 .3, s .pre .1 .0 .4),
+        (subst (Within foldedLimit) (sym (made h)) (none-within foldedLimit _ (none2 d)), s .pre .1 .1),
+      ),
+    )
+
+same-length-3 : tie.Need-same-length-3
+same-length-3 c = search needs
+
+same-length-4 : tie.Need-same-length-4
+same-length-4 c = search needs
+
+same-length-5 : tie.Need-same-length-5
+same-length-5 c = search needs
+
+same-length-6 : tie.Need-same-length-6
+same-length-6 c = search needs
+
+returns-3 : tie.Need-returns-3
+returns-3 c =
+    let d = c .before .before .before .before .before .before .before .before in
+    let h = d .before .before in
+    let s = source h in
+    c .before .before .before .unfolded .ensures
+    ∙ ap (λ (l : List ℤ). unfoldedIn (opened (N s) (s .args .count) (low s)) l (out s)) (made h)
+    ∙ folded-passed (N s) (s .args .count) (low s) (frame s) (out s) (none (passed h)) (none2 d)
 
 pub undo-spec : {M : Type 1} → statement M
 undo-spec =
     tie.close
     (tie.spec
-    of-128-requires
-    of-128-requires-2
-    array-borrow-prefix-folded
-    slice-aggregate-undo-in
-    array-borrow-prefix-wide
-    slice-aggregate-undo-in-2
-    undo-in-requires
+    widen-requires
+    first-beyond-requires
+    enum-known-coefficient
     same-length
-    returns)
+    returns
+    enum-told
+    unstages-requires
+    first-beyond-requires-2
+    enum-known-value
+    same-length-2
+    returns-2
+    enum-told-2
+    unfolded-requires
+    same-length-3
+    same-length-4
+    same-length-5
+    same-length-6
+    returns-3)

@@ -94,7 +94,7 @@ returns-5 c =
     whole-output-refused (N s) (frames s) (out s) (has-width (first l)) (l .before .before .if2 .left) (l .before .if3 .left) (some l) (λ e. c .if5 .taken (omega (arith, e)))
 
 first-answer-requires : tie.Need-first-answer-requires
-first-answer-requires c κs = whole (c .before)
+first-answer-requires c κs = (first (c .before) .before .half-width .ensures, whole (c .before))
 
 number-requires : tie.Need-number-requires
 number-requires c κs = search needs
@@ -109,7 +109,12 @@ returns-6 c =
     (λ e. c .if6 .taken (c .before .number .ensures ∙ ap (λ (a : ℕ × ℕ). a .0) (answer-is f) ∙ e))
 
 readings-of-requires : tie.Need-readings-of-requires
-readings-of-requires c κs = let f = c .before .before .before in (whole (f .before .before), one-less (f .before))
+readings-of-requires c κs =
+    let n = c .before .before in
+    let l = n .before .before .before in (
+      first l .before .half-width .ensures,
+      (whole l, (one-less (n .before .before), sym (n .number .ensures ∙ ap (λ (a : ℕ × ℕ). a .0) (answer-is (n .before))) ∙ c .before .if6 .left)),
+    )
 
 same-length : tie.Need-same-length
 same-length c = search needs

@@ -1,217 +1,296 @@
--- `run_back::whole::readings_of` meets its contract: what is written, and what the calls left give, is what all calls give.
+-- `run_back::whole::readings_of` meets its contract: behind the first frame, the outputs of the others.
+use borrow.Author.Needs.{needs}
 use native.Mathlib.Omega.{arith}
-use mathlib.Core.Path.{_≡_, refl, sym, ap, ap₂, _∙_}
+use mathlib.Core.Path.{_≡_, refl, sym, ap, ap₂, subst, subst₂, _∙_}
 use mathlib.Core.List.{List, _++_}
-use Prim.Native.Nat.{ℕ, _+_, _*_, _/_, _≤_}
+use Prim.Native.Nat.{ℕ, suc, _+_, _-_, _/_, _≤_}
 use lib.IntN.{ℤ, pos}
-use lib.ListN.{length, take, drop, length-replicate}
-use Rattle.lifting.specs.Gate.{told}
-use Rattle.lifting.proofs.Parts.{part-long}
+use lib.ListN.{length, take, drop, length-drop, length-replicate}
+use Rattle.integers.specs.Places.{Within}
+use Rattle.tables.specs.Widths.{halfWidth}
+use Rattle.steps.specs.Limits.{foldedLimit}
+use Rattle.lifting.proofs.Parts.{part-long, front, front-long, front-le}
 use Rattle.run.specs.declared.record.Run.{Run}
-use Rattle.run.specs.Record.{zeros}
+use Rattle.run.specs.Record.{zeros, opened}
+use Rattle.run.specs.Ready.{Blocks}
 use Rattle.run.specs.Gate.{Given}
 use Rattle.run.specs.Forward.{started}
-use Rattle.run.proofs.FaultLaws.{width-le, width-pos, block-next, block-in, block-long, part-is}
+use Rattle.run.proofs.GateLaws.{rest-part}
+use Rattle.run.proofs.FaultLaws.{width-room, half-room}
+use Rattle.run.proofs.ReadyLaws.{none-held}
+use Rattle.run_back.specs.Faults.{toldFault, countAfter}
 use Rattle.run_back.specs.Back.{takenBack}
-use Rattle.run_back.specs.Whole.{outputsFrom, allOutputs}
-use Rattle.run_back.proofs.AnswerLaws.{taken-alike}
-use Rattle.run_back.proofs.LoopLaws.{few-numbers, one-frame, one-block-less, readings-whole, blocks-next, no-blocks, outputs-behind}
+use Rattle.run_back.specs.Whole.{answerFrom, outputsFrom}
+use Rattle.run_back.proofs.BackLaws.{started-back, ReachedBack, back-first}
+use Rattle.run_back.proofs.LoopLaws.{one-frame, one-block-less, rest-count, rest-blocks, first-yes, first-behind, outputs-behind}
+use Rattle.run_back.proofs.Undoing.{low-within, frame-taken, run-after, reached-after}
 use Rattle.run_back.proofs.whole.readings_of.Statement.{statement}
 use Rattle.run_back.proofs.whole.readings_of.Tie as tie
 
-abbrev Inv-loop : tie.InvT-loop
-Inv-loop width frames readings₀ run₀ at₀ left₀ readings run at left =
-    (at + left * width ≡ length readings₀)
-    × (length readings ≡ length readings₀)
-    × (drop width (allOutputs width frames readings₀) ≡ take at readings ++ outputsFrom width run left (drop (at + width) frames) (drop at readings))
-
-abbrev μ-loop : tie.MeasureT-loop
-μ-loop width frames readings₀ run₀ at₀ left₀ readings run at left = left
-
-module _ (s : tie.Start Inv-loop μ-loop) where
+module _ (s : tie.Start) where
   abbrev N : ℕ
   N = s .args .width
+
+  abbrev half : ℕ
+  half = s .args .half
 
   abbrev frames : List ℤ
   frames = s .args .frames .now
 
-  abbrev old : List ℤ
-  old = s .args .readings .now
+  abbrev out : List ℤ
+  out = s .args .readings .now
 
--- the first frame, with an output of its own
-module _ (t : tie.After-take Inv-loop μ-loop) where
-  abbrev begun : tie.Start Inv-loop μ-loop
-  begun = t .before .before .before .before .before .before
+  long : N ≤ length frames
+  long = one-frame N frames (s .pre .1 .0)
 
-  room : N begun ≡ length (take (N begun) (t .before .before .before .spare .result))
-  room = part-long _ (t .before .before .before .spare .result) (omega (arith, t .before .before .before .spare .ensures, width-le (N begun) (begun .pre .0 .wide)))
+  rest : take (length frames - N) (drop N frames) ≡ drop N frames
+  rest = rest-part (length frames) N N frames refl refl
 
-  fresh : t .before .before .before .before .before .start .result .run ≡ started (N begun) .1
-  fresh = ap (λ (x : (ℕ × ℕ) × Run). x .1) (t .before .before .before .before .before .start .ensures)
+-- the room lent
+module _ (c : tie.After-spare) where
+  abbrev from : tie.Start
+  from = c .before .before .before .before
 
-  first-record : t .take .result .run ≡ takenBack (started (N begun) .1) (take (N begun) (frames begun)) (zeros (N begun)) .1
-  first-record =
-      ap (λ (g : Given). g .1) (t .take .ensures)
-      ∙ ap (λ (r : Run). takenBack r (take (N begun) (frames begun)) (take (N begun) (t .before .before .before .spare .result)) .1) fresh
-      ∙ ap (λ (g : Given). g .1) (taken-alike (started (N begun) .1) (take (N begun) (frames begun)) _ _ (sym room ∙ sym (length-replicate (N begun) (pos 0))) .same)
+  abbrev held₀ : List ℤ
+  held₀ = c .before .before .before .nothing-held .result
 
-module _ (k : tie.At-loop Inv-loop μ-loop) where
-  abbrev from : tie.Start Inv-loop μ-loop
-  from = k .before .before .before .before .before .before .before .before .before
+  held-le : half from ≤ length held₀
+  held-le = half-room (N from) (half from) held₀ (from .pre .0) (ap length (c .before .before .before .nothing-held .ensures) ∙ length-replicate 64 (pos 0))
 
-  abbrev place : ℕ
-  place = k .loop .at
+  folded-le : N from ≤ length (c .before .before .of-128 .result)
+  folded-le = width-room (N from) (c .before .before .of-128 .result) (from .pre .1 .0 .wide) (c .before .before .of-128 .ensures)
 
-  abbrev readings : List ℤ
-  readings = k .loop .readings
+  wide-le : N from ≤ length (c .before .of-1282 .result)
+  wide-le = width-room (N from) (c .before .of-1282 .result) (from .pre .1 .0 .wide) (c .before .of-1282 .ensures)
 
--- a block is left
-module _ (i : tie.In-loop Inv-loop μ-loop) where
-  abbrev at : tie.At-loop Inv-loop μ-loop
-  at = i .before
+  block-le : N from ≤ length (c .spare .result)
+  block-le = width-room (N from) (c .spare .result) (from .pre .1 .0 .wide) (c .spare .ensures)
 
-  in-readings : place at + N (from at) ≤ length (readings at)
-  in-readings = omega (arith, at .loop .inv .1, block-in (place at) (at .loop .left) (N (from at)) _ (at .loop .inv .0) (i .loop-test .taken))
+  fresh : take (half from) held₀ ≡ zeros (halfWidth (N from))
+  fresh = none-held (N from) (half from) held₀ (from .pre .0) (c .before .before .before .nothing-held .ensures)
 
-  in-frames : place at + N (from at) + N (from at) ≤ length (frames (from at))
-  in-frames = omega (arith, in-readings, at .loop .inv .1, from at .pre .1)
+  begun : ReachedBack (N from) 0 (take (half from) held₀)
+  begun = subst (ReachedBack (N from) 0) (sym fresh) (back-first (N from) (from .pre .1 .0 .wide))
 
-  end-le : place at + N (from at) + N (from at) ≤ 8388736
-  end-le = omega (arith, in-frames, few-numbers (N (from at)) (frames (from at)) (from at .pre .0))
+-- the first frame
+module _ (c : tie.After-blocks-before-arg) where
+  abbrev step : tie.After-undo
+  step = c .before .before .before .before .before
 
--- the frame step on the parts lent
-module _ (t : tie.After-take2 Inv-loop μ-loop) where
-  abbrev inside : tie.In-loop Inv-loop μ-loop
-  inside = t .before .before .before
+  abbrev room : tie.After-spare
+  room = step .before .before .before .before .before .before
 
-  abbrev here : tie.At-loop Inv-loop μ-loop
-  here = inside .before
+  abbrev start : tie.Start
+  start = from room
 
-  given :
-      _≡_ {A = Given} (told (t .take2 .result .answer), t .take2 .result .run, t .take2 .last .1 .1 .0)
-      (takenBack (here .loop .run) (take (N (from here)) (drop (place here + N (from here)) (frames (from here)))) (take (N (from here)) (drop (place here) (readings here))))
-  given = t .take2 .ensures ∙ ap₂ (takenBack (here .loop .run)) (part-is (place here + N (from here)) (N (from here)) (frames (from here))) (part-is (place here) (N (from here)) (readings here))
+  abbrev kept : List ℤ
+  kept = step .undo .last .1 .1 .1 .1 .0
 
-start-requires : tie.Need-start-requires Inv-loop μ-loop
-start-requires c κs = tt
+  abbrev first : List ℤ
+  first = take (N start) (frames start)
 
-spare-requires : tie.Need-spare-requires Inv-loop μ-loop
-spare-requires c κs = tt
+  abbrev run : Run
+  run = opened (N start) 0 (take (half start) (held₀ room))
 
-slice-aggregate-take : tie.Need-slice-aggregate-take Inv-loop μ-loop
-slice-aggregate-take c = let s = c .before .before .before .before in part-long _ (frames s) (one-frame (N s) (frames s) (s .pre .0))
+  half-long : length kept ≡ half start
+  half-long = c .before .before .before .before .held2 .given ∙ sym (part-long _ (held₀ room) (held-le room))
 
-array-borrow-prefix-block : tie.Need-array-borrow-prefix-block Inv-loop μ-loop
-array-borrow-prefix-block c = let s = c .before .before .before .before in omega (arith, c .before .spare .ensures, width-le (N s) (s .pre .0 .wide))
+  kept-long : length kept ≡ halfWidth (N start)
+  kept-long = half-long ∙ start .pre .0
 
-slice-aggregate-take-2 : tie.Need-slice-aggregate-take-2 Inv-loop μ-loop
-slice-aggregate-take-2 c = let s = c .before .before .before .before .before in part-long _ (c .before .before .spare .result) (omega (arith, c .before .before .spare .ensures, width-le (N s) (s .pre .0 .wide)))
+  folded-long : length (step .undo .last .1 .1 .1 .1 .1 .0) ≡ N start
+  folded-long = c .before .before .before .folded2 .given ∙ sym (part-long _ (room .before .before .of-128 .result) (folded-le room))
 
-take-requires : tie.Need-take-requires Inv-loop μ-loop
-take-requires c κs = tt
+  wide-long : length (step .undo .last .1 .1 .1 .1 .1 .1 .0) ≡ N start
+  wide-long = c .before .before .wide2 .given ∙ sym (part-long _ (room .before .of-1282 .result) (wide-le room))
 
-div-left : tie.Need-div-left Inv-loop μ-loop
-div-left c = let s = c .before .before .before .before .before .before .before .before in width-pos (N s) (s .pre .0 .wide)
+  started-is : started (N start) .1 ≡ run
+  started-is = started-back (N start) (start .pre .1 .0 .wide) ∙ ap (opened (N start) 0) (sym (fresh room))
 
-loop-holds : tie.Need-loop-holds Inv-loop μ-loop
-loop-holds c =
-    let t = c .before .before in
-    let s = begun t in
-    let z : N s ≡ 0 + N s = omega arith in (
-      omega (arith, readings-whole (N s) (frames s) (old s) (s .pre .0) (s .pre .1)),
-      refl,
-      outputs-behind (N s) _ (frames s) (old s) (one-block-less (N s) (frames s) (old s) (s .pre .0) (s .pre .1)) _ (first-record t)
-          ∙ ap (λ (d : ℕ). outputsFrom (N s) (t .take .result .run) (length (old s) / N s) (drop d (frames s)) (old s)) z,
+  given : _≡_ {A = Given} (takenBack run first (zeros (N start))) (toldFault (step .undo .result), opened (N start) (countAfter 0 (step .undo .result)) kept, takenBack run first (zeros (N start)) .2)
+  given =
+      frame-taken (N start) 0 (take (half start) (held₀ room)) kept first _ _ (step .undo .result) (begun room) (omega arith) kept-long (step .undo .ensures) (zeros (N start))
+      (sym (part-long _ (frames start) (long start)))
+      (length-replicate (N start) (pos 0))
+
+  count : length (frames start) / N start ≡ suc (length (out start) / N start)
+  count = one-block-less (N start) (frames start) (out start) (start .pre .1 .0) (start .pre .1 .1 .0)
+
+  taken : takenBack (started (N start) .1) first (zeros (N start)) .0 .0 ≡ 0
+  taken = first-yes (N start) _ (frames start) (out start) count (start .pre .1 .1 .1)
+
+  none : toldFault (step .undo .result) .0 ≡ 0
+  none = sym (ap (λ (r : Run). takenBack r first (zeros (N start)) .0 .0) started-is ∙ ap (λ (g : Given). g .0 .0) given) ∙ taken
+
+  after : opened (N start) 1 kept ≡ takenBack (started (N start) .1) first (zeros (N start)) .1
+  after =
+      sym
+      (ap (λ (r : Run). takenBack r first (zeros (N start)) .1) started-is
+      ∙ ap (λ (g : Given). g .1) given
+      ∙ run-after (N start) 0 (take (half start) (held₀ room)) kept first _ _ (step .undo .result) (begun room) (omega arith) kept-long (step .undo .ensures) none)
+
+  reached : ReachedBack (N start) 1 kept
+  reached = reached-after (N start) 0 (take (half start) (held₀ room)) kept first _ _ (step .undo .result) (begun room) (omega arith) kept-long (step .undo .ensures) none
+
+  -- the calls behind it
+  behind : answerFrom (N start) (N start) (opened (N start) 1 kept) (length (drop (N start) (frames start)) / N start) (drop (N start) (frames start)) (out start) .0 ≡ 0
+  behind =
+      let z : N start ≡ 0 + N start = omega arith in
+      ap₂ (λ (d n : ℕ). answerFrom (N start) d (opened (N start) 1 kept) n (drop (N start) (frames start)) (out start) .0) z (rest-count (N start) (frames start) (out start) (start .pre .1 .0) (start .pre .1 .1 .0))
+      ∙ ap (λ (x : ℕ × ℕ). x .0) (sym (first-behind (N start) _ (frames start) (out start) count (opened (N start) 1 kept) after taken))
+      ∙ start .pre .1 .1 .1
+
+  stored : take (half start) (kept ++ drop (half start) (held₀ room)) ≡ kept
+  stored = front (half start) kept (drop (half start) (held₀ room)) half-long
+
+nothing-held-requires : tie.Need-nothing-held-requires
+nothing-held-requires c κs = search needs
+
+of-128-requires : tie.Need-of-128-requires
+of-128-requires c κs = search needs
+
+of-128-requires-2 : tie.Need-of-128-requires-2
+of-128-requires-2 c κs = search needs
+
+spare-requires : tie.Need-spare-requires
+spare-requires c κs = search needs
+
+slice-aggregate-undo : tie.Need-slice-aggregate-undo
+slice-aggregate-undo c = let s = from (c .before) in part-long _ (frames s) (long s)
+
+array-borrow-prefix-held : tie.Need-array-borrow-prefix-held
+array-borrow-prefix-held c = held-le (c .before)
+
+slice-aggregate-undo-2 : tie.Need-slice-aggregate-undo-2
+slice-aggregate-undo-2 c = part-long _ (held₀ (c .before .before)) (held-le (c .before .before))
+
+array-borrow-prefix-folded : tie.Need-array-borrow-prefix-folded
+array-borrow-prefix-folded c = folded-le (c .before .before)
+
+slice-aggregate-undo-3 : tie.Need-slice-aggregate-undo-3
+slice-aggregate-undo-3 c = part-long _ (c .before .before .before .before .before .of-128 .result) (folded-le (c .before .before .before))
+
+array-borrow-prefix-wide : tie.Need-array-borrow-prefix-wide
+array-borrow-prefix-wide c = wide-le (c .before .before .before)
+
+slice-aggregate-undo-4 : tie.Need-slice-aggregate-undo-4
+slice-aggregate-undo-4 c = part-long _ (c .before .before .before .before .before .of-1282 .result) (wide-le (c .before .before .before .before))
+
+array-borrow-prefix-block : tie.Need-array-borrow-prefix-block
+array-borrow-prefix-block c = block-le (c .before .before .before .before)
+
+slice-aggregate-undo-5 : tie.Need-slice-aggregate-undo-5
+slice-aggregate-undo-5 c = part-long _ (c .before .before .before .before .before .spare .result) (block-le (c .before .before .before .before .before))
+
+undo-requires : tie.Need-undo-requires
+undo-requires c κs =
+    let r = c .before .before .before .before .before in
+    let s = from r in (
+      record { half-is = s .pre .0; wide = s .pre .1 .0 .wide },
+      (
+        (
+          sym (part-long _ (frames s) (long s)),
+          begun r .long,
+          sym (part-long _ (r .before .before .of-128 .result) (folded-le r)),
+          sym (part-long _ (r .before .of-1282 .result) (wide-le r)),
+          sym (part-long _ (r .spare .result) (block-le r)),
+        ),
+        low-within (begun r),
+      ),
     )
 
-add-end : tie.Need-add-end Inv-loop μ-loop
-add-end c = record { fits = omega (arith, end-le c) }
+mul-blocks-before : tie.Need-mul-blocks-before
+mul-blocks-before c = search needs
 
-add-after : tie.Need-add-after Inv-loop μ-loop
-add-after c = record { fits = omega (arith, end-le c) }
+sub-blocks-before : tie.Need-sub-blocks-before
+sub-blocks-before c = search needs
 
-mul-take : tie.Need-mul-take Inv-loop μ-loop
-mul-take c = record { fits = omega (arith, end-le c) }
+part-blocks-before-start : tie.Need-part-blocks-before-start
+part-blocks-before-start c = search needs
 
-sub-take : tie.Need-sub-take Inv-loop μ-loop
-sub-take c = omega arith
+part-blocks-before-end : tie.Need-part-blocks-before-end
+part-blocks-before-end c = search needs
 
-part-take-start : tie.Need-part-take-start Inv-loop μ-loop
-part-take-start c = omega arith
+array-borrow-prefix-held-2 : tie.Need-array-borrow-prefix-held-2
+array-borrow-prefix-held-2 c = front-le (half (start c)) (kept c) _ (half-long c)
 
-part-take-end : tie.Need-part-take-end Inv-loop μ-loop
-part-take-end c = in-frames c
+slice-aggregate-blocks-before : tie.Need-slice-aggregate-blocks-before
+slice-aggregate-blocks-before c = let a = c .before in front-long (half (start a)) (kept a) _ (half-long a)
 
-mul-take-2 : tie.Need-mul-take-2 Inv-loop μ-loop
-mul-take-2 c = record { fits = omega (arith, end-le (c .before)) }
+array-borrow-prefix-folded-2 : tie.Need-array-borrow-prefix-folded-2
+array-borrow-prefix-folded-2 c = let a = c .before in front-le (N (start a)) (step a .undo .last .1 .1 .1 .1 .1 .0) _ (folded-long a)
 
-sub-take-2 : tie.Need-sub-take-2 Inv-loop μ-loop
-sub-take-2 c = omega arith
+slice-aggregate-blocks-before-2 : tie.Need-slice-aggregate-blocks-before-2
+slice-aggregate-blocks-before-2 c = let a = c .before .before in front-long (N (start a)) (step a .undo .last .1 .1 .1 .1 .1 .0) _ (folded-long a)
 
-part-take-start-2 : tie.Need-part-take-start-2 Inv-loop μ-loop
-part-take-start-2 c = omega arith
+array-borrow-prefix-wide-2 : tie.Need-array-borrow-prefix-wide-2
+array-borrow-prefix-wide-2 c = let a = c .before .before in front-le (N (start a)) (step a .undo .last .1 .1 .1 .1 .1 .1 .0) _ (wide-long a)
 
-part-take-end-2 : tie.Need-part-take-end-2 Inv-loop μ-loop
-part-take-end-2 c = in-readings (c .before)
+slice-aggregate-blocks-before-3 : tie.Need-slice-aggregate-blocks-before-3
+slice-aggregate-blocks-before-3 c = let a = c .before .before .before in front-long (N (start a)) (step a .undo .last .1 .1 .1 .1 .1 .1 .0) _ (wide-long a)
 
-take-requires-2 : tie.Need-take-requires-2 Inv-loop μ-loop
-take-requires-2 c κs = tt
-
-sub-left : tie.Need-sub-left Inv-loop μ-loop
-sub-left c = omega arith
-
-loop-less : tie.Need-loop-less Inv-loop μ-loop
-loop-less c = omega arith
-
-loop-again : tie.Need-loop-again Inv-loop μ-loop
-loop-again c =
-    let t = c .before .before in
-    let k = here t in
-    let s = from k in
-    let long = c .before .readings .given .0 ∙ ap length (part-is (place k) (N s) (readings k)) ∙ block-long (place k) (N s) (readings k) (in-readings (inside t)) in (
-      block-next (place k) (k .loop .left) (N s) _ (k .loop .inv .0) (inside t .loop-test .taken),
-      c .before .readings .given .1 ∙ k .loop .inv .1,
-      k .loop .inv .2 ∙ blocks-next (N s) (place k) (k .loop .left) (k .loop .run) _ _ (frames s) (readings k) _ (inside t .loop-test .taken) (in-readings (inside t)) long (given t),
+blocks-before-requires : tie.Need-blocks-before-requires
+blocks-before-requires c κs =
+    let a = c .before .before .before .before in
+    let s = start a in (
+      s .pre .0,
+      (
+        subst (Blocks (N s)) (sym (rest s)) (rest-blocks (N s) (frames s) (out s) (s .pre .1 .0) (s .pre .1 .1 .0)),
+        (
+          (
+            ap length (stored a) ∙ kept-long a,
+            sym (front-long (N s) (step a .undo .last .1 .1 .1 .1 .1 .0) _ (folded-long a)),
+            sym (front-long (N s) (step a .undo .last .1 .1 .1 .1 .1 .1 .0) _ (wide-long a)),
+            omega (arith, ap length (rest s), length-drop (N s) (frames s), s .pre .1 .1 .0),
+          ),
+          (
+            subst (Within foldedLimit) (sym (stored a)) (low-within (reached a)),
+            subst₂ (λ (k l : List ℤ). answerFrom (N s) (N s) (opened (N s) 1 k) (length l / N s) l (out s) .0 ≡ 0) (sym (stored a)) (sym (rest s)) (behind a),
+          ),
+        ),
+      ),
     )
 
-same-length : tie.Need-same-length Inv-loop μ-loop
-same-length c = c .before .loop .inv .1
+same-length : tie.Need-same-length
+same-length c = search needs
 
-returns : tie.Need-returns Inv-loop μ-loop
+returns : tie.Need-returns
 returns c =
-    let k = c .before in
-    let s = from k in
-    let e : k .loop .left ≡ 0 = omega (arith, c .loop-test .left) in
-    let d = rw e at (k .loop .inv .0) in
-    sym (k .loop .inv .2 ∙ no-blocks (N s) (place k) (k .loop .left) (k .loop .run) (drop (place k + N s) (frames s)) (readings k) e (omega (arith, d, k .loop .inv .1)))
+    let a = c .before .before .before .before .before .before .before .before .before in
+    let s = start a in
+    c .before .before .before .before .blocks-before .ensures
+    ∙ ap₂ (λ (k l : List ℤ). outputsFrom (N s) (opened (N s) 1 k) (length l / N s) l (out s)) (stored a) (rest s)
+    ∙ ap (λ (n : ℕ). outputsFrom (N s) (opened (N s) 1 (kept a)) n (drop (N s) (frames s)) (out s)) (rest-count (N s) (frames s) (out s) (s .pre .1 .0) (s .pre .1 .1 .0))
+    ∙ sym (outputs-behind (N s) _ (frames s) (out s) (count a) (opened (N s) 1 (kept a)) (after a))
 
 pub readings-of-spec : {M : Type 1} → statement M
 readings-of-spec =
     tie.close
     (tie.spec
-    Inv-loop
-    μ-loop
-    start-requires
+    nothing-held-requires
+    of-128-requires
+    of-128-requires-2
     spare-requires
-    slice-aggregate-take
+    slice-aggregate-undo
+    array-borrow-prefix-held
+    slice-aggregate-undo-2
+    array-borrow-prefix-folded
+    slice-aggregate-undo-3
+    array-borrow-prefix-wide
+    slice-aggregate-undo-4
     array-borrow-prefix-block
-    slice-aggregate-take-2
-    take-requires
-    div-left
-    loop-holds
-    add-end
-    add-after
-    mul-take
-    sub-take
-    part-take-start
-    part-take-end
-    mul-take-2
-    sub-take-2
-    part-take-start-2
-    part-take-end-2
-    take-requires-2
-    sub-left
-    loop-less
-    loop-again
+    slice-aggregate-undo-5
+    undo-requires
+    mul-blocks-before
+    sub-blocks-before
+    part-blocks-before-start
+    part-blocks-before-end
+    array-borrow-prefix-held-2
+    slice-aggregate-blocks-before
+    array-borrow-prefix-folded-2
+    slice-aggregate-blocks-before-2
+    array-borrow-prefix-wide-2
+    slice-aggregate-blocks-before-3
+    blocks-before-requires
     same-length
     returns)

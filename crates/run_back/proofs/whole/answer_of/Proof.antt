@@ -1,0 +1,359 @@
+-- `run_back::whole::answer_of` meets its contract: the answer of all calls is that of the calls left.
+use borrow.Author.Needs.{needs}
+use native.Mathlib.Omega.{arith}
+use mathlib.Core.Path.{_≡_, sym, ap, ap₂, subst, _∙_}
+use mathlib.Core.List.{List, _++_}
+use Prim.Native.Nat.{ℕ, suc, _+_, _-_, _*_, _/_, _≤_, _<_}
+use lib.IntN.{ℤ, pos}
+use lib.ListN.{length, take, drop, length-append, length-replicate}
+use lib.Seq.{drop-drop}
+use Rattle.tables.specs.Widths.{halfWidth}
+use Rattle.tables.proofs.ByWidth.{half-width-le}
+use Rattle.lifting.specs.Gate.{told, firstBeyond}
+use Rattle.run.specs.declared.record.Run.{Run}
+use Rattle.run.specs.Record.{frameLimit, zeros, opened}
+use Rattle.run.specs.Gate.{Given}
+use Rattle.run.proofs.FaultLaws.{width-pos, block-next, block-in, no-block, block-long, part-is, beyond-at}
+use Rattle.run_back.specs.Faults.{toldFault, countAfter}
+use Rattle.run_back.specs.Back.{undoneIn, takenBack}
+use Rattle.run_back.specs.Whole.{answerFrom, firstAnswer}
+use Rattle.run_back.proofs.AnswerLaws.{taken-place}
+use Rattle.run_back.proofs.BackLaws.{started-back, ReachedBack, back-first}
+use Rattle.run_back.proofs.LoopLaws.{few-numbers, one-frame, answer-here, answer-next, answer-end}
+use Rattle.run_back.proofs.Undoing.{low-within, frame-taken, run-after, reached-after, end-refused, end-works}
+use Rattle.run_back.proofs.whole.answer_of.Statement.{statement}
+use Rattle.run_back.proofs.whole.answer_of.Tie as tie
+
+-- an output of no concern: only its length is asked
+abbrev outs : ℕ → List ℤ → List ℤ
+outs width frames = zeros width ++ zeros (length frames - width)
+
+abbrev Inv-loop : tie.InvT-loop
+Inv-loop width half frames held₀ folded₀ wide₀ block₀ at₀ count₀ left₀ held folded wide block at count left =
+    (at + left * width ≡ length frames)
+    × (length folded ≡ width)
+    × (length wide ≡ width)
+    × (length block ≡ width)
+    × (count + left ≡ length frames / width)
+    × ReachedBack width count held
+    × (firstAnswer width frames (zeros (length frames - width)) ≡ answerFrom width at (opened width count held) left (drop at frames) (drop at (outs width frames)))
+
+abbrev μ-loop : tie.MeasureT-loop
+μ-loop width half frames held₀ folded₀ wide₀ block₀ at₀ count₀ left₀ held folded wide block at count left =
+    left
+
+module _ (s : tie.Start Inv-loop μ-loop) where
+  abbrev N : ℕ
+  N = s .args .width
+
+  abbrev frames : List ℤ
+  frames = s .args .frames .now
+
+  outs-long : length (outs N frames) ≡ length frames
+  outs-long = omega (arith, length-append (zeros N) (zeros (length frames - N)), length-replicate N (pos 0), length-replicate (length frames - N) (pos 0), one-frame N frames (s .pre .1 .0))
+
+module _ (k : tie.At-loop Inv-loop μ-loop) where
+  abbrev from : tie.Start Inv-loop μ-loop
+  from = k .before
+
+  abbrev place : ℕ
+  place = k .loop .at
+
+  abbrev low : List ℤ
+  low = k .loop .held
+
+  abbrev run : Run
+  run = opened (N from) (k .loop .count) low
+
+  abbrev others : List ℤ
+  others = outs (N from) (frames from)
+
+-- a frame is left
+module _ (i : tie.In-loop Inv-loop μ-loop) where
+  abbrev at : tie.At-loop Inv-loop μ-loop
+  at = i .before
+
+  inner : place at + N (from at) ≤ length (frames (from at))
+  inner = block-in (place at) (at .loop .left) (N (from at)) _ (at .loop .inv .0) (i .loop-test .taken)
+
+  end-le : place at + N (from at) ≤ 8388736
+  end-le = omega (arith, inner, few-numbers (N (from at)) (frames (from at)) (from at .pre .1 .0))
+
+  counted : at .loop .count < frameLimit
+  counted = omega (arith, at .loop .inv .4, i .loop-test .taken, from at .pre .1 .0 .few)
+
+-- the frame step on the part lent: its answer and its record, whatever its output
+module _ (a : tie.After-answered Inv-loop μ-loop) where
+  abbrev step : tie.After-undo Inv-loop μ-loop
+  step = a .before .before .before .before .before
+
+  abbrev inside : tie.In-loop Inv-loop μ-loop
+  inside = step .before .before .before .before .before .before
+
+  abbrev here : tie.At-loop Inv-loop μ-loop
+  here = inside .before
+
+  abbrev part : List ℤ
+  part = take (N (from here)) (drop (place here) (frames (from here)))
+
+  abbrev other : List ℤ
+  other = take (N (from here)) (drop (place here) (others here))
+
+  abbrev kept : List ℤ
+  kept = step .undo .last .1 .1 .1 .1 .0
+
+  abbrev after : Run
+  after = opened (N (from here)) (countAfter (here .loop .count) (step .undo .result)) kept
+
+  kept-long : length kept ≡ halfWidth (N (from here))
+  kept-long = a .before .before .before .before .held .given ∙ here .loop .inv .5 .long
+
+  undone : _≡_ {A = Given} (toldFault (step .undo .result), after, step .undo .last .1 .1 .1 .1 .1 .1 .1 .0) (undoneIn (run here) part (here .loop .block))
+  undone = step .undo .ensures ∙ ap (λ (f : List ℤ). undoneIn (run here) f (here .loop .block)) (part-is (place here) (N (from here)) (frames (from here)))
+
+  given : _≡_ {A = Given} (takenBack (run here) part other) (told (a .answered .result), after, takenBack (run here) part other .2)
+  given =
+      frame-taken (N (from here)) (here .loop .count) (low here) kept part (here .loop .block) _ (step .undo .result) (here .loop .inv .5) (counted inside) kept-long undone other
+      (block-long (place here) (N (from here)) (frames (from here)) (inner inside))
+      (block-long (place here) (N (from here)) (others here) (omega (arith, outs-long (from here), inner inside)))
+      ∙ ap (λ (x : ℕ × ℕ). (x, after, takenBack (run here) part other .2)) (sym (a .answered .ensures))
+
+  more : here .loop .left ≡ suc (here .loop .left - 1)
+  more = omega (arith, inside .loop-test .taken)
+
+-- no frame is left
+module _ (f : tie.After-first-beyond Inv-loop μ-loop) where
+  abbrev over : tie.At-loop Inv-loop μ-loop
+  over = f .before .before .before
+
+  none : over .loop .left ≡ 0
+  none = omega (arith, f .before .before .loop-test .left)
+
+  last-le : N (from over) ≤ place over
+  last-le = omega (arith, no-block (place over) (over .loop .left) (N (from over)) _ (over .loop .inv .0) none, one-frame (N (from over)) (frames (from over)) (from over .pre .1 .0))
+
+  place-le : place over ≤ 8388736
+  place-le = omega (arith, over .loop .inv .0, few-numbers (N (from over)) (frames (from over)) (from over .pre .1 .0))
+
+  some : over .loop .count ≡ 0 → ⊥
+  some e = omega (arith, over .loop .inv .4, none, from over .pre .1 .0 .some)
+
+  seen : firstBeyond (pos 0) (low over) 0 ≡ f .first-beyond .result
+  seen = sym (f .first-beyond .ensures)
+
+held-long : (s : tie.Start Inv-loop μ-loop) → length (s .args .held .now) ≡ halfWidth (N s)
+held-long s = ap length (s .pre .1 .1 .0) ∙ length-replicate (halfWidth (N s)) (pos 0)
+
+div-left : tie.Need-div-left Inv-loop μ-loop
+div-left c = width-pos (N c) (c .pre .1 .0 .wide)
+
+loop-holds : tie.Need-loop-holds Inv-loop μ-loop
+unfolding firstAnswer
+loop-holds c = (
+  omega (arith, c .pre .1 .0 .whole),
+  c .pre .1 .1 .1 .0,
+  c .pre .1 .1 .1 .1,
+  c .pre .1 .1 .1 .2,
+  omega arith,
+  subst (ReachedBack (N c) 0) (sym (c .pre .1 .1 .0)) (back-first (N c) (c .pre .1 .0 .wide)),
+  ap (λ (r : Run). answerFrom (N c) 0 r (length (frames c) / N c) (frames c) (outs (N c) (frames c))) (started-back (N c) (c .pre .1 .0 .wide) ∙ ap (opened (N c) 0) (sym (c .pre .1 .1 .0))),
+)
+
+add-end : tie.Need-add-end Inv-loop μ-loop
+add-end c = record { fits = omega (arith, end-le c) }
+
+mul-undo : tie.Need-mul-undo Inv-loop μ-loop
+mul-undo c = record { fits = omega (arith, end-le c) }
+
+sub-undo : tie.Need-sub-undo Inv-loop μ-loop
+sub-undo c = omega arith
+
+part-undo-start : tie.Need-part-undo-start Inv-loop μ-loop
+part-undo-start c = omega arith
+
+part-undo-end : tie.Need-part-undo-end Inv-loop μ-loop
+part-undo-end c = inner c
+
+undo-requires : tie.Need-undo-requires Inv-loop μ-loop
+undo-requires c κs =
+    let i = c .before .before .before .before .before in
+    let k = at i in
+    let s = from k in (
+      record { half-is = s .pre .0; wide = s .pre .1 .0 .wide },
+      (
+        (
+          ap length (part-is (place k) (N s) (frames s)) ∙ block-long (place k) (N s) (frames s) (inner i),
+          k .loop .inv .5 .long,
+          k .loop .inv .1,
+          k .loop .inv .2,
+          k .loop .inv .3,
+        ),
+        low-within (k .loop .inv .5),
+      ),
+    )
+
+answered-requires : tie.Need-answered-requires Inv-loop μ-loop
+answered-requires c κs = tt
+
+number-requires : tie.Need-number-requires Inv-loop μ-loop
+number-requires c κs = tt
+
+placed-requires : tie.Need-placed-requires Inv-loop μ-loop
+placed-requires c κs =
+    let a = c .before .before in
+    (omega (arith, end-le (inside a)), omega (arith, ap (λ (g : Given). g .0 .1) (given a), taken-place (run (here a)) (part a) (other a)))
+
+same-length : tie.Need-same-length Inv-loop μ-loop
+same-length c = let a = c .before .before .before in let k = here a in a .before .before .before .before .held .given ∙ k .loop .inv .5 .long ∙ sym (held-long (from k))
+
+same-length-2 : tie.Need-same-length-2 Inv-loop μ-loop
+same-length-2 c = let a = c .before .before .before in let k = here a in a .before .before .before .folded .given ∙ k .loop .inv .1 ∙ sym (from k .pre .1 .1 .1 .0)
+
+same-length-3 : tie.Need-same-length-3 Inv-loop μ-loop
+same-length-3 c = let a = c .before .before .before in let k = here a in a .before .before .wide .given ∙ k .loop .inv .2 ∙ sym (from k .pre .1 .1 .1 .1)
+
+same-length-4 : tie.Need-same-length-4 Inv-loop μ-loop
+same-length-4 c = let a = c .before .before .before in let k = here a in a .before .block .given ∙ k .loop .inv .3 ∙ sym (from k .pre .1 .1 .1 .2)
+
+returns : tie.Need-returns Inv-loop μ-loop
+returns c =
+    let n = c .before .before in
+    let a = n .before in
+    let k = here a in
+    let s = from k in
+    c .placed .ensures
+    ∙ answer-here (N s) _ (run k) (drop (place k) (frames s)) (drop (place k) (others k)) (more a) (given a) (place k) (λ e. c .before .if1 .taken (n .number .ensures ∙ e))
+    ∙ sym (k .loop .inv .6)
+
+add-count : tie.Need-add-count Inv-loop μ-loop
+add-count c = record { fits = omega (arith, counted (inside (c .before .before))) }
+
+sub-left : tie.Need-sub-left Inv-loop μ-loop
+sub-left c = omega arith
+
+loop-less : tie.Need-loop-less Inv-loop μ-loop
+loop-less c = omega arith
+
+loop-again : tie.Need-loop-again Inv-loop μ-loop
+loop-again c =
+    let n = c .before in
+    let a = n .before in
+    let i = inside a in
+    let k = here a in
+    let s = from k in
+    let zero = sym (n .number .ensures) ∙ c .if1 .left in
+    let none = ap (λ (x : ℕ × ℕ). x .0) (sym (a .answered .ensures)) ∙ zero in (
+      block-next (place k) (k .loop .left) (N s) _ (k .loop .inv .0) (i .loop-test .taken),
+      a .before .before .before .folded .given ∙ k .loop .inv .1,
+      a .before .before .wide .given ∙ k .loop .inv .2,
+      a .before .block .given ∙ k .loop .inv .3,
+      omega (arith, k .loop .inv .4, i .loop-test .taken),
+      reached-after (N s) (k .loop .count) (low k) (kept a) (part a) (k .loop .block) _ (step a .undo .result) (k .loop .inv .5) (counted i) (kept-long a) (undone a) none,
+      k .loop .inv .6
+          ∙ answer-next (N s) _ (run k) (drop (place k) (frames s)) (drop (place k) (others k)) (more a) (given a) (place k) zero
+          ∙ ap₂ (answerFrom (N s) (place k + N s) (after a) (k .loop .left - 1)) (drop-drop (N s) (place k) (frames s)) (drop-drop (N s) (place k) (others k))
+          ∙ ap (λ (r : Run). answerFrom (N s) (place k + N s) r (k .loop .left - 1) (drop (place k + N s) (frames s)) (drop (place k + N s) (others k)))
+          (run-after (N s) (k .loop .count) (low k) (kept a) (part a) (k .loop .block) _ (step a .undo .result) (k .loop .inv .5) (counted i) (kept-long a) (undone a) none),
+    )
+
+first-beyond-requires : tie.Need-first-beyond-requires Inv-loop μ-loop
+first-beyond-requires c κs = search needs
+
+enum-known-lower : tie.Need-enum-known-lower Inv-loop μ-loop
+enum-known-lower c = search needs
+
+sub-t33 : tie.Need-sub-t33 Inv-loop μ-loop
+sub-t33 c = last-le (c .before .before .before)
+
+add-t34 : tie.Need-add-t34 Inv-loop μ-loop
+add-t34 c =
+    let f = c .before .before .before in
+    let k = over f in
+    record { fits = omega (arith, place-le f, k .loop .inv .5 .long, half-width-le (N (from k)), beyond-at (pos 0) (low k) _ (seen f ∙ c .before .lower .given .1)) }
+
+same-length-5 : tie.Need-same-length-5 Inv-loop μ-loop
+same-length-5 c = let k = c .before .before .before .before .before .before in k .loop .inv .5 .long ∙ sym (held-long (from k))
+
+same-length-6 : tie.Need-same-length-6 Inv-loop μ-loop
+same-length-6 c = let k = c .before .before .before .before .before .before in k .loop .inv .1 ∙ sym (from k .pre .1 .1 .1 .0)
+
+same-length-7 : tie.Need-same-length-7 Inv-loop μ-loop
+same-length-7 c = let k = c .before .before .before .before .before .before in k .loop .inv .2 ∙ sym (from k .pre .1 .1 .1 .1)
+
+same-length-8 : tie.Need-same-length-8 Inv-loop μ-loop
+same-length-8 c = let k = c .before .before .before .before .before .before in k .loop .inv .3 ∙ sym (from k .pre .1 .1 .1 .2)
+
+returns-2 : tie.Need-returns-2 Inv-loop μ-loop
+returns-2 c =
+    let f = c .before .before .before in
+    let k = over f in
+    let s = from k in
+    end-refused (N s) (k .loop .count) (low k) (k .loop .inv .5) (some f) (place k - N s) _ (seen f ∙ c .before .lower .given .1)
+    ∙ answer-end (N s) (place k) (k .loop .left) (run k) (drop (place k) (frames s)) (drop (place k) (others k)) (none f)
+    ∙ sym (k .loop .inv .6)
+
+enum-told : tie.Need-enum-told Inv-loop μ-loop
+enum-told c = search needs
+
+same-length-9 : tie.Need-same-length-9 Inv-loop μ-loop
+same-length-9 c = let k = c .before .before .before .before .before in k .loop .inv .5 .long ∙ sym (held-long (from k))
+
+same-length-10 : tie.Need-same-length-10 Inv-loop μ-loop
+same-length-10 c = let k = c .before .before .before .before .before in k .loop .inv .1 ∙ sym (from k .pre .1 .1 .1 .0)
+
+same-length-11 : tie.Need-same-length-11 Inv-loop μ-loop
+same-length-11 c = let k = c .before .before .before .before .before in k .loop .inv .2 ∙ sym (from k .pre .1 .1 .1 .1)
+
+same-length-12 : tie.Need-same-length-12 Inv-loop μ-loop
+same-length-12 c = let k = c .before .before .before .before .before in k .loop .inv .3 ∙ sym (from k .pre .1 .1 .1 .2)
+
+returns-3 : tie.Need-returns-3 Inv-loop μ-loop
+returns-3 c =
+    let f = c .before .before in
+    let k = over f in
+    let s = from k in
+    end-works (N s) (k .loop .count) (low k) (k .loop .inv .5) (some f) (place k - N s) (seen f ∙ c .enum-told .given .1)
+    ∙ answer-end (N s) (place k) (k .loop .left) (run k) (drop (place k) (frames s)) (drop (place k) (others k)) (none f)
+    ∙ sym (k .loop .inv .6)
+
+pub answer-of-spec : {M : Type 1} → statement M
+answer-of-spec =
+    tie.close
+    (tie.spec
+    Inv-loop
+    μ-loop
+    div-left
+    loop-holds
+    add-end
+    mul-undo
+    sub-undo
+    part-undo-start
+    part-undo-end
+    undo-requires
+    answered-requires
+    number-requires
+    placed-requires
+    same-length
+    same-length-2
+    same-length-3
+    same-length-4
+    returns
+    add-count
+    sub-left
+    loop-less
+    loop-again
+    first-beyond-requires
+    enum-known-lower
+    sub-t33
+    add-t34
+    same-length-5
+    same-length-6
+    same-length-7
+    same-length-8
+    returns-2
+    enum-told
+    same-length-9
+    same-length-10
+    same-length-11
+    same-length-12
+    returns-3)

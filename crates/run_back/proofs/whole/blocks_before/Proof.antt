@@ -1,0 +1,270 @@
+-- `run_back::whole::blocks_before` meets its contract: what is written, and what the calls left give, is what all calls give.
+use native.Mathlib.Omega.{arith}
+use mathlib.Core.Path.{_≡_, refl, sym, ap, ap₂, subst, _∙_}
+use mathlib.Core.List.{List, _++_}
+use Prim.Native.Nat.{ℕ, suc, _+_, _-_, _*_, _/_, _≤_, _<_}
+use lib.IntN.{ℤ}
+use lib.ListN.{length, take, drop}
+use lib.Seq.{drop-drop}
+use Rattle.tables.specs.Widths.{halfWidth}
+use Rattle.run.specs.declared.record.Run.{Run}
+use Rattle.run.specs.Record.{frameLimit, opened}
+use Rattle.run.specs.Gate.{Given}
+use Rattle.run.proofs.StepLaws.{all-within}
+use Rattle.run.proofs.FaultLaws.{width-pos, few-readings, block-next, block-in, no-block, block-long, part-is}
+use Rattle.run.proofs.PartLaws.{written, written-rest}
+use Rattle.run_back.specs.Faults.{toldFault, countAfter}
+use Rattle.run_back.specs.Back.{undoneIn, takenBack}
+use Rattle.run_back.specs.Whole.{answerFrom, outputsFrom}
+use Rattle.run_back.proofs.BackLaws.{ReachedBack}
+use Rattle.run_back.proofs.LoopLaws.{answer-next, here-taken, blocks-next, no-blocks}
+use Rattle.run_back.proofs.Undoing.{low-within, block-given, run-after, reached-after}
+use Rattle.run_back.proofs.whole.blocks_before.Statement.{statement}
+use Rattle.run_back.proofs.whole.blocks_before.Tie as tie
+
+abbrev Inv-loop : tie.InvT-loop
+Inv-loop width half frames held₀ folded₀ wide₀ readings₀ at₀ count₀ left₀ held folded wide readings at count left =
+    (at + left * width ≡ length frames)
+    × (length folded ≡ width)
+    × (length wide ≡ width)
+    × (length readings ≡ length frames)
+    × (count + left ≡ length frames / width + 1)
+    × ReachedBack width count held
+    × (answerFrom width (at + width) (opened width count held) left (drop at frames) (drop at readings) .0 ≡ 0)
+    × (outputsFrom width (opened width 1 held₀) (length frames / width) frames readings₀ ≡ take at readings ++ outputsFrom width (opened width count held) left (drop at frames) (drop at readings))
+
+abbrev μ-loop : tie.MeasureT-loop
+μ-loop width half frames held₀ folded₀ wide₀ readings₀ at₀ count₀ left₀ held folded wide readings at count left =
+    left
+
+module _ (s : tie.Start Inv-loop μ-loop) where
+  abbrev N : ℕ
+  N = s .args .width
+
+  abbrev frames : List ℤ
+  frames = s .args .frames .now
+
+module _ (k : tie.At-loop Inv-loop μ-loop) where
+  abbrev from : tie.Start Inv-loop μ-loop
+  from = k .before
+
+  abbrev place : ℕ
+  place = k .loop .at
+
+  abbrev low : List ℤ
+  low = k .loop .held
+
+  abbrev readings : List ℤ
+  readings = k .loop .readings
+
+  abbrev run : Run
+  run = opened (N from) (k .loop .count) low
+
+-- a frame is left
+module _ (i : tie.In-loop Inv-loop μ-loop) where
+  abbrev at : tie.At-loop Inv-loop μ-loop
+  at = i .before
+
+  in-frames : place at + N (from at) ≤ length (frames (from at))
+  in-frames = block-in (place at) (at .loop .left) (N (from at)) _ (at .loop .inv .0) (i .loop-test .taken)
+
+  in-readings : place at + N (from at) ≤ length (readings at)
+  in-readings = omega (arith, in-frames, at .loop .inv .3)
+
+  end-le : place at + N (from at) ≤ 8388608
+  end-le = omega (arith, in-frames, few-readings (N (from at)) (frames (from at)) (from at .pre .1 .0))
+
+  counted : at .loop .count < frameLimit
+  counted = omega (arith, at .loop .inv .4, i .loop-test .taken, from at .pre .1 .0 .some)
+
+-- the frame step on the parts lent
+module _ (h : tie.After-held Inv-loop μ-loop) where
+  abbrev step : tie.After-undo Inv-loop μ-loop
+  step = h .before
+
+  abbrev inside : tie.In-loop Inv-loop μ-loop
+  inside = step .before .before .before .before .before .before
+
+  abbrev here : tie.At-loop Inv-loop μ-loop
+  here = inside .before
+
+  abbrev part : List ℤ
+  part = take (N (from here)) (drop (place here) (frames (from here)))
+
+  abbrev out : List ℤ
+  out = take (N (from here)) (drop (place here) (readings here))
+
+  abbrev kept : List ℤ
+  kept = step .undo .last .1 .1 .1 .1 .0
+
+  abbrev block : List ℤ
+  block = step .undo .last .1 .1 .1 .1 .1 .1 .1 .0
+
+  abbrev after : Run
+  after = opened (N (from here)) (countAfter (here .loop .count) (step .undo .result)) kept
+
+  kept-long : length kept ≡ halfWidth (N (from here))
+  kept-long = h .held .given ∙ here .loop .inv .5 .long
+
+  undone : _≡_ {A = Given} (toldFault (step .undo .result), after, block) (undoneIn (run here) part out)
+  undone = step .undo .ensures ∙ ap₂ (undoneIn (run here)) (part-is (place here) (N (from here)) (frames (from here))) (part-is (place here) (N (from here)) (readings here))
+
+  given : _≡_ {A = Given} (toldFault (step .undo .result), after, block) (takenBack (run here) part out)
+  given =
+      block-given (N (from here)) (here .loop .count) (low here) kept part out block (step .undo .result) (here .loop .inv .5) (counted inside) kept-long undone
+      (block-long (place here) (N (from here)) (frames (from here)) (in-frames inside))
+      (block-long (place here) (N (from here)) (readings here) (in-readings inside))
+
+  more : here .loop .left ≡ suc (here .loop .left - 1)
+  more = omega (arith, inside .loop-test .taken)
+
+  -- no call is refused
+  none : toldFault (step .undo .result) .0 ≡ 0
+  none = here-taken (N (from here)) _ (run here) (drop (place here) (frames (from here))) (drop (place here) (readings here)) more (sym given) (place here + N (from here)) (here .loop .inv .6)
+
+  next : after ≡ opened (N (from here)) (here .loop .count + 1) kept
+  next = run-after (N (from here)) (here .loop .count) (low here) kept part out block (step .undo .result) (here .loop .inv .5) (counted inside) kept-long undone none
+
+div-left : tie.Need-div-left Inv-loop μ-loop
+div-left c = width-pos (N c) (c .pre .1 .0 .wide)
+
+loop-holds : tie.Need-loop-holds Inv-loop μ-loop
+loop-holds c = (
+  omega (arith, c .pre .1 .0 .whole),
+  c .pre .1 .1 .0 .1,
+  c .pre .1 .1 .0 .2,
+  c .pre .1 .1 .0 .3,
+  omega arith,
+  record { wide = c .pre .1 .0 .wide; counted = omega arith; long = c .pre .1 .1 .0 .0; within = all-within _ _ (c .pre .1 .1 .1 .0); fresh = λ e. absurd (omega (arith, e)) },
+  subst (λ (n : ℕ). answerFrom (N c) n (opened (N c) 1 (c .args .held .now)) (length (frames c) / N c) (frames c) (c .args .readings .now) .0 ≡ 0) (omega arith) (c .pre .1 .1 .1 .1),
+  refl,
+)
+
+add-end : tie.Need-add-end Inv-loop μ-loop
+add-end c = record { fits = omega (arith, end-le c) }
+
+mul-undo : tie.Need-mul-undo Inv-loop μ-loop
+mul-undo c = record { fits = omega (arith, end-le c) }
+
+sub-undo : tie.Need-sub-undo Inv-loop μ-loop
+sub-undo c = omega arith
+
+part-undo-start : tie.Need-part-undo-start Inv-loop μ-loop
+part-undo-start c = omega arith
+
+part-undo-end : tie.Need-part-undo-end Inv-loop μ-loop
+part-undo-end c = in-frames c
+
+mul-undo-2 : tie.Need-mul-undo-2 Inv-loop μ-loop
+mul-undo-2 c = record { fits = omega (arith, end-le (c .before .before .before .before)) }
+
+sub-undo-2 : tie.Need-sub-undo-2 Inv-loop μ-loop
+sub-undo-2 c = omega arith
+
+part-undo-start-2 : tie.Need-part-undo-start-2 Inv-loop μ-loop
+part-undo-start-2 c = omega arith
+
+part-undo-end-2 : tie.Need-part-undo-end-2 Inv-loop μ-loop
+part-undo-end-2 c = in-readings (c .before .before .before .before)
+
+undo-requires : tie.Need-undo-requires Inv-loop μ-loop
+undo-requires c κs =
+    let i = c .before .before .before .before .before in
+    let k = at i in
+    let s = from k in (
+      record { half-is = s .pre .0; wide = s .pre .1 .0 .wide },
+      (
+        (
+          ap length (part-is (place k) (N s) (frames s)) ∙ block-long (place k) (N s) (frames s) (in-frames i),
+          k .loop .inv .5 .long,
+          k .loop .inv .1,
+          k .loop .inv .2,
+          ap length (part-is (place k) (N s) (readings k)) ∙ block-long (place k) (N s) (readings k) (in-readings i),
+        ),
+        low-within (k .loop .inv .5),
+      ),
+    )
+
+add-count : tie.Need-add-count Inv-loop μ-loop
+add-count c = record { fits = omega (arith, counted (inside (c .before .before .before))) }
+
+sub-left : tie.Need-sub-left Inv-loop μ-loop
+sub-left c = omega arith
+
+loop-less : tie.Need-loop-less Inv-loop μ-loop
+loop-less c = omega arith
+
+loop-again : tie.Need-loop-again Inv-loop μ-loop
+loop-again c =
+    let h = c .before .before .before in
+    let i = inside h in
+    let k = here h in
+    let s = from k in
+    let long = c .readings .given .0 ∙ ap length (part-is (place k) (N s) (readings k)) ∙ block-long (place k) (N s) (readings k) (in-readings i) in
+    let new = written (place k) (N s) (readings k) (block h) in (
+      block-next (place k) (k .loop .left) (N s) _ (k .loop .inv .0) (i .loop-test .taken),
+      c .before .before .folded .given ∙ k .loop .inv .1,
+      c .before .wide .given ∙ k .loop .inv .2,
+      c .readings .given .1 ∙ k .loop .inv .3,
+      omega (arith, k .loop .inv .4, i .loop-test .taken),
+      reached-after (N s) (k .loop .count) (low k) (kept h) (part h) (out h) (block h) (step h .undo .result) (k .loop .inv .5) (counted i) (kept-long h) (undone h) (none h),
+      ap (λ (x : ℕ × ℕ). x .0)
+          (sym
+          (answer-next (N s) _ (run k) (drop (place k) (frames s)) (drop (place k) (readings k)) (more h) (sym (given h)) (place k + N s) (none h)
+          ∙ ap₂ (answerFrom (N s) (place k + N s + N s) (after h) (k .loop .left - 1)) (drop-drop (N s) (place k) (frames s))
+          (drop-drop (N s) (place k) (readings k) ∙ sym (written-rest (place k) (N s) (readings k) (block h) (in-readings i) long))
+          ∙ ap (λ (r : Run). answerFrom (N s) (place k + N s + N s) r (k .loop .left - 1) (drop (place k + N s) (frames s)) (drop (place k + N s) new)) (next h)))
+          ∙ k .loop .inv .6,
+      k .loop .inv .7
+          ∙ blocks-next (N s) (place k) (k .loop .left) (run k) (after h) _ (frames s) (readings k) (block h) (i .loop-test .taken) (in-readings i) long (given h)
+          ∙ ap (λ (r : Run). take (place k + N s) new ++ outputsFrom (N s) r (k .loop .left - 1) (drop (place k + N s) (frames s)) (drop (place k + N s) new)) (next h),
+    )
+
+same-length : tie.Need-same-length Inv-loop μ-loop
+same-length c = let k = c .before in k .loop .inv .5 .long ∙ sym (from k .pre .1 .1 .0 .0)
+
+same-length-2 : tie.Need-same-length-2 Inv-loop μ-loop
+same-length-2 c = let k = c .before in k .loop .inv .1 ∙ sym (from k .pre .1 .1 .0 .1)
+
+same-length-3 : tie.Need-same-length-3 Inv-loop μ-loop
+same-length-3 c = let k = c .before in k .loop .inv .2 ∙ sym (from k .pre .1 .1 .0 .2)
+
+same-length-4 : tie.Need-same-length-4 Inv-loop μ-loop
+same-length-4 c = let k = c .before in k .loop .inv .3 ∙ sym (from k .pre .1 .1 .0 .3)
+
+returns : tie.Need-returns Inv-loop μ-loop
+returns c =
+    let k = c .before in
+    let s = from k in
+    let e : k .loop .left ≡ 0 = omega (arith, c .loop-test .left) in
+    sym
+    (k .loop .inv .7
+    ∙ no-blocks (N s) (place k) (k .loop .left) (run k) (drop (place k) (frames s)) (readings k) e (omega (arith, no-block (place k) (k .loop .left) (N s) _ (k .loop .inv .0) e, k .loop .inv .3)))
+
+pub blocks-before-spec : {M : Type 1} → statement M
+blocks-before-spec =
+    tie.close
+    (tie.spec
+    Inv-loop
+    μ-loop
+    div-left
+    loop-holds
+    add-end
+    mul-undo
+    sub-undo
+    part-undo-start
+    part-undo-end
+    mul-undo-2
+    sub-undo-2
+    part-undo-start-2
+    part-undo-end-2
+    undo-requires
+    add-count
+    sub-left
+    loop-less
+    loop-again
+    same-length
+    same-length-2
+    same-length-3
+    same-length-4
+    returns)
