@@ -1,13 +1,12 @@
 // The five stages on the two halves of a frame, each with its way back. a, b and row are room to work in.
 ghost use mathlib.Core.Bool.{cond};
 ghost use mathlib.Core.Path.{_≡_};
-ghost use Prim.Native.Nat.{_-_, _^_, _<_, _≤_};
-ghost use lib.IntN.{natAbs, _*ℤ_};
+ghost use Prim.Native.Nat.{_^_, _<_};
 ghost use lib.ListN.{length};
-ghost use Rattle.integers.specs.Places.{places, at, Within};
+ghost use Rattle.integers.specs.Places.{Within};
 ghost use Rattle.tables.specs.Widths.{halfWidth};
 ghost use Rattle.steps.specs.Steps.{rootLog, stage1, stage2, stage3, stage4, stage5, unstage1, unstage2, unstage3, unstage4, unstage5};
-ghost use Rattle.stages.specs.Expanded.{third, Turn, Secants, Tangents, Sines, Halves, Tables, Room, top4, bottom5, untop2, unbottom1};
+ghost use Rattle.stages.specs.Expanded.{Turn, Secants, Halves, Tables, Room, top4, bottom5, untop2, unbottom1};
 use crate::lifts;
 use crate::sums;
 use crate::vectors;

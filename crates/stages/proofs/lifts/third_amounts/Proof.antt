@@ -1,9 +1,8 @@
 -- `stages::lifts::third_amounts` meets its contract.
 use borrow.Author.Needs.{needs}
-use mathlib.Core.Path.{sym, ap, subst, _∙_}
-use lib.ListN.{length}
+use mathlib.Core.Path.{sym, ap, _∙_}
 use Rattle.tables.specs.Widths.{halfWidth}
-use Rattle.stages.specs.Expanded.{Halves, thirdAmounts}
+use Rattle.stages.specs.Expanded.{thirdAmounts}
 use Rattle.stages.proofs.ArrangedLaws.{no-width}
 use Rattle.stages.proofs.lifts.third_amounts.Statement.{statement}
 use Rattle.stages.proofs.lifts.third_amounts.Tie as tie
