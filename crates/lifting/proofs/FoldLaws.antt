@@ -7,22 +7,17 @@ use native.Mathlib.Omega.{arith}
 use borrow.Author.Tests.{ltb-true, ltb-false}
 use lib.Dec.{ltb}
 use lib.IntN.{ℤ}
-use lib.ListN.{length, length-append}
+use lib.ListN.{length-append}
 use Rattle.integers.specs.Places.{places, at, Within}
 use Rattle.integers.proofs.PlaceLaws.{length-places, at-places, by-places, places-ext, within-places}
 use Rattle.tables.specs.Widths.{halfWidth}
 use Rattle.steps.specs.Steps.{sineAmount, tangentAmount, rotatedA, rotatedB, unrotatedA, unrotatedB, lower, held, unfolded}
 use Rattle.steps.proofs.ListPlaces.{at-append}
 use Rattle.stages.specs.Moves.{moved}
+use Rattle.stages.specs.Expanded.{tangentLift, sineLift}
 use Rattle.stages.proofs.StageSizes.{moved-size, tangentAmount-size, sineAmount-size}
 
 -- ---- one lift of a rotation
-abbrev pub tangentLift : ℕ → Bool → Bool → List ℤ → List ℤ → List ℤ
-tangentLift N undo back x y = let M = halfWidth N in places M (λ i. moved undo (at y i) (tangentAmount N (cond back (M - 1 - i) i) (at x (M - 1 - i))))
-
-abbrev pub sineLift : ℕ → Bool → Bool → List ℤ → List ℤ → List ℤ
-sineLift N undo back x y = let M = halfWidth N in places M (λ i. moved undo (at y i) (sineAmount N (cond back (M - 1 - i) i) (at x (M - 1 - i))))
-
 module _ (N B C : ℕ) (undo back : Bool) (x y : List ℤ) (hy : Within C y) where
   pub tangentLift-within : Within (2 * B) x → Within (C + B) (tangentLift N undo back x y)
   tangentLift-within hx =

@@ -15,9 +15,9 @@ use Rattle.integers.proofs.Rounding.{round-whole}
 use Rattle.integers.proofs.PlaceLaws.{length-places, at-places, places-ext, places-at, sum-ext}
 use Rattle.tables.specs.Widths.{byWidth, halfWidth}
 use Rattle.tables.proofs.ByWidth.{at-each}
-use Rattle.steps.specs.Steps.{rootLog, cosine, secant, alternate, amount1, amount2, amount3, sineAmount, tangentAmount, tangent, stage1, stage2, stage3, stage4, stage5, unstage1, unstage2, unstage3, unstage4, unstage5}
+use Rattle.steps.specs.Steps.{rootLog, cosine, secant, alternate, amount1, amount2, amount3, tangent, stage1, stage2, stage3, stage4, stage5, unstage1, unstage2, unstage3, unstage4, unstage5}
 use Rattle.stages.specs.Moves.{moved, flipped}
-use Rattle.stages.specs.Expanded.{cosineSums, secantSums, third}
+use Rattle.stages.specs.Expanded.{cosineSums, secantSums, third, thirdAmounts, sineLift, tangentLift}
 
 -- what `lift` and `alternate` give
 abbrev pub lifted : Bool → ℕ → List ℤ → List ℤ → List ℤ
@@ -47,9 +47,7 @@ minus-inside s c p t x = simp ring
 
 -- ---- the amounts of stage 3 before rounding, as the code makes them
 abbrev pub amounts3 : ℕ → List ℤ → List ℤ
-amounts3 N top =
-    let M = halfWidth N in
-    places M (λ i. third (rootLog N) (at (secantSums N top) i) (at (cosineSums N top) i) (negℤ (tangent N (M - 1 - i)) *ℤ at top (M - 1 - i)))
+amounts3 N top = thirdAmounts N (rootLog N) top (secantSums N top) (cosineSums N top)
 
 -- ---- the stages
 module _ (N : ℕ) (top bottom : List ℤ) (ht : length top ≡ halfWidth N) (hb : length bottom ≡ halfWidth N) where
@@ -104,12 +102,12 @@ module _ (N : ℕ) (top bottom : List ℤ) (ht : length top ≡ halfWidth N) (hb
   stage3-is false = respoken M bottom _ _ hb (λ m l. ap (λ z. at bottom m +ℤ z) (amounts3-at m l))
 
 module _ (N : ℕ) (top bottom : List ℤ) where
-  pub stage4-is : (undo : Bool) → places (halfWidth N) (λ m. moved undo (at top m) (sineAmount N m (at bottom (halfWidth N - 1 - m)))) ≡ cond undo (unstage4 N top bottom) (stage4 N top bottom)
+  pub stage4-is : (undo : Bool) → sineLift N undo false bottom top ≡ cond undo (unstage4 N top bottom) (stage4 N top bottom)
   unfolding stage4 unstage4 moved
   stage4-is true = refl
   stage4-is false = refl
 
-  pub stage5-is : (undo : Bool) → places (halfWidth N) (λ i. let m = halfWidth N - 1 - i in moved undo (at bottom i) (tangentAmount N m (at top m))) ≡ cond undo (unstage5 N top bottom) (stage5 N top bottom)
+  pub stage5-is : (undo : Bool) → tangentLift N undo true top bottom ≡ cond undo (unstage5 N top bottom) (stage5 N top bottom)
   unfolding stage5 unstage5 moved
   stage5-is true = refl
   stage5-is false = refl

@@ -1,6 +1,6 @@
 -- The tables of a width expanded into lists, and the row sums of the stages.
 use mathlib.Core.Path.{_≡_}
-use mathlib.Core.Bool.{cond}
+use mathlib.Core.Bool.{Bool, cond}
 use lib.Dec.{eqb}
 use mathlib.Core.List.{List}
 use Prim.Native.Nat.{ℕ, _+_, _-_, _*_, _/_, _%_, _^_, _<_}
@@ -9,7 +9,8 @@ use lib.ListN.{length}
 use Rattle.integers.specs.Places.{places, at, sum, Within}
 use Rattle.tables.specs.Widths.{halfWidth}
 use Rattle.tables.specs.Numbers.{cosineOf, secantOf}
-use Rattle.steps.specs.Steps.{rootLog, cosine, secant, tangent, sine, stage1, stage2, stage3, stage4, stage5, unstage1, unstage2, unstage3, unstage4, unstage5}
+use Rattle.steps.specs.Steps.{rootLog, cosine, secant, tangent, sine, tangentAmount, sineAmount, stage1, stage2, stage3, stage4, stage5, unstage1, unstage2, unstage3, unstage4, unstage5}
+use Rattle.stages.specs.Moves.{moved}
 
 unfoldable pub cosineSums : ℕ → List ℤ → List ℤ
 cosineSums N x = places (halfWidth N) (λ m. sum (halfWidth N) (λ n. cosine N m n *ℤ at x n))
@@ -67,6 +68,18 @@ pub record Halves (N : ℕ) (top bottom : List ℤ) : Type 0 where
 -- what stage 3 adds at a place, from the secant sum, the cosine sum and −t·top; M is 2^(2l)
 unfoldable pub third : ℕ → ℤ → ℤ → ℤ → ℤ
 third l secants cosines tangent = negℤ secants -ℤ pos (2 ^ (l + 1)) *ℤ cosines +ℤ pos (2 ^ (2 * l)) *ℤ tangent
+
+abbrev pub thirdAmounts : ℕ → ℕ → List ℤ → List ℤ → List ℤ → List ℤ
+thirdAmounts N l top secants cosines =
+    let M = halfWidth N in
+    places M (λ i. third l (at secants i) (at cosines i) (negℤ (tangent N (M - 1 - i)) *ℤ at top (M - 1 - i)))
+
+-- y moved by −t or s times x, x from its end; −t or s from its end too where `back`
+abbrev pub tangentLift : ℕ → Bool → Bool → List ℤ → List ℤ → List ℤ
+tangentLift N undo back x y = let M = halfWidth N in places M (λ i. moved undo (at y i) (tangentAmount N (cond back (M - 1 - i) i) (at x (M - 1 - i))))
+
+abbrev pub sineLift : ℕ → Bool → Bool → List ℤ → List ℤ → List ℤ
+sineLift N undo back x y = let M = halfWidth N in places M (λ i. moved undo (at y i) (sineAmount N (cond back (M - 1 - i) i) (at x (M - 1 - i))))
 
 -- room to work in
 pub record Room (N : ℕ) (a b c row : List ℤ) : Type 0 where

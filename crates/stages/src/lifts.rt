@@ -2,14 +2,13 @@
 ghost use mathlib.Core.Bool.{cond};
 ghost use mathlib.Core.Path.{_≡_};
 ghost use Prim.Native.Nat.{_-_, _^_, _<_, _≤_};
-ghost use lib.IntN.{natAbs, negℤ, _*ℤ_};
+ghost use lib.IntN.{natAbs, _*ℤ_};
 ghost use lib.ListN.{length};
 ghost use Rattle.integers.specs.Floor.{round};
 ghost use Rattle.integers.specs.Places.{places, at, Within};
 ghost use Rattle.tables.specs.Widths.{halfWidth};
-ghost use Rattle.steps.specs.Steps.{tangent, tangentAmount, sineAmount};
 ghost use Rattle.stages.specs.Moves.{moved};
-ghost use Rattle.stages.specs.Expanded.{third, Halves};
+ghost use Rattle.stages.specs.Expanded.{third, Halves, tangentLift, sineLift, thirdAmounts};
 use crate::vectors;
 
 // −t(m) and s(m)
@@ -216,20 +215,75 @@ fn lift_mirrored(undo: bool, back: bool, c: &[i64], x: &[i64], y: &mut [i64])
     }
 }
 
+// A constant is written out by the function that names it, so each table has its own.
+fn by_tangents_8(undo: bool, back: bool, x: &[i64], y: &mut [i64])
+    requires { ⌜ Halves 8 (now x) (now y) ⌝ }
+    requires { ⌜ Within (2 ^ 34) (now x) ⌝ }
+    requires { ⌜ Within (2 ^ 61) (now y) ⌝ }
+    ensures { λ _. ⌜ now (y .exit) ≡ tangentLift 8 undo back (now (x .entry)) (now (y .entry)) ⌝ }
+{
+    lift_mirrored(undo, back, &TANGENTS_8, x, y);
+}
+
+fn by_tangents_32(undo: bool, back: bool, x: &[i64], y: &mut [i64])
+    requires { ⌜ Halves 32 (now x) (now y) ⌝ }
+    requires { ⌜ Within (2 ^ 34) (now x) ⌝ }
+    requires { ⌜ Within (2 ^ 61) (now y) ⌝ }
+    ensures { λ _. ⌜ now (y .exit) ≡ tangentLift 32 undo back (now (x .entry)) (now (y .entry)) ⌝ }
+{
+    lift_mirrored(undo, back, &TANGENTS_32, x, y);
+}
+
+fn by_tangents_128(undo: bool, back: bool, x: &[i64], y: &mut [i64])
+    requires { ⌜ Halves 128 (now x) (now y) ⌝ }
+    requires { ⌜ Within (2 ^ 34) (now x) ⌝ }
+    requires { ⌜ Within (2 ^ 61) (now y) ⌝ }
+    ensures { λ _. ⌜ now (y .exit) ≡ tangentLift 128 undo back (now (x .entry)) (now (y .entry)) ⌝ }
+{
+    lift_mirrored(undo, back, &TANGENTS_128, x, y);
+}
+
 // y takes the rounded −t·x, t from its end where `back`.
 pub fn by_tangents(undo: bool, back: bool, width: usize, x: &[i64], y: &mut [i64])
     requires { ⌜ 0 < halfWidth width ⌝ }
     requires { ⌜ Halves width (now x) (now y) ⌝ }
     requires { ⌜ Within (2 ^ 34) (now x) ⌝ }
     requires { ⌜ Within (2 ^ 61) (now y) ⌝ }
-    ensures { λ _. ⌜ now (y .exit) ≡ places (halfWidth width) (λ i. moved undo (at (now (y .entry)) i) (tangentAmount width (cond back (halfWidth width - 1 - i) i) (at (now (x .entry)) (halfWidth width - 1 - i)))) ⌝ }
+    ensures { λ _. ⌜ now (y .exit) ≡ tangentLift width undo back (now (x .entry)) (now (y .entry)) ⌝ }
 {
     match width {
-        8 => lift_mirrored(undo, back, &TANGENTS_8, x, y),
-        32 => lift_mirrored(undo, back, &TANGENTS_32, x, y),
-        128 => lift_mirrored(undo, back, &TANGENTS_128, x, y),
+        8 => by_tangents_8(undo, back, x, y),
+        32 => by_tangents_32(undo, back, x, y),
+        128 => by_tangents_128(undo, back, x, y),
         _ => {}
     }
+}
+
+fn by_sines_8(undo: bool, back: bool, x: &[i64], y: &mut [i64])
+    requires { ⌜ Halves 8 (now x) (now y) ⌝ }
+    requires { ⌜ Within (2 ^ 34) (now x) ⌝ }
+    requires { ⌜ Within (2 ^ 61) (now y) ⌝ }
+    ensures { λ _. ⌜ now (y .exit) ≡ sineLift 8 undo back (now (x .entry)) (now (y .entry)) ⌝ }
+{
+    lift_mirrored(undo, back, &SINES_8, x, y);
+}
+
+fn by_sines_32(undo: bool, back: bool, x: &[i64], y: &mut [i64])
+    requires { ⌜ Halves 32 (now x) (now y) ⌝ }
+    requires { ⌜ Within (2 ^ 34) (now x) ⌝ }
+    requires { ⌜ Within (2 ^ 61) (now y) ⌝ }
+    ensures { λ _. ⌜ now (y .exit) ≡ sineLift 32 undo back (now (x .entry)) (now (y .entry)) ⌝ }
+{
+    lift_mirrored(undo, back, &SINES_32, x, y);
+}
+
+fn by_sines_128(undo: bool, back: bool, x: &[i64], y: &mut [i64])
+    requires { ⌜ Halves 128 (now x) (now y) ⌝ }
+    requires { ⌜ Within (2 ^ 34) (now x) ⌝ }
+    requires { ⌜ Within (2 ^ 61) (now y) ⌝ }
+    ensures { λ _. ⌜ now (y .exit) ≡ sineLift 128 undo back (now (x .entry)) (now (y .entry)) ⌝ }
+{
+    lift_mirrored(undo, back, &SINES_128, x, y);
 }
 
 // y takes the rounded s·x, s from its end where `back`.
@@ -238,12 +292,12 @@ pub fn by_sines(undo: bool, back: bool, width: usize, x: &[i64], y: &mut [i64])
     requires { ⌜ Halves width (now x) (now y) ⌝ }
     requires { ⌜ Within (2 ^ 34) (now x) ⌝ }
     requires { ⌜ Within (2 ^ 61) (now y) ⌝ }
-    ensures { λ _. ⌜ now (y .exit) ≡ places (halfWidth width) (λ i. moved undo (at (now (y .entry)) i) (sineAmount width (cond back (halfWidth width - 1 - i) i) (at (now (x .entry)) (halfWidth width - 1 - i)))) ⌝ }
+    ensures { λ _. ⌜ now (y .exit) ≡ sineLift width undo back (now (x .entry)) (now (y .entry)) ⌝ }
 {
     match width {
-        8 => lift_mirrored(undo, back, &SINES_8, x, y),
-        32 => lift_mirrored(undo, back, &SINES_32, x, y),
-        128 => lift_mirrored(undo, back, &SINES_128, x, y),
+        8 => by_sines_8(undo, back, x, y),
+        32 => by_sines_32(undo, back, x, y),
+        128 => by_sines_128(undo, back, x, y),
         _ => {}
     }
 }
@@ -271,6 +325,39 @@ fn third_amounts_with(root: u32, tangents: &[i64], top: &[i64], a: &mut [i64], b
     }
 }
 
+fn third_amounts_8(root: u32, top: &[i64], a: &mut [i64], b: &[i64])
+    requires { ⌜ root ≤ 3 ⌝ }
+    requires { ⌜ (length (now top) ≡ halfWidth 8) × (length (now a) ≡ halfWidth 8) × (length (now b) ≡ halfWidth 8) ⌝ }
+    requires { ⌜ Within 7500000 (now top) ⌝ }
+    requires { ⌜ Within (2 ^ 60) (now a) ⌝ }
+    requires { ⌜ Within (2 ^ 57) (now b) ⌝ }
+    ensures { λ _. ⌜ now (a .exit) ≡ thirdAmounts 8 root (now (top .entry)) (now (a .entry)) (now (b .entry)) ⌝ }
+{
+    third_amounts_with(root, &TANGENTS_8, top, a, b);
+}
+
+fn third_amounts_32(root: u32, top: &[i64], a: &mut [i64], b: &[i64])
+    requires { ⌜ root ≤ 3 ⌝ }
+    requires { ⌜ (length (now top) ≡ halfWidth 32) × (length (now a) ≡ halfWidth 32) × (length (now b) ≡ halfWidth 32) ⌝ }
+    requires { ⌜ Within 7500000 (now top) ⌝ }
+    requires { ⌜ Within (2 ^ 60) (now a) ⌝ }
+    requires { ⌜ Within (2 ^ 57) (now b) ⌝ }
+    ensures { λ _. ⌜ now (a .exit) ≡ thirdAmounts 32 root (now (top .entry)) (now (a .entry)) (now (b .entry)) ⌝ }
+{
+    third_amounts_with(root, &TANGENTS_32, top, a, b);
+}
+
+fn third_amounts_128(root: u32, top: &[i64], a: &mut [i64], b: &[i64])
+    requires { ⌜ root ≤ 3 ⌝ }
+    requires { ⌜ (length (now top) ≡ halfWidth 128) × (length (now a) ≡ halfWidth 128) × (length (now b) ≡ halfWidth 128) ⌝ }
+    requires { ⌜ Within 7500000 (now top) ⌝ }
+    requires { ⌜ Within (2 ^ 60) (now a) ⌝ }
+    requires { ⌜ Within (2 ^ 57) (now b) ⌝ }
+    ensures { λ _. ⌜ now (a .exit) ≡ thirdAmounts 128 root (now (top .entry)) (now (a .entry)) (now (b .entry)) ⌝ }
+{
+    third_amounts_with(root, &TANGENTS_128, top, a, b);
+}
+
 // What stage 3 adds, before rounding: a has the secant sums, and b the cosine sums.
 pub fn third_amounts(width: usize, root: u32, top: &[i64], a: &mut [i64], b: &[i64])
     requires { ⌜ (root ≤ 3) × (0 < halfWidth width) ⌝ }
@@ -278,12 +365,12 @@ pub fn third_amounts(width: usize, root: u32, top: &[i64], a: &mut [i64], b: &[i
     requires { ⌜ Within 7500000 (now top) ⌝ }
     requires { ⌜ Within (2 ^ 60) (now a) ⌝ }
     requires { ⌜ Within (2 ^ 57) (now b) ⌝ }
-    ensures { λ _. ⌜ now (a .exit) ≡ places (halfWidth width) (λ i. third root (at (now (a .entry)) i) (at (now (b .entry)) i) (negℤ (tangent width (halfWidth width - 1 - i)) *ℤ at (now (top .entry)) (halfWidth width - 1 - i))) ⌝ }
+    ensures { λ _. ⌜ now (a .exit) ≡ thirdAmounts width root (now (top .entry)) (now (a .entry)) (now (b .entry)) ⌝ }
 {
     match width {
-        8 => third_amounts_with(root, &TANGENTS_8, top, a, b),
-        32 => third_amounts_with(root, &TANGENTS_32, top, a, b),
-        128 => third_amounts_with(root, &TANGENTS_128, top, a, b),
+        8 => third_amounts_8(root, top, a, b),
+        32 => third_amounts_32(root, top, a, b),
+        128 => third_amounts_128(root, top, a, b),
         _ => {}
     }
 }

@@ -9,7 +9,8 @@ use lib.IntN.{ℤ}
 use lib.ListN.{length}
 use Rattle.integers.specs.Places.{Within}
 use Rattle.integers.proofs.PlaceLaws.{length-places, within-up}
-use Rattle.lifting.proofs.FoldLaws.{tangentLift, sineLift, tangentLift-within, sineLift-within, a-turned, b-turned}
+use Rattle.stages.specs.Expanded.{tangentLift, sineLift}
+use Rattle.lifting.proofs.FoldLaws.{tangentLift-within, sineLift-within, a-turned, b-turned}
 use Rattle.lifting.proofs.FoldLaws as laws
 use Rattle.lifting.proofs.folding.rotate.Statement.{statement}
 use Rattle.lifting.proofs.folding.rotate.Tie as tie

@@ -6,7 +6,7 @@ use mathlib.Core.List.{List, _++_}
 use Prim.Native.Nat.{ℕ, _-_}
 use lib.IntN.{ℤ}
 use lib.ListN.{length}
-use Rattle.integers.specs.Places.{places, at, Within}
+use Rattle.integers.specs.Places.{Within}
 use Rattle.integers.proofs.PlaceLaws.{length-places, within-places}
 use Rattle.tables.specs.Widths.{halfWidth}
 use Rattle.steps.proofs.Undo.{width-half}

@@ -4,18 +4,17 @@ use native.Mathlib.Omega.{arith}
 use mathlib.Core.Path.{_≡_, sym, ap, ap₂, subst, _∙_}
 use mathlib.Core.List.{List}
 use Prim.Native.Nat.{ℕ, _+_, _-_, _*_, _^_, _≤_}
-use lib.IntN.{ℤ, negℤ, _*ℤ_}
+use lib.IntN.{ℤ}
 use lib.ListN.{length}
-use Rattle.integers.specs.Places.{places, at, Within}
+use Rattle.integers.specs.Places.{Within}
 use Rattle.integers.proofs.PlaceLaws.{length-places, within-up}
 use Rattle.tables.specs.Widths.{halfWidth}
 use Rattle.tables.proofs.ByWidth.{half-width-le}
 use Rattle.stages.specs.Moves.{Moves}
-use Rattle.steps.specs.Steps.{rootLog, tangent}
-use Rattle.stages.specs.Expanded.{cosineSums, secantSums}
+use Rattle.steps.specs.Steps.{rootLog}
+use Rattle.stages.specs.Expanded.{cosineSums, secantSums, thirdAmounts}
 use Rattle.stages.proofs.StageLaws.{lifted, amounts3, stage3-is}
 use Rattle.stages.proofs.StageSizes.{root-le, cosine-sums-size, secant-sums-size, amounts3-move}
-use Rattle.stages.specs.Expanded.{third as thirdOf}
 use Rattle.stages.proofs.stages.third.Statement.{statement}
 use Rattle.stages.proofs.stages.third.Tie as tie
 
@@ -92,10 +91,7 @@ module _ (r : tie.After-third-amounts) where
   amounts : r .third-amounts .last .1 .1 .1 .0 ≡ amounts3 (N start) (start .args .top .now)
   amounts =
       let top = start .args .top .now in
-      let t : ℕ → ℤ = λ i. negℤ (tangent (N start) (M start - 1 - i)) *ℤ at top (M start - 1 - i) in
-      r .third-amounts .ensures
-      ∙ ap₂ (λ l a. places (M start) (λ i. thirdOf l (at a i) (at (cosines sums) i) (t i))) (root-is start) (p sums .secant-sums .ensures)
-      ∙ ap (λ b. places (M start) (λ i. thirdOf (rootLog (N start)) (at (secantSums (N start) top) i) (at b i) (t i))) (sums .cosine-sums .ensures)
+      r .third-amounts .ensures ∙ ap₂ (λ l a. thirdAmounts (N start) l top a (cosines sums)) (root-is start) (p sums .secant-sums .ensures) ∙ ap (thirdAmounts (N start) (rootLog (N start)) top (secantSums (N start) top)) (sums .cosine-sums .ensures)
 
   amounts-long : length (r .third-amounts .last .1 .1 .1 .0) ≡ M start
   amounts-long = ap length amounts ∙ length-places _ _
