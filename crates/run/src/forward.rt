@@ -53,14 +53,12 @@ fn advance(run: Run, half: usize, block: &[i32], frame: &mut [i32]) -> Run
 {
     let width = run.width;
     let mut held = run.held;
-    let mut wide = room::of_128();
     let mut folded = room::of_128();
     step::step(
         width,
         half,
         block,
         &mut held[..half],
-        &mut wide[..width],
         &mut folded[..width],
         frame,
     );
@@ -103,14 +101,12 @@ fn close(run: Run, half: usize, frame: &mut [i32]) -> Run
     let width = run.width;
     let zeros = record::zero_block();
     let mut held = run.held;
-    let mut wide = room::of_128();
     let mut folded = room::of_128();
     step::step(
         width,
         half,
         &zeros[..width],
         &mut held[..half],
-        &mut wide[..width],
         &mut folded[..width],
         frame,
     );

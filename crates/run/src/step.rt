@@ -10,25 +10,23 @@ use lifting::folding;
 use lifting::transform;
 use stages::vectors;
 
-// The block widened goes to wide, and the frame's folded values to folded: room to work in.
+// The frame's folded values go to folded, which is room to work in.
 pub fn step(
     width: usize,
     half: usize,
     block: &[i32],
     held: &mut [i64],
-    wide: &mut [i64],
     folded: &mut [i64],
     frame: &mut [i32],
 )
     requires { ⌜ Width width half ⌝ }
-    requires { ⌜ (length (now block) ≡ width) × (length (now held) ≡ halfWidth width) × (length (now wide) ≡ width) × (length (now folded) ≡ width) × (length (now frame) ≡ width) ⌝ }
+    requires { ⌜ (length (now block) ≡ width) × (length (now held) ≡ halfWidth width) × (length (now folded) ≡ width) × (length (now frame) ≡ width) ⌝ }
     requires { ⌜ Within foldedLimit (now held) ⌝ }
     requires { ⌜ Within readingLimit (now block) ⌝ }
     ensures { λ _. ⌜ (now (held .exit) ≡ Rattle.steps.specs.Steps.held width (now (block .entry))) × (now (frame .exit) ≡ Rattle.steps.specs.Steps.frame width (now (held .entry)) (now (block .entry))) ⌝ }
 {
-    vectors::widen(block, wide);
     vectors::copy(held, &mut folded[half..]);
-    folding::fold(width, half, wide, &mut folded[..half], held);
+    folding::fold(width, half, block, &mut folded[..half], held);
     transform::stages(width, half, folded);
     vectors::narrow(folded, frame);
 }

@@ -52,7 +52,6 @@ fn frames_of(width: usize, half: usize, readings: &[i32], frames: &mut [i32])
     ensures { λ _. ⌜ now (frames .exit) ≡ outputs (made (started width .1) (callsOf width (length (now (readings .entry)) / width) (now (readings .entry)) (now (frames .entry)))) ⌝ }
 {
     let mut held = record::nothing_held();
-    let mut wide = room::of_128();
     let mut folded = room::of_128();
     let mut at = 0;
     let mut left = readings.len() / width;
@@ -63,7 +62,6 @@ fn frames_of(width: usize, half: usize, readings: &[i32], frames: &mut [i32])
             half,
             &readings[at..end],
             &mut held[..half],
-            &mut wide[..width],
             &mut folded[..width],
             &mut frames[at..end],
         );
@@ -76,7 +74,6 @@ fn frames_of(width: usize, half: usize, readings: &[i32], frames: &mut [i32])
         half,
         &zeros[..width],
         &mut held[..half],
-        &mut wide[..width],
         &mut folded[..width],
         &mut frames[at..],
     );

@@ -27,21 +27,15 @@ module _ (s : tie.Start) where
   half-le = half-room N (s .args .half) before (s .pre .0 .good .half-is) held-long
 
 -- the room lent
-module _ (c : tie.After-of-1282) where
+module _ (c : tie.After-of-128) where
   abbrev from : tie.Start
-  from = c .before .before .before
+  from = c .before .before
 
-  wide-le : N from ≤ length (c .before .of-128 .result)
-  wide-le = width-room (N from) (c .before .of-128 .result) (from .pre .0 .good .wide) (c .before .of-128 .ensures)
-
-  folded-le : N from ≤ length (c .of-1282 .result)
-  folded-le = width-room (N from) (c .of-1282 .result) (from .pre .0 .good .wide) (c .of-1282 .ensures)
+  folded-le : N from ≤ length (c .of-128 .result)
+  folded-le = width-room (N from) (c .of-128 .result) (from .pre .0 .good .wide) (c .of-128 .ensures)
 
 of-128-requires : tie.Need-of-128-requires
 of-128-requires c κs = search needs
-
-of-128-requires-2 : tie.Need-of-128-requires-2
-of-128-requires-2 c κs = search needs
 
 array-borrow-prefix-held : tie.Need-array-borrow-prefix-held
 array-borrow-prefix-held c = half-le (from c)
@@ -49,21 +43,15 @@ array-borrow-prefix-held c = half-le (from c)
 slice-aggregate-step : tie.Need-slice-aggregate-step
 slice-aggregate-step c = let s = from (c .before) in part-long _ (before s) (half-le s)
 
-array-borrow-prefix-wide : tie.Need-array-borrow-prefix-wide
-array-borrow-prefix-wide c = wide-le (c .before)
+array-borrow-prefix-folded : tie.Need-array-borrow-prefix-folded
+array-borrow-prefix-folded c = folded-le (c .before)
 
 slice-aggregate-step-2 : tie.Need-slice-aggregate-step-2
-slice-aggregate-step-2 c = part-long _ (c .before .before .before .of-128 .result) (wide-le (c .before .before))
-
-array-borrow-prefix-folded : tie.Need-array-borrow-prefix-folded
-array-borrow-prefix-folded c = folded-le (c .before .before)
-
-slice-aggregate-step-3 : tie.Need-slice-aggregate-step-3
-slice-aggregate-step-3 c = part-long _ (c .before .before .before .of-1282 .result) (folded-le (c .before .before .before))
+slice-aggregate-step-2 c = part-long _ (c .before .before .of-128 .result) (folded-le (c .before .before))
 
 step-requires : tie.Need-step-requires
 step-requires c κs =
-    let r = c .before .before .before .before in
+    let r = c .before .before .before in
     let s = from r in
     let ready = s .pre .0 in (
       ready .good,
@@ -71,8 +59,7 @@ step-requires c κs =
         (
           s .pre .1 .0 .0,
           sym (part-long _ (before s) (half-le s)) ∙ ready .good .half-is,
-          sym (part-long _ (r .before .of-128 .result) (wide-le r)),
-          sym (part-long _ (r .of-1282 .result) (folded-le r)),
+          sym (part-long _ (r .of-128 .result) (folded-le r)),
           s .pre .1 .0 .1,
         ),
         (take-within (N s) foldedLimit (before s) (ready .within) (s .args .half), s .pre .1 .1),
@@ -87,8 +74,8 @@ same-length c = search needs
 
 returns : tie.Need-returns
 returns c =
-    let t = c .before .before .before .before .before in
-    let s = from (t .before .before .before .before .before) in (
+    let t = c .before .before .before .before in
+    let s = from (t .before .before .before .before) in (
       advanced-is (s .args .run) (s .args .half) (s .pre .0) (s .args .block .now) _ (ap (λ (l : List ℤ). l ++ drop (s .args .half) (before s)) (t .step .ensures .0)),
       t .step .ensures .1 ∙ frame-on (s .args .run) (s .args .half) (s .pre .0) (s .args .block .now),
     )
@@ -98,13 +85,10 @@ advance-spec =
     tie.close
     (tie.spec
     of-128-requires
-    of-128-requires-2
     array-borrow-prefix-held
     slice-aggregate-step
-    array-borrow-prefix-wide
-    slice-aggregate-step-2
     array-borrow-prefix-folded
-    slice-aggregate-step-3
+    slice-aggregate-step-2
     step-requires
     add-t19
     same-length

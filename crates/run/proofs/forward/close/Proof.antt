@@ -31,21 +31,18 @@ module _ (s : tie.Start) where
   half-le = half-room N (s .args .half) before (s .pre .0 .good .half-is) held-long
 
 -- the room lent, and a block of zeros, as long as the width
-module _ (c : tie.After-of-1282) where
+module _ (c : tie.After-of-128) where
   abbrev from : tie.Start
-  from = c .before .before .before .before
+  from = c .before .before .before
 
-  wide-le : N from ≤ length (c .before .of-128 .result)
-  wide-le = width-room (N from) (c .before .of-128 .result) (from .pre .0 .good .wide) (c .before .of-128 .ensures)
+  folded-le : N from ≤ length (c .of-128 .result)
+  folded-le = width-room (N from) (c .of-128 .result) (from .pre .0 .good .wide) (c .of-128 .ensures)
 
-  folded-le : N from ≤ length (c .of-1282 .result)
-  folded-le = width-room (N from) (c .of-1282 .result) (from .pre .0 .good .wide) (c .of-1282 .ensures)
+  zeros-le : N from ≤ length (c .before .before .zero-block .result)
+  zeros-le = width-room (N from) (c .before .before .zero-block .result) (from .pre .0 .good .wide) (sym (ap length (c .before .before .zero-block .ensures) ∙ length-replicate 128 (pos 0)))
 
-  zeros-le : N from ≤ length (c .before .before .before .zero-block .result)
-  zeros-le = width-room (N from) (c .before .before .before .zero-block .result) (from .pre .0 .good .wide) (sym (ap length (c .before .before .before .zero-block .ensures) ∙ length-replicate 128 (pos 0)))
-
-  block-is : take (N from) (c .before .before .before .zero-block .result) ≡ zeros (N from)
-  block-is = zero-part (N from) _ (from .pre .0 .good .wide) (c .before .before .before .zero-block .ensures)
+  block-is : take (N from) (c .before .before .zero-block .result) ≡ zeros (N from)
+  block-is = zero-part (N from) _ (from .pre .0 .good .wide) (c .before .before .zero-block .ensures)
 
 zero-block-requires : tie.Need-zero-block-requires
 zero-block-requires c κs = search needs
@@ -53,14 +50,11 @@ zero-block-requires c κs = search needs
 of-128-requires : tie.Need-of-128-requires
 of-128-requires c κs = search needs
 
-of-128-requires-2 : tie.Need-of-128-requires-2
-of-128-requires-2 c κs = search needs
-
 array-share-prefix-zeros : tie.Need-array-share-prefix-zeros
 array-share-prefix-zeros c = zeros-le c
 
 slice-aggregate-step : tie.Need-slice-aggregate-step
-slice-aggregate-step c = part-long _ (c .before .before .before .before .zero-block .result) (zeros-le (c .before))
+slice-aggregate-step c = part-long _ (c .before .before .before .zero-block .result) (zeros-le (c .before))
 
 array-borrow-prefix-held : tie.Need-array-borrow-prefix-held
 array-borrow-prefix-held c = half-le (from (c .before))
@@ -68,30 +62,23 @@ array-borrow-prefix-held c = half-le (from (c .before))
 slice-aggregate-step-2 : tie.Need-slice-aggregate-step-2
 slice-aggregate-step-2 c = let s = from (c .before .before) in part-long _ (before s) (half-le s)
 
-array-borrow-prefix-wide : tie.Need-array-borrow-prefix-wide
-array-borrow-prefix-wide c = wide-le (c .before .before)
+array-borrow-prefix-folded : tie.Need-array-borrow-prefix-folded
+array-borrow-prefix-folded c = folded-le (c .before .before)
 
 slice-aggregate-step-3 : tie.Need-slice-aggregate-step-3
-slice-aggregate-step-3 c = part-long _ (c .before .before .before .before .of-128 .result) (wide-le (c .before .before .before))
-
-array-borrow-prefix-folded : tie.Need-array-borrow-prefix-folded
-array-borrow-prefix-folded c = folded-le (c .before .before .before)
-
-slice-aggregate-step-4 : tie.Need-slice-aggregate-step-4
-slice-aggregate-step-4 c = part-long _ (c .before .before .before .before .of-1282 .result) (folded-le (c .before .before .before .before))
+slice-aggregate-step-3 c = part-long _ (c .before .before .before .of-128 .result) (folded-le (c .before .before .before))
 
 step-requires : tie.Need-step-requires
 step-requires c κs =
-    let r = c .before .before .before .before .before in
+    let r = c .before .before .before .before in
     let s = from r in
     let ready = s .pre .0 in (
       ready .good,
       (
         (
-          sym (part-long _ (r .before .before .before .zero-block .result) (zeros-le r)),
+          sym (part-long _ (r .before .before .zero-block .result) (zeros-le r)),
           sym (part-long _ (before s) (half-le s)) ∙ ready .good .half-is,
-          sym (part-long _ (r .before .of-128 .result) (wide-le r)),
-          sym (part-long _ (r .of-1282 .result) (folded-le r)),
+          sym (part-long _ (r .of-128 .result) (folded-le r)),
           s .pre .1,
         ),
         (take-within (N s) foldedLimit (before s) (ready .within) (s .args .half), subst (Within readingLimit) (sym (block-is r)) (zero-within (N s))),
@@ -107,8 +94,8 @@ same-length c = search needs
 returns : tie.Need-returns
 unfolding closed
 returns c =
-    let t = c .before .before .before .before .before in
-    let r = t .before .before .before .before .before .before in
+    let t = c .before .before .before .before in
+    let r = t .before .before .before .before .before in
     let s = from r in (
       ap (λ (h : List ℤ). record { width = N s; count = s .args .run .count; held = h; finished = true }) (c .nothing-held .ensures),
       t .step .ensures .1 ∙ ap (frame (N s) (take (s .args .half) (before s))) (block-is r) ∙ frame-on (s .args .run) (s .args .half) (s .pre .0) (zeros (N s)),
@@ -120,15 +107,12 @@ close-spec =
     (tie.spec
     zero-block-requires
     of-128-requires
-    of-128-requires-2
     array-share-prefix-zeros
     slice-aggregate-step
     array-borrow-prefix-held
     slice-aggregate-step-2
-    array-borrow-prefix-wide
-    slice-aggregate-step-3
     array-borrow-prefix-folded
-    slice-aggregate-step-4
+    slice-aggregate-step-3
     step-requires
     nothing-held-requires
     same-length

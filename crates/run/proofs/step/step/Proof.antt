@@ -37,15 +37,15 @@ module _ (s : tie.Start) where
   old = s .args .folded .now
 
   two-halves : half ≤ length old
-  two-halves = omega (arith, s .pre .0 .half-is, width-half N (s .pre .0 .wide), s .pre .1 .0 .3)
+  two-halves = omega (arith, s .pre .0 .half-is, width-half N (s .pre .0 .wide), s .pre .1 .0 .2)
 
   rest-long : length previous ≡ length (take (length old - half) (drop half old))
-  rest-long = omega (arith, s .pre .0 .half-is, width-half N (s .pre .0 .wide), s .pre .1 .0 .1, s .pre .1 .0 .3, ap length (rest-part (length old) half half old refl refl), length-drop half old)
+  rest-long = omega (arith, s .pre .0 .half-is, width-half N (s .pre .0 .wide), s .pre .1 .0 .1, s .pre .1 .0 .2, ap length (rest-part (length old) half half old refl refl), length-drop half old)
 
 -- what was held, behind half a width of room
 module _ (p : tie.After-copy) where
   abbrev from : tie.Start
-  from = p .before .before .before .before .before .before
+  from = p .before .before .before
 
   abbrev copied : List ℤ
   copied = putMid (half from) (length (old from) - half from) (old from) (p .copy .last .1 .0)
@@ -55,9 +55,6 @@ module _ (p : tie.After-copy) where
 
   front-in : half from ≤ length copied
   front-in = omega (arith, ap length behind, front-le (half from) (take (half from) (old from)) (previous from) (sym (part-long _ (old from) (two-halves from))))
-
-  wide : p .before .before .before .before .widen .last .1 .0 ≡ block from
-  wide = p .before .before .before .before .widen .ensures
 
 -- the block's lower folded places in front of it
 module _ (f : tie.After-fold) where
@@ -69,7 +66,7 @@ module _ (f : tie.After-fold) where
 
   all : f .fold .last .1 .1 .1 .0 ++ drop (half source) (copied before) ≡ lower (N source) (block source) ++ previous source
   all =
-      ap₂ (λ (xs ys : List ℤ). xs ++ ys) (f .fold .ensures .0 ∙ ap (lower (N source)) (wide before))
+      ap₂ (λ (xs ys : List ℤ). xs ++ ys) (f .fold .ensures .0)
       (ap (drop (half source)) (behind before) ∙ drop-at (take (half source) (old source)) (previous source) (half source) (sym (part-long _ (old source) (two-halves source))))
 
 module _ (t : tie.After-stages) where
@@ -79,23 +76,20 @@ module _ (t : tie.After-stages) where
   made : t .stages .last .1 .1 .0 ≡ frame (N start) (previous start) (block start)
   made = t .stages .ensures ∙ ap (stages (N start)) (all (t .before .before .before .before)) ∙ frame-is (N start) (previous start) (block start)
 
-widen-requires : tie.Need-widen-requires
-widen-requires c κs = search needs
-
 mul-copy : tie.Need-mul-copy
 mul-copy c = search needs
 
 sub-copy : tie.Need-sub-copy
-sub-copy c = two-halves (c .before .before .before .before)
+sub-copy c = two-halves (c .before)
 
 part-copy-start : tie.Need-part-copy-start
-part-copy-start c = two-halves (c .before .before .before .before)
+part-copy-start c = two-halves (c .before)
 
 part-copy-end : tie.Need-part-copy-end
 part-copy-end c = search needs
 
 copy-requires : tie.Need-copy-requires
-copy-requires c κs = rest-long (c .before .before .before .before .before)
+copy-requires c κs = rest-long (c .before .before)
 
 slice-relend-prefix-fold : tie.Need-slice-relend-prefix-fold
 slice-relend-prefix-fold c = front-in (c .before .before)
@@ -109,10 +103,10 @@ fold-requires c κs =
     let s = from p in (
       s .pre .0,
       (
-        ap length (wide p) ∙ s .pre .1 .0 .0,
+        s .pre .1 .0 .0,
         (
           (sym (part-long _ (copied p) (front-in p)) ∙ s .pre .0 .half-is, s .pre .1 .0 .1),
-          subst (Within 50000) (sym (wide p)) (within-up (s .pre .1 .1 .1) (omega arith)),
+          within-up (s .pre .1 .1 .1) (omega arith),
         ),
       ),
     )
@@ -132,7 +126,7 @@ narrow-requires : tie.Need-narrow-requires
 narrow-requires c κs =
     let t = c .before .before .before in
     let s = start t in (
-      ap length (made t) ∙ length-frame (N s) (previous s) (block s) (s .pre .0 .wide) ∙ sym (s .pre .1 .0 .4),
+      ap length (made t) ∙ length-frame (N s) (previous s) (block s) (s .pre .0 .wide) ∙ sym (s .pre .1 .0 .3),
       subst (Within (2 ^ 30)) (sym (made t)) (frame-within (N s) (previous s) (block s) (s .pre .0 .wide) (s .pre .1 .0 .1) (s .pre .1 .1 .0) (s .pre .1 .1 .1)),
     )
 
@@ -145,20 +139,16 @@ same-length-2 c = search needs
 same-length-3 : tie.Need-same-length-3
 same-length-3 c = search needs
 
-same-length-4 : tie.Need-same-length-4
-same-length-4 c = search needs
-
 returns : tie.Need-returns
 returns c =
     let t = c .before .before .before .before .before in
     let f = t .before .before .before .before in
-    (f .fold .ensures .1 ∙ ap (held (N (source f))) (wide (before f)), c .before .narrow .ensures ∙ made t)
+    (f .fold .ensures .1, c .before .narrow .ensures ∙ made t)
 
 pub step-spec : {M : Type 1} → statement M
 step-spec =
     tie.close
     (tie.spec
-    widen-requires
     mul-copy
     sub-copy
     part-copy-start
@@ -172,5 +162,4 @@ step-spec =
     same-length
     same-length-2
     same-length-3
-    same-length-4
     returns)

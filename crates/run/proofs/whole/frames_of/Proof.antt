@@ -19,16 +19,15 @@ use Rattle.run.proofs.whole.frames_of.Statement.{statement}
 use Rattle.run.proofs.whole.frames_of.Tie as tie
 
 abbrev Inv-loop : tie.InvT-loop
-Inv-loop width half readings frames₀ held₀ wide₀ folded₀ at₀ left₀ frames held wide folded at left =
+Inv-loop width half readings frames₀ held₀ folded₀ at₀ left₀ frames held folded at left =
     (at + left * width ≡ length readings)
     × (length frames ≡ length readings + width)
     × (length held ≡ 64)
-    × (128 ≡ length wide)
     × (128 ≡ length folded)
     × Stepping width half at left readings frames₀ frames held
 
 abbrev μ-loop : tie.MeasureT-loop
-μ-loop width half readings frames₀ held₀ wide₀ folded₀ at₀ left₀ frames held wide folded at left =
+μ-loop width half readings frames₀ held₀ folded₀ at₀ left₀ frames held folded at left =
     left
 
 module _ (s : tie.Start Inv-loop μ-loop) where
@@ -43,7 +42,7 @@ module _ (s : tie.Start Inv-loop μ-loop) where
 
 module _ (k : tie.At-loop Inv-loop μ-loop) where
   abbrev from : tie.Start Inv-loop μ-loop
-  from = k .before .before .before .before
+  from = k .before .before .before
 
   abbrev place : ℕ
   place = k .loop .at
@@ -61,11 +60,8 @@ module _ (k : tie.At-loop Inv-loop μ-loop) where
   held-le : half from ≤ length kept
   held-le = half-room (N from) (half from) kept (from .pre .0) (k .loop .inv .2)
 
-  wide-le : N from ≤ length (k .loop .wide)
-  wide-le = width-room (N from) (k .loop .wide) (from .pre .1 .0 .wide) (k .loop .inv .3)
-
   folded-le : N from ≤ length (k .loop .folded)
-  folded-le = width-room (N from) (k .loop .folded) (from .pre .1 .0 .wide) (k .loop .inv .4)
+  folded-le = width-room (N from) (k .loop .folded) (from .pre .1 .0 .wide) (k .loop .inv .3)
 
 -- a block is left
 module _ (i : tie.In-loop Inv-loop μ-loop) where
@@ -110,21 +106,17 @@ nothing-held-requires c κs = tt
 of-128-requires : tie.Need-of-128-requires Inv-loop μ-loop
 of-128-requires c κs = tt
 
-of-128-requires-2 : tie.Need-of-128-requires-2 Inv-loop μ-loop
-of-128-requires-2 c κs = tt
-
 div-left : tie.Need-div-left Inv-loop μ-loop
-div-left c = let s = c .before .before .before in width-pos (N s) (s .pre .1 .0 .wide)
+div-left c = let s = c .before .before in width-pos (N s) (s .pre .1 .0 .wide)
 
 loop-holds : tie.Need-loop-holds Inv-loop μ-loop
 loop-holds c =
-    let s = c .before .before .before in
-    let h = c .before .before in (
+    let s = c .before .before in
+    let h = c .before in (
       omega (arith, s .pre .1 .0 .whole),
       s .pre .1 .1 .0,
       ap length (h .nothing-held .ensures) ∙ length-replicate 64 (pos 0),
-      c .before .of-128 .ensures,
-      c .of-1282 .ensures,
+      c .of-128 .ensures,
       stepping-first (N s) (half s) (readings s) (s .args .frames .now) (h .nothing-held .result) (s .pre .0) (s .pre .1 .0) (s .pre .1 .1 .1) (h .nothing-held .ensures),
     )
 
@@ -149,20 +141,14 @@ array-borrow-prefix-held c = held-le (c .before .before)
 slice-aggregate-step : tie.Need-slice-aggregate-step Inv-loop μ-loop
 slice-aggregate-step c = part-long _ (kept (c .before .before .before)) (held-le (c .before .before .before))
 
-array-borrow-prefix-wide : tie.Need-array-borrow-prefix-wide Inv-loop μ-loop
-array-borrow-prefix-wide c = wide-le (c .before .before .before)
+array-borrow-prefix-folded : tie.Need-array-borrow-prefix-folded Inv-loop μ-loop
+array-borrow-prefix-folded c = folded-le (c .before .before .before)
 
 slice-aggregate-step-2 : tie.Need-slice-aggregate-step-2 Inv-loop μ-loop
-slice-aggregate-step-2 c = part-long _ (c .before .before .before .before .loop .wide) (wide-le (c .before .before .before .before))
-
-array-borrow-prefix-folded : tie.Need-array-borrow-prefix-folded Inv-loop μ-loop
-array-borrow-prefix-folded c = folded-le (c .before .before .before .before)
-
-slice-aggregate-step-3 : tie.Need-slice-aggregate-step-3 Inv-loop μ-loop
-slice-aggregate-step-3 c = part-long _ (c .before .before .before .before .before .loop .folded) (folded-le (c .before .before .before .before .before))
+slice-aggregate-step-2 c = part-long _ (c .before .before .before .before .loop .folded) (folded-le (c .before .before .before .before))
 
 mul-step-2 : tie.Need-mul-step-2 Inv-loop μ-loop
-mul-step-2 c = record { fits = omega (arith, place-le (c .before .before .before .before .before)) }
+mul-step-2 c = record { fits = omega (arith, place-le (c .before .before .before .before)) }
 
 sub-step-2 : tie.Need-sub-step-2 Inv-loop μ-loop
 sub-step-2 c = omega arith
@@ -171,11 +157,11 @@ part-step-start-2 : tie.Need-part-step-start-2 Inv-loop μ-loop
 part-step-start-2 c = omega arith
 
 part-step-end-2 : tie.Need-part-step-end-2 Inv-loop μ-loop
-part-step-end-2 c = in-frames (c .before .before .before .before)
+part-step-end-2 c = in-frames (c .before .before .before)
 
 step-requires : tie.Need-step-requires Inv-loop μ-loop
 step-requires c κs =
-    let i = c .before .before .before .before .before in
+    let i = c .before .before .before .before in
     let k = at i in
     let s = from k in
     let same = part-is (place k) (N s) (readings s) in (
@@ -184,13 +170,12 @@ step-requires c κs =
         (
           ap length same ∙ block-long (place k) (N s) (readings s) (in-readings i),
           sym (part-long _ (kept k) (held-le k)) ∙ s .pre .0,
-          sym (part-long _ (k .loop .wide) (wide-le k)),
           sym (part-long _ (k .loop .folded) (folded-le k)),
           ap length (part-is (place k) (N s) (frames k)) ∙ block-long (place k) (N s) (frames k) (in-frames i),
         ),
         (
-          kept-within (N s) (half s) (place k) (k .loop .left) (readings s) _ (frames k) (kept k) (k .loop .inv .5),
-          subst (Within readingLimit) (sym same) (next-within (N s) (half s) (place k) (k .loop .left) (readings s) _ (frames k) (kept k) (k .loop .inv .5) (i .loop-test .taken) (k .loop .inv .0) (k .loop .inv .1)),
+          kept-within (N s) (half s) (place k) (k .loop .left) (readings s) _ (frames k) (kept k) (k .loop .inv .4),
+          subst (Within readingLimit) (sym same) (next-within (N s) (half s) (place k) (k .loop .left) (readings s) _ (frames k) (kept k) (k .loop .inv .4) (i .loop-test .taken) (k .loop .inv .0) (k .loop .inv .1)),
         ),
       ),
     )
@@ -203,17 +188,16 @@ loop-less c = omega arith
 
 loop-again : tie.Need-loop-again Inv-loop μ-loop
 loop-again c =
-    let t = c .before .before .before .before in
-    let i = c .before .before .before .before .before .before .before .before .before .before in
+    let t = c .before .before .before in
+    let i = c .before .before .before .before .before .before .before .before in
     let k = at i in
     let s = from k in
     let same = part-is (place k) (N s) (readings s) in (
       block-next (place k) (k .loop .left) (N s) _ (k .loop .inv .0) (i .loop-test .taken),
       c .frames .given .1 ∙ k .loop .inv .1,
-      front-same (half s) (kept k) (t .step .last .1 .1 .1 .0) (held-le k) (c .before .before .before .held2 .given) ∙ k .loop .inv .2,
-      k .loop .inv .3 ∙ sym (front-same (N s) (k .loop .wide) (t .step .last .1 .1 .1 .1 .0) (wide-le k) (c .before .before .wide2 .given)),
-      k .loop .inv .4 ∙ sym (front-same (N s) (k .loop .folded) (t .step .last .1 .1 .1 .1 .1 .0) (folded-le k) (c .before .folded2 .given)),
-      stepping-next (N s) (half s) (place k) (k .loop .left) (readings s) _ (frames k) (kept k) (k .loop .inv .5) (i .loop-test .taken) (k .loop .inv .0) (k .loop .inv .1) _ _
+      front-same (half s) (kept k) (t .step .last .1 .1 .1 .0) (held-le k) (c .before .before .held2 .given) ∙ k .loop .inv .2,
+      k .loop .inv .3 ∙ sym (front-same (N s) (k .loop .folded) (t .step .last .1 .1 .1 .1 .0) (folded-le k) (c .before .folded2 .given)),
+      stepping-next (N s) (half s) (place k) (k .loop .left) (readings s) _ (frames k) (kept k) (k .loop .inv .4) (i .loop-test .taken) (k .loop .inv .0) (k .loop .inv .1) _ _
           (t .step .ensures .1 ∙ ap (frame (N s) (take (half s) (kept k))) same)
           (front (half s) (t .step .last .1 .1 .1 .0) (drop (half s) (kept k)) (ap length (t .step .ensures .0) ∙ length-held (N s) _ ∙ sym (s .pre .0)) ∙ t .step .ensures .0 ∙ ap (held (N s)) same),
     )
@@ -224,42 +208,36 @@ zero-block-requires c κs = tt
 array-share-prefix-zeros : tie.Need-array-share-prefix-zeros Inv-loop μ-loop
 array-share-prefix-zeros c = zeros-le c
 
-slice-aggregate-step-4 : tie.Need-slice-aggregate-step-4 Inv-loop μ-loop
-slice-aggregate-step-4 c = part-long _ (c .before .zero-block .result) (zeros-le (c .before))
+slice-aggregate-step-3 : tie.Need-slice-aggregate-step-3 Inv-loop μ-loop
+slice-aggregate-step-3 c = part-long _ (c .before .zero-block .result) (zeros-le (c .before))
 
 array-borrow-prefix-held-2 : tie.Need-array-borrow-prefix-held-2 Inv-loop μ-loop
 array-borrow-prefix-held-2 c = held-le (c .before .before .before)
 
-slice-aggregate-step-5 : tie.Need-slice-aggregate-step-5 Inv-loop μ-loop
-slice-aggregate-step-5 c = part-long _ (kept (c .before .before .before .before)) (held-le (c .before .before .before .before))
-
-array-borrow-prefix-wide-2 : tie.Need-array-borrow-prefix-wide-2 Inv-loop μ-loop
-array-borrow-prefix-wide-2 c = wide-le (c .before .before .before .before)
-
-slice-aggregate-step-6 : tie.Need-slice-aggregate-step-6 Inv-loop μ-loop
-slice-aggregate-step-6 c = part-long _ (c .before .before .before .before .before .loop .wide) (wide-le (c .before .before .before .before .before))
+slice-aggregate-step-4 : tie.Need-slice-aggregate-step-4 Inv-loop μ-loop
+slice-aggregate-step-4 c = part-long _ (kept (c .before .before .before .before)) (held-le (c .before .before .before .before))
 
 array-borrow-prefix-folded-2 : tie.Need-array-borrow-prefix-folded-2 Inv-loop μ-loop
-array-borrow-prefix-folded-2 c = folded-le (c .before .before .before .before .before)
+array-borrow-prefix-folded-2 c = folded-le (c .before .before .before .before)
 
-slice-aggregate-step-7 : tie.Need-slice-aggregate-step-7 Inv-loop μ-loop
-slice-aggregate-step-7 c = part-long _ (c .before .before .before .before .before .before .loop .folded) (folded-le (c .before .before .before .before .before .before))
+slice-aggregate-step-5 : tie.Need-slice-aggregate-step-5 Inv-loop μ-loop
+slice-aggregate-step-5 c = part-long _ (c .before .before .before .before .before .loop .folded) (folded-le (c .before .before .before .before .before))
 
 mul-step-3 : tie.Need-mul-step-3 Inv-loop μ-loop
-mul-step-3 c = record { fits = omega (arith, place-le (c .before .before .before .before .before .before)) }
+mul-step-3 c = record { fits = omega (arith, place-le (c .before .before .before .before .before)) }
 
 sub-step-3 : tie.Need-sub-step-3 Inv-loop μ-loop
-sub-step-3 c = omega (arith, last-at (c .before .before .before .before))
+sub-step-3 c = omega (arith, last-at (c .before .before .before))
 
 part-step-start-3 : tie.Need-part-step-start-3 Inv-loop μ-loop
-part-step-start-3 c = omega (arith, last-at (c .before .before .before .before))
+part-step-start-3 c = omega (arith, last-at (c .before .before .before))
 
 part-step-end-3 : tie.Need-part-step-end-3 Inv-loop μ-loop
 part-step-end-3 c = omega arith
 
 step-requires-2 : tie.Need-step-requires-2 Inv-loop μ-loop
 step-requires-2 c κs =
-    let z = c .before .before .before .before .before in
+    let z = c .before .before .before .before in
     let k = over z in
     let s = from k in (
       record { half-is = s .pre .0; wide = s .pre .1 .0 .wide },
@@ -267,27 +245,26 @@ step-requires-2 c κs =
         (
           sym (part-long _ (z .zero-block .result) (zeros-le z)),
           sym (part-long _ (kept k) (held-le k)) ∙ s .pre .0,
-          sym (part-long _ (k .loop .wide) (wide-le k)),
           sym (part-long _ (k .loop .folded) (folded-le k)),
           last-long z,
         ),
         (
-          kept-within (N s) (half s) (place k) (k .loop .left) (readings s) _ (frames k) (kept k) (k .loop .inv .5),
+          kept-within (N s) (half s) (place k) (k .loop .left) (readings s) _ (frames k) (kept k) (k .loop .inv .4),
           subst (Within readingLimit) (sym (last-is z)) (zero-within (N s)),
         ),
       ),
     )
 
 same-length : tie.Need-same-length Inv-loop μ-loop
-same-length c = let k = over (c .before .before .before .before .before .before .before .before .before .before) in c .frames2 .given .1 ∙ k .loop .inv .1 ∙ sym (from k .pre .1 .1 .0)
+same-length c = let k = over (c .before .before .before .before .before .before .before .before) in c .frames2 .given .1 ∙ k .loop .inv .1 ∙ sym (from k .pre .1 .1 .0)
 
 returns : tie.Need-returns Inv-loop μ-loop
 returns c =
-    let z = c .before .before .before .before .before .before .before .before .before .before in
+    let z = c .before .before .before .before .before .before .before .before in
     let k = over z in
     let s = from k in
-    stepping-end (N s) (half s) (place k) (k .loop .left) (readings s) _ (frames k) (kept k) (k .loop .inv .5) (none z) (k .loop .inv .0) (k .loop .inv .1) _
-    (c .before .before .before .before .step2 .ensures .1 ∙ ap (frame (N s) (take (half s) (kept k))) (last-is z))
+    stepping-end (N s) (half s) (place k) (k .loop .left) (readings s) _ (frames k) (kept k) (k .loop .inv .4) (none z) (k .loop .inv .0) (k .loop .inv .1) _
+    (c .before .before .before .step2 .ensures .1 ∙ ap (frame (N s) (take (half s) (kept k))) (last-is z))
 
 pub frames-of-spec : {M : Type 1} → statement M
 frames-of-spec =
@@ -297,7 +274,6 @@ frames-of-spec =
     μ-loop
     nothing-held-requires
     of-128-requires
-    of-128-requires-2
     div-left
     loop-holds
     add-end
@@ -307,10 +283,8 @@ frames-of-spec =
     part-step-end
     array-borrow-prefix-held
     slice-aggregate-step
-    array-borrow-prefix-wide
-    slice-aggregate-step-2
     array-borrow-prefix-folded
-    slice-aggregate-step-3
+    slice-aggregate-step-2
     mul-step-2
     sub-step-2
     part-step-start-2
@@ -321,13 +295,11 @@ frames-of-spec =
     loop-again
     zero-block-requires
     array-share-prefix-zeros
-    slice-aggregate-step-4
+    slice-aggregate-step-3
     array-borrow-prefix-held-2
-    slice-aggregate-step-5
-    array-borrow-prefix-wide-2
-    slice-aggregate-step-6
+    slice-aggregate-step-4
     array-borrow-prefix-folded-2
-    slice-aggregate-step-7
+    slice-aggregate-step-5
     mul-step-3
     sub-step-3
     part-step-start-3
