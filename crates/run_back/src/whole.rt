@@ -76,9 +76,8 @@ fn answer_of(
     wide: &mut [i64],
     block: &mut [i32],
 ) -> Answer
-    requires { ⌜ half ≡ halfWidth width ⌝ }
+    requires { ⌜ (half ≡ halfWidth width) × (now held ≡ zeros (halfWidth width)) ⌝ }
     requires { ⌜ Frames width (now frames) ⌝ }
-    requires { ⌜ now held ≡ zeros (halfWidth width) ⌝ }
     requires { ⌜ (length (now folded) ≡ width) × (length (now wide) ≡ width) × (length (now block) ≡ width) ⌝ }
     ensures { λ r. ⌜ told r ≡ firstAnswer width (now (frames .entry)) (zeros (length (now (frames .entry)) - width)) ⌝ }
 {

@@ -138,7 +138,7 @@ module _ (e : tie.After-loop Inv-loop μ-loop) where
   some z = omega (arith, over .loop .inv .4, none, from over .pre .1 .0 .some)
 
 held-long : (s : tie.Start Inv-loop μ-loop) → length (s .args .held .now) ≡ halfWidth (N s)
-held-long s = ap length (s .pre .1 .1 .0) ∙ length-replicate (halfWidth (N s)) (pos 0)
+held-long s = ap length (s .pre .0 .1) ∙ length-replicate (halfWidth (N s)) (pos 0)
 
 div-left : tie.Need-div-left Inv-loop μ-loop
 div-left c = width-pos (N c) (c .pre .1 .0 .wide)
@@ -147,12 +147,12 @@ loop-holds : tie.Need-loop-holds Inv-loop μ-loop
 unfolding firstAnswer
 loop-holds c = (
   omega (arith, c .pre .1 .0 .whole),
-  c .pre .1 .1 .1 .0,
-  c .pre .1 .1 .1 .1,
-  c .pre .1 .1 .1 .2,
+  c .pre .1 .1 .0,
+  c .pre .1 .1 .1,
+  c .pre .1 .1 .2,
   omega arith,
-  subst (ReachedBack (N c) 0) (sym (c .pre .1 .1 .0)) (back-first (N c) (c .pre .1 .0 .wide)),
-  ap (λ (r : Run). answerFrom (N c) 0 r (length (frames c) / N c) (frames c) (outs (N c) (frames c))) (started-back (N c) (c .pre .1 .0 .wide) ∙ ap (opened (N c) 0) (sym (c .pre .1 .1 .0))),
+  subst (ReachedBack (N c) 0) (sym (c .pre .0 .1)) (back-first (N c) (c .pre .1 .0 .wide)),
+  ap (λ (r : Run). answerFrom (N c) 0 r (length (frames c) / N c) (frames c) (outs (N c) (frames c))) (started-back (N c) (c .pre .1 .0 .wide) ∙ ap (opened (N c) 0) (sym (c .pre .0 .1))),
 )
 
 add-end : tie.Need-add-end Inv-loop μ-loop
@@ -175,7 +175,7 @@ undo-requires c κs =
     let i = c .before .before .before .before .before in
     let k = at i in
     let s = from k in (
-      record { half-is = s .pre .0; wide = s .pre .1 .0 .wide },
+      record { half-is = s .pre .0 .0; wide = s .pre .1 .0 .wide },
       (
         (
           ap length (part-is (place k) (N s) (frames s)) ∙ block-long (place k) (N s) (frames s) (inner i),
@@ -203,13 +203,13 @@ same-length : tie.Need-same-length Inv-loop μ-loop
 same-length c = let a = c .before .before .before in let k = here a in a .before .before .before .before .held .given ∙ k .loop .inv .5 .long ∙ sym (held-long (from k))
 
 same-length-2 : tie.Need-same-length-2 Inv-loop μ-loop
-same-length-2 c = let a = c .before .before .before in let k = here a in a .before .before .before .folded .given ∙ k .loop .inv .1 ∙ sym (from k .pre .1 .1 .1 .0)
+same-length-2 c = let a = c .before .before .before in let k = here a in a .before .before .before .folded .given ∙ k .loop .inv .1 ∙ sym (from k .pre .1 .1 .0)
 
 same-length-3 : tie.Need-same-length-3 Inv-loop μ-loop
-same-length-3 c = let a = c .before .before .before in let k = here a in a .before .before .wide .given ∙ k .loop .inv .2 ∙ sym (from k .pre .1 .1 .1 .1)
+same-length-3 c = let a = c .before .before .before in let k = here a in a .before .before .wide .given ∙ k .loop .inv .2 ∙ sym (from k .pre .1 .1 .1)
 
 same-length-4 : tie.Need-same-length-4 Inv-loop μ-loop
-same-length-4 c = let a = c .before .before .before in let k = here a in a .before .block .given ∙ k .loop .inv .3 ∙ sym (from k .pre .1 .1 .1 .2)
+same-length-4 c = let a = c .before .before .before in let k = here a in a .before .block .given ∙ k .loop .inv .3 ∙ sym (from k .pre .1 .1 .2)
 
 returns : tie.Need-returns Inv-loop μ-loop
 returns c =
@@ -262,13 +262,13 @@ same-length-5 : tie.Need-same-length-5 Inv-loop μ-loop
 same-length-5 c = let k = c .before .before .before in k .loop .inv .5 .long ∙ sym (held-long (from k))
 
 same-length-6 : tie.Need-same-length-6 Inv-loop μ-loop
-same-length-6 c = let k = c .before .before .before in k .loop .inv .1 ∙ sym (from k .pre .1 .1 .1 .0)
+same-length-6 c = let k = c .before .before .before in k .loop .inv .1 ∙ sym (from k .pre .1 .1 .0)
 
 same-length-7 : tie.Need-same-length-7 Inv-loop μ-loop
-same-length-7 c = let k = c .before .before .before in k .loop .inv .2 ∙ sym (from k .pre .1 .1 .1 .1)
+same-length-7 c = let k = c .before .before .before in k .loop .inv .2 ∙ sym (from k .pre .1 .1 .1)
 
 same-length-8 : tie.Need-same-length-8 Inv-loop μ-loop
-same-length-8 c = let k = c .before .before .before in k .loop .inv .3 ∙ sym (from k .pre .1 .1 .1 .2)
+same-length-8 c = let k = c .before .before .before in k .loop .inv .3 ∙ sym (from k .pre .1 .1 .2)
 
 returns-2 : tie.Need-returns-2 Inv-loop μ-loop
 returns-2 c =
