@@ -11,7 +11,6 @@ use Rattle.integers.proofs.PlaceLaws.{within-all}
 use Rattle.tables.specs.Widths.{halfWidth}
 use Rattle.steps.specs.Limits.{foldedLimit}
 use Rattle.lifting.specs.Gate.{told, firstBeyond}
-use Rattle.lifting.specs.declared.gate.Answer.{Answer}
 use Rattle.lifting.specs.declared.gate.Found.{Found}
 use Rattle.lifting.specs.declared.gate.Found.the-variants.{At, Nothing}
 use Rattle.run.specs.declared.record.Run.{Run}
@@ -20,7 +19,7 @@ use Rattle.run.specs.Gate.{Given}
 use Rattle.run.proofs.RecordLaws.{take-filled}
 use Rattle.run_back.specs.declared.undo.Fault.{Fault}
 use Rattle.run_back.specs.declared.undo.Fault.the-variants.{Range, Folded, Halves, Unfolded, Clear}
-use Rattle.run_back.specs.Faults.{toldFault, countAfter}
+use Rattle.run_back.specs.Faults.{toldFault, countAfter, toldHeld}
 use Rattle.run_back.specs.Back.{undoneIn, takenBack, firstHeld, endedBack}
 use Rattle.run_back.specs.Whole.{placed}
 use Rattle.run_back.proofs.AnswerLaws.{undone-alike}
@@ -78,10 +77,10 @@ module _ (N count : ℕ) (low : List ℤ) (r : ReachedBack N count low) (n : cou
   unfolding firstHeld opened
   held-asked f e = ap (λ (xs : List ℤ). firstBeyond (pos 0) xs 0) (take-filled (halfWidth N) low (r .long)) ∙ e
 
-  pub end-refused : (before place : ℕ) → firstBeyond (pos 0) low 0 ≡ At place → told (Answer.Halves (before + place)) ≡ placed N before (endedBack (opened N count low) .0)
-  unfolding told placed opened
-  end-refused before place e = ap (λ (g : Given). placed N before (g .0)) (end-held-refused (opened N count low) (back-sound N count low r) refl n place (held-asked (At place) e))
-
-  pub end-works : (before : ℕ) → firstBeyond (pos 0) low 0 ≡ Nothing → told Answer.Done ≡ placed N before (endedBack (opened N count low) .0)
-  unfolding told placed opened
-  end-works before e = ap (λ (g : Given). placed N before (g .0)) (ended-done (opened N count low) (back-sound N count low r) refl n (held-asked Nothing e))
+  pub end-told : (before : ℕ) → toldHeld before (firstBeyond (pos 0) low 0) ≡ placed N before (endedBack (opened N count low) .0)
+  unfolding told placed opened toldHeld
+  end-told before = by (firstBeyond (pos 0) low 0) refl
+    where
+      by : (f : Found) → firstBeyond (pos 0) low 0 ≡ f → toldHeld before f ≡ placed N before (endedBack (opened N count low) .0)
+      by (At place) e = ap (λ (g : Given). placed N before (g .0)) (end-held-refused (opened N count low) (back-sound N count low r) refl n place (held-asked (At place) e))
+      by Nothing e = ap (λ (g : Given). placed N before (g .0)) (ended-done (opened N count low) (back-sound N count low r) refl n (held-asked Nothing e))

@@ -1,5 +1,7 @@
 -- What questions 9 to 12 find in a frame, as the code answers it: the paper's number and place.
-use Prim.Native.Nat.{ℕ, suc}
+use Prim.Native.Nat.{ℕ, suc, _+_}
+use Rattle.lifting.specs.declared.gate.Found.{Found}
+use Rattle.lifting.specs.declared.gate.Found.the-variants.{At, Nothing}
 use Rattle.run_back.specs.declared.undo.Fault.{Fault}
 use Rattle.run_back.specs.declared.undo.Fault.the-variants.{Range, Folded, Halves, Unfolded, Clear}
 
@@ -17,3 +19,8 @@ countAfter count (Folded place) = count
 countAfter count (Halves place) = count
 countAfter count (Unfolded place) = count
 countAfter count Clear = suc count
+
+-- question 11 at the finish, with its place counted through the run
+unfoldable pub toldHeld : ℕ → Found → ℕ × ℕ
+toldHeld before (At place) = (11, before + place)
+toldHeld before Nothing = (0, 0)

@@ -1,13 +1,15 @@
 // A whole run back over lent slices, for any caller.
 ghost use mathlib.Core.Path.{_≡_};
 ghost use Prim.Native.Nat.{_+_, _-_, _/_, _≤_};
+ghost use lib.IntN.{pos};
 ghost use lib.ListN.{length, drop};
 ghost use Rattle.integers.specs.Places.{Within};
 ghost use Rattle.tables.specs.Widths.{halfWidth};
 ghost use Rattle.steps.specs.Limits.{foldedLimit};
-ghost use Rattle.lifting.specs.Gate.{told};
+ghost use Rattle.lifting.specs.Gate.{told, firstBeyond};
 ghost use Rattle.run.specs.Record.{zeros, opened};
 ghost use Rattle.run.specs.Ready.{Blocks};
+ghost use Rattle.run_back.specs.Faults.{toldHeld};
 ghost use Rattle.run_back.specs.Whole.{answerFrom, outputsFrom, firstAnswer, allOutputs, wholeBack};
 ghost use Rattle.run_back.specs.Ready.{Frames};
 use crate::back;
@@ -52,6 +54,18 @@ fn spare() -> [i32; 128]
     [0; 128]
 }
 
+// Question 11 at the finish, which counts with the last frame.
+fn ended(offset: usize, held: &[i64]) -> Answer
+    requires { ⌜ (offset ≤ 8388736) × (length (now held) ≤ 64) ⌝ }
+    ensures { λ r. ⌜ told r ≡ toldHeld offset (firstBeyond (pos 0) (now (held .entry)) 0) ⌝ }
+{
+    let lower = gate::first_beyond(held, 0);
+    if let Found::At(place) = lower {
+        return Answer::Halves(offset + place);
+    }
+    Answer::Done
+}
+
 // The answer of the first refused call of a fresh run, where block is room for what a frame writes.
 fn answer_of(
     width: usize,
@@ -62,9 +76,8 @@ fn answer_of(
     wide: &mut [i64],
     block: &mut [i32],
 ) -> Answer
-    requires { ⌜ half ≡ halfWidth width ⌝ }
+    requires { ⌜ (half ≡ halfWidth width) × (now held ≡ zeros (halfWidth width)) ⌝ }
     requires { ⌜ Frames width (now frames) ⌝ }
-    requires { ⌜ now held ≡ zeros (halfWidth width) ⌝ }
     requires { ⌜ (length (now folded) ≡ width) × (length (now wide) ≡ width) × (length (now block) ≡ width) ⌝ }
     ensures { λ r. ⌜ told r ≡ firstAnswer width (now (frames .entry)) (zeros (length (now (frames .entry)) - width)) ⌝ }
 {
@@ -91,11 +104,7 @@ fn answer_of(
         count += 1;
         left -= 1;
     }
-    let lower = gate::first_beyond(held, 0);
-    if let Found::At(place) = lower {
-        return Answer::Halves(at - width + place);
-    }
-    Answer::Done
+    ended(at - width, held)
 }
 
 // The answer of the first refused call, with nothing written.

@@ -1,5 +1,4 @@
 -- `run_back::whole::answer_of` meets its contract: the answer of all calls is that of the calls left.
-use borrow.Author.Needs.{needs}
 use native.Mathlib.Omega.{arith}
 use mathlib.Core.Path.{_≡_, sym, ap, ap₂, subst, _∙_}
 use mathlib.Core.List.{List, _++_}
@@ -9,18 +8,18 @@ use lib.ListN.{length, take, drop, length-append, length-replicate}
 use lib.Seq.{drop-drop}
 use Rattle.tables.specs.Widths.{halfWidth}
 use Rattle.tables.proofs.ByWidth.{half-width-le}
-use Rattle.lifting.specs.Gate.{told, firstBeyond}
+use Rattle.lifting.specs.Gate.{told}
 use Rattle.run.specs.declared.record.Run.{Run}
 use Rattle.run.specs.Record.{frameLimit, zeros, opened}
 use Rattle.run.specs.Gate.{Given}
-use Rattle.run.proofs.FaultLaws.{width-pos, block-next, block-in, no-block, block-long, part-is, beyond-at}
+use Rattle.run.proofs.FaultLaws.{width-pos, block-next, block-in, no-block, block-long, part-is}
 use Rattle.run_back.specs.Faults.{toldFault, countAfter}
 use Rattle.run_back.specs.Back.{undoneIn, takenBack}
 use Rattle.run_back.specs.Whole.{answerFrom, firstAnswer}
 use Rattle.run_back.proofs.AnswerLaws.{taken-place}
 use Rattle.run_back.proofs.BackLaws.{started-back, ReachedBack, back-first}
 use Rattle.run_back.proofs.LoopLaws.{few-numbers, one-frame, answer-here, answer-next, answer-end}
-use Rattle.run_back.proofs.Undoing.{low-within, frame-taken, run-after, reached-after, end-refused, end-works}
+use Rattle.run_back.proofs.Undoing.{low-within, frame-taken, run-after, reached-after, end-told}
 use Rattle.run_back.proofs.whole.answer_of.Statement.{statement}
 use Rattle.run_back.proofs.whole.answer_of.Tie as tie
 
@@ -122,12 +121,12 @@ module _ (a : tie.After-answered Inv-loop μ-loop) where
   more = omega (arith, inside .loop-test .taken)
 
 -- no frame is left
-module _ (f : tie.After-first-beyond Inv-loop μ-loop) where
+module _ (e : tie.After-loop Inv-loop μ-loop) where
   abbrev over : tie.At-loop Inv-loop μ-loop
-  over = f .before .before .before
+  over = e .before
 
   none : over .loop .left ≡ 0
-  none = omega (arith, f .before .before .loop-test .left)
+  none = omega (arith, e .loop-test .left)
 
   last-le : N (from over) ≤ place over
   last-le = omega (arith, no-block (place over) (over .loop .left) (N (from over)) _ (over .loop .inv .0) none, one-frame (N (from over)) (frames (from over)) (from over .pre .1 .0))
@@ -136,13 +135,10 @@ module _ (f : tie.After-first-beyond Inv-loop μ-loop) where
   place-le = omega (arith, over .loop .inv .0, few-numbers (N (from over)) (frames (from over)) (from over .pre .1 .0))
 
   some : over .loop .count ≡ 0 → ⊥
-  some e = omega (arith, over .loop .inv .4, none, from over .pre .1 .0 .some)
-
-  seen : firstBeyond (pos 0) (low over) 0 ≡ f .first-beyond .result
-  seen = sym (f .first-beyond .ensures)
+  some z = omega (arith, over .loop .inv .4, none, from over .pre .1 .0 .some)
 
 held-long : (s : tie.Start Inv-loop μ-loop) → length (s .args .held .now) ≡ halfWidth (N s)
-held-long s = ap length (s .pre .1 .1 .0) ∙ length-replicate (halfWidth (N s)) (pos 0)
+held-long s = ap length (s .pre .0 .1) ∙ length-replicate (halfWidth (N s)) (pos 0)
 
 div-left : tie.Need-div-left Inv-loop μ-loop
 div-left c = width-pos (N c) (c .pre .1 .0 .wide)
@@ -151,12 +147,12 @@ loop-holds : tie.Need-loop-holds Inv-loop μ-loop
 unfolding firstAnswer
 loop-holds c = (
   omega (arith, c .pre .1 .0 .whole),
-  c .pre .1 .1 .1 .0,
-  c .pre .1 .1 .1 .1,
-  c .pre .1 .1 .1 .2,
+  c .pre .1 .1 .0,
+  c .pre .1 .1 .1,
+  c .pre .1 .1 .2,
   omega arith,
-  subst (ReachedBack (N c) 0) (sym (c .pre .1 .1 .0)) (back-first (N c) (c .pre .1 .0 .wide)),
-  ap (λ (r : Run). answerFrom (N c) 0 r (length (frames c) / N c) (frames c) (outs (N c) (frames c))) (started-back (N c) (c .pre .1 .0 .wide) ∙ ap (opened (N c) 0) (sym (c .pre .1 .1 .0))),
+  subst (ReachedBack (N c) 0) (sym (c .pre .0 .1)) (back-first (N c) (c .pre .1 .0 .wide)),
+  ap (λ (r : Run). answerFrom (N c) 0 r (length (frames c) / N c) (frames c) (outs (N c) (frames c))) (started-back (N c) (c .pre .1 .0 .wide) ∙ ap (opened (N c) 0) (sym (c .pre .0 .1))),
 )
 
 add-end : tie.Need-add-end Inv-loop μ-loop
@@ -179,7 +175,7 @@ undo-requires c κs =
     let i = c .before .before .before .before .before in
     let k = at i in
     let s = from k in (
-      record { half-is = s .pre .0; wide = s .pre .1 .0 .wide },
+      record { half-is = s .pre .0 .0; wide = s .pre .1 .0 .wide },
       (
         (
           ap length (part-is (place k) (N s) (frames s)) ∙ block-long (place k) (N s) (frames s) (inner i),
@@ -207,13 +203,13 @@ same-length : tie.Need-same-length Inv-loop μ-loop
 same-length c = let a = c .before .before .before in let k = here a in a .before .before .before .before .held .given ∙ k .loop .inv .5 .long ∙ sym (held-long (from k))
 
 same-length-2 : tie.Need-same-length-2 Inv-loop μ-loop
-same-length-2 c = let a = c .before .before .before in let k = here a in a .before .before .before .folded .given ∙ k .loop .inv .1 ∙ sym (from k .pre .1 .1 .1 .0)
+same-length-2 c = let a = c .before .before .before in let k = here a in a .before .before .before .folded .given ∙ k .loop .inv .1 ∙ sym (from k .pre .1 .1 .0)
 
 same-length-3 : tie.Need-same-length-3 Inv-loop μ-loop
-same-length-3 c = let a = c .before .before .before in let k = here a in a .before .before .wide .given ∙ k .loop .inv .2 ∙ sym (from k .pre .1 .1 .1 .1)
+same-length-3 c = let a = c .before .before .before in let k = here a in a .before .before .wide .given ∙ k .loop .inv .2 ∙ sym (from k .pre .1 .1 .1)
 
 same-length-4 : tie.Need-same-length-4 Inv-loop μ-loop
-same-length-4 c = let a = c .before .before .before in let k = here a in a .before .block .given ∙ k .loop .inv .3 ∙ sym (from k .pre .1 .1 .1 .2)
+same-length-4 c = let a = c .before .before .before in let k = here a in a .before .block .given ∙ k .loop .inv .3 ∙ sym (from k .pre .1 .1 .2)
 
 returns : tie.Need-returns Inv-loop μ-loop
 returns c =
@@ -256,64 +252,32 @@ loop-again c =
           (run-after (N s) (k .loop .count) (low k) (kept a) (part a) (k .loop .block) _ (step a .undo .result) (k .loop .inv .5) (counted i) (kept-long a) (undone a) none),
     )
 
-first-beyond-requires : tie.Need-first-beyond-requires Inv-loop μ-loop
-first-beyond-requires c κs = search needs
+sub-ended : tie.Need-sub-ended Inv-loop μ-loop
+sub-ended c = last-le c
 
-enum-known-lower : tie.Need-enum-known-lower Inv-loop μ-loop
-enum-known-lower c = search needs
-
-sub-t33 : tie.Need-sub-t33 Inv-loop μ-loop
-sub-t33 c = last-le (c .before .before .before)
-
-add-t34 : tie.Need-add-t34 Inv-loop μ-loop
-add-t34 c =
-    let f = c .before .before .before in
-    let k = over f in
-    record { fits = omega (arith, place-le f, k .loop .inv .5 .long, half-width-le (N (from k)), beyond-at (pos 0) (low k) _ (seen f ∙ c .before .lower .given .1)) }
+ended-requires : tie.Need-ended-requires Inv-loop μ-loop
+ended-requires c κs = let k = over (c .before) in (omega (arith, place-le (c .before)), omega (arith, k .loop .inv .5 .long, half-width-le (N (from k))))
 
 same-length-5 : tie.Need-same-length-5 Inv-loop μ-loop
-same-length-5 c = let k = c .before .before .before .before .before .before in k .loop .inv .5 .long ∙ sym (held-long (from k))
+same-length-5 c = let k = c .before .before .before in k .loop .inv .5 .long ∙ sym (held-long (from k))
 
 same-length-6 : tie.Need-same-length-6 Inv-loop μ-loop
-same-length-6 c = let k = c .before .before .before .before .before .before in k .loop .inv .1 ∙ sym (from k .pre .1 .1 .1 .0)
+same-length-6 c = let k = c .before .before .before in k .loop .inv .1 ∙ sym (from k .pre .1 .1 .0)
 
 same-length-7 : tie.Need-same-length-7 Inv-loop μ-loop
-same-length-7 c = let k = c .before .before .before .before .before .before in k .loop .inv .2 ∙ sym (from k .pre .1 .1 .1 .1)
+same-length-7 c = let k = c .before .before .before in k .loop .inv .2 ∙ sym (from k .pre .1 .1 .1)
 
 same-length-8 : tie.Need-same-length-8 Inv-loop μ-loop
-same-length-8 c = let k = c .before .before .before .before .before .before in k .loop .inv .3 ∙ sym (from k .pre .1 .1 .1 .2)
+same-length-8 c = let k = c .before .before .before in k .loop .inv .3 ∙ sym (from k .pre .1 .1 .2)
 
 returns-2 : tie.Need-returns-2 Inv-loop μ-loop
 returns-2 c =
-    let f = c .before .before .before in
-    let k = over f in
+    let e = c .before .before in
+    let k = over e in
     let s = from k in
-    end-refused (N s) (k .loop .count) (low k) (k .loop .inv .5) (some f) (place k - N s) _ (seen f ∙ c .before .lower .given .1)
-    ∙ answer-end (N s) (place k) (k .loop .left) (run k) (drop (place k) (frames s)) (drop (place k) (others k)) (none f)
-    ∙ sym (k .loop .inv .6)
-
-enum-told : tie.Need-enum-told Inv-loop μ-loop
-enum-told c = search needs
-
-same-length-9 : tie.Need-same-length-9 Inv-loop μ-loop
-same-length-9 c = let k = c .before .before .before .before .before in k .loop .inv .5 .long ∙ sym (held-long (from k))
-
-same-length-10 : tie.Need-same-length-10 Inv-loop μ-loop
-same-length-10 c = let k = c .before .before .before .before .before in k .loop .inv .1 ∙ sym (from k .pre .1 .1 .1 .0)
-
-same-length-11 : tie.Need-same-length-11 Inv-loop μ-loop
-same-length-11 c = let k = c .before .before .before .before .before in k .loop .inv .2 ∙ sym (from k .pre .1 .1 .1 .1)
-
-same-length-12 : tie.Need-same-length-12 Inv-loop μ-loop
-same-length-12 c = let k = c .before .before .before .before .before in k .loop .inv .3 ∙ sym (from k .pre .1 .1 .1 .2)
-
-returns-3 : tie.Need-returns-3 Inv-loop μ-loop
-returns-3 c =
-    let f = c .before .before in
-    let k = over f in
-    let s = from k in
-    end-works (N s) (k .loop .count) (low k) (k .loop .inv .5) (some f) (place k - N s) (seen f ∙ c .enum-told .given .1)
-    ∙ answer-end (N s) (place k) (k .loop .left) (run k) (drop (place k) (frames s)) (drop (place k) (others k)) (none f)
+    c .ended .ensures
+    ∙ end-told (N s) (k .loop .count) (low k) (k .loop .inv .5) (some e) (place k - N s)
+    ∙ answer-end (N s) (place k) (k .loop .left) (run k) (drop (place k) (frames s)) (drop (place k) (others k)) (none e)
     ∙ sym (k .loop .inv .6)
 
 pub answer-of-spec : {M : Type 1} → statement M
@@ -342,18 +306,10 @@ answer-of-spec =
     sub-left
     loop-less
     loop-again
-    first-beyond-requires
-    enum-known-lower
-    sub-t33
-    add-t34
+    sub-ended
+    ended-requires
     same-length-5
     same-length-6
     same-length-7
     same-length-8
-    returns-2
-    enum-told
-    same-length-9
-    same-length-10
-    same-length-11
-    same-length-12
-    returns-3)
+    returns-2)

@@ -70,13 +70,10 @@ answer-of-requires : tie.Need-answer-of-requires
 answer-of-requires c κs =
     let r = c .before .before .before .before in
     let s = from r in (
-      s .pre .0,
+      (s .pre .0, none-held (N r) (s .args .half) (r .before .before .before .nothing-held .result) (s .pre .0) (r .before .before .before .nothing-held .ensures)),
       (
         s .pre .1,
-        (
-          none-held (N r) (s .args .half) (r .before .before .before .nothing-held .result) (s .pre .0) (r .before .before .before .nothing-held .ensures),
-          (sym (part-long _ (r .before .before .of-128 .result) (folded-le r)), sym (part-long _ (r .before .of-1282 .result) (wide-le r)), sym (part-long _ (r .spare .result) (block-le r))),
-        ),
+        (sym (part-long _ (r .before .before .of-128 .result) (folded-le r)), sym (part-long _ (r .before .of-1282 .result) (wide-le r)), sym (part-long _ (r .spare .result) (block-le r))),
       ),
     )
 
