@@ -66,8 +66,8 @@ step-requires c κs =
       ),
     )
 
-add-t19 : tie.Need-add-t19
-add-t19 c = search needs
+add-t16 : tie.Need-add-t16
+add-t16 c = search needs
 
 same-length : tie.Need-same-length
 same-length c = search needs
@@ -90,6 +90,6 @@ advance-spec =
     array-borrow-prefix-folded
     slice-aggregate-step-2
     step-requires
-    add-t19
+    add-t16
     same-length
     returns)

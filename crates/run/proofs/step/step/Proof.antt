@@ -59,7 +59,7 @@ module _ (p : tie.After-copy) where
 -- the block's lower folded places in front of it
 module _ (f : tie.After-fold) where
   abbrev before : tie.After-copy
-  before = f .before .before .before .before .before
+  before = f .before .before .before .before
 
   abbrev source : tie.Start
   source = from before
@@ -92,14 +92,14 @@ copy-requires : tie.Need-copy-requires
 copy-requires c κs = rest-long (c .before .before)
 
 slice-relend-prefix-fold : tie.Need-slice-relend-prefix-fold
-slice-relend-prefix-fold c = front-in (c .before .before)
+slice-relend-prefix-fold c = front-in (c .before)
 
 slice-aggregate-fold : tie.Need-slice-aggregate-fold
-slice-aggregate-fold c = part-long _ (copied (c .before .before .before)) (front-in (c .before .before .before))
+slice-aggregate-fold c = part-long _ (copied (c .before .before)) (front-in (c .before .before))
 
 fold-requires : tie.Need-fold-requires
 fold-requires c κs =
-    let p = c .before .before .before .before in
+    let p = c .before .before .before in
     let s = from p in (
       s .pre .0,
       (
