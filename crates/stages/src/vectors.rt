@@ -99,8 +99,7 @@ pub fn moved(undo: bool, y: i64, amount: i64) -> i64
     y + amount
 }
 
-// y takes the amounts / 2^k, rounded, or gives them back.
-pub fn lift(undo: bool, k: u32, amounts: &[i64], y: &mut [i64])
+fn lift_by(undo: bool, k: u32, amounts: &[i64], y: &mut [i64])
     requires { ⌜ length (now amounts) ≡ length (now y) ⌝ }
     requires { ⌜ Moves k (now amounts) ⌝ }
     requires { ⌜ Within (2 ^ 61) (now y) ⌝ }
@@ -110,6 +109,25 @@ pub fn lift(undo: bool, k: u32, amounts: &[i64], y: &mut [i64])
     while i < y.len() {
         y[i] = moved(undo, y[i], integers::rounded(amounts[i], k));
         i += 1;
+    }
+}
+
+// y takes the amounts / 2^k, rounded, or gives them back. Where k is written out, the division is by a number the compiler knows.
+pub fn lift(undo: bool, k: u32, amounts: &[i64], y: &mut [i64])
+    requires { ⌜ length (now amounts) ≡ length (now y) ⌝ }
+    requires { ⌜ Moves k (now amounts) ⌝ }
+    requires { ⌜ Within (2 ^ 61) (now y) ⌝ }
+    ensures { λ _. ⌜ now (y .exit) ≡ places (length (now (y .entry))) (λ i. Rattle.stages.specs.Moves.moved undo (at (now (y .entry)) i) (round k (at (now (amounts .entry)) i))) ⌝ }
+{
+    match k {
+        0 => lift_by(undo, 0, amounts, y),
+        28 => lift_by(undo, 28, amounts, y),
+        29 => lift_by(undo, 29, amounts, y),
+        30 => lift_by(undo, 30, amounts, y),
+        31 => lift_by(undo, 31, amounts, y),
+        32 => lift_by(undo, 32, amounts, y),
+        34 => lift_by(undo, 34, amounts, y),
+        _ => lift_by(undo, k, amounts, y),
     }
 }
 

@@ -1,98 +1,118 @@
--- `stages::vectors::lift` meets its contract.
+-- `stages::vectors::lift` meets its contract, at each k.
 use borrow.Author.Needs.{needs}
-use native.Mathlib.Omega.{arith}
-use mathlib.Core.Path.{_≡_, ap, ap₂, _∙_}
-use Prim.Native.Nat.{_-_, _≤_}
+use mathlib.Core.Path.{_≡_, sym, ap, subst, _∙_}
+use Prim.Native.Nat.{ℕ, _^_}
 use lib.ListN.{length}
-use mir.Syntax.{w64}
-use mir.Val.{toZ, ofZ}
-use Rattle.integers.specs.Places.{at}
-use Rattle.integers.proofs.Held.{held-ok}
-use Rattle.integers.proofs.Fills.{Filling, filling-none, filling-next, filling-here, filling-all}
+use Rattle.integers.specs.Places.{places, at, Within}
 use Rattle.integers.specs.Floor.{round}
-use Rattle.stages.specs.Moves.{moved}
+use Rattle.stages.specs.Moves.{moved, Moves}
 use Rattle.stages.proofs.vectors.lift.Statement.{statement}
 use Rattle.stages.proofs.vectors.lift.Tie as tie
 
-abbrev Inv-loop : tie.InvT-loop
-Inv-loop undo k amounts y₀ i₀ y i = (i ≤ length y₀) × Filling (λ i. moved undo (at y₀ i) (round k (at amounts i))) y₀ i y
+module _ (s : tie.Start) {k : ℕ} (e : s .args .k ≡ k) where
+  asked : (length (s .args .amounts .now) ≡ length (s .args .y .now)) × ((Moves k (s .args .amounts .now)) × Within (2 ^ 61) (s .args .y .now))
+  asked = (s .pre .0, (subst (λ n. Moves n (s .args .amounts .now)) e (s .pre .1 .0), s .pre .1 .1))
 
-abbrev μ-loop : tie.MeasureT-loop
-μ-loop undo k amounts y₀ i₀ y i = length y₀ - i
+  told : places (length (s .args .y .now)) (λ i. moved (s .args .undo) (at (s .args .y .now) i) (round k (at (s .args .amounts .now) i))) ≡ places (length (s .args .y .now)) (λ i. moved (s .args .undo) (at (s .args .y .now) i) (round (s .args .k) (at (s .args .amounts .now) i)))
+  told = ap (λ n. places (length (s .args .y .now)) (λ i. moved (s .args .undo) (at (s .args .y .now) i) (round n (at (s .args .amounts .now) i)))) (sym e)
 
-module _ (c : tie.After-rounded Inv-loop μ-loop) where
-  abbrev l : tie.At-loop Inv-loop μ-loop
-  l = c .before .before .before .before
+lift-by-requires : tie.Need-lift-by-requires
+lift-by-requires c κs = asked (c .before .before) (c .before .match .keys1)
 
-  old : toZ w64 (ofZ w64 (at (l .loop .y) (l .loop .i))) ≡ at (l .before .args .y .now) (l .loop .i)
-  old = held-ok w64 _ (c .before .before .moved-arg .given) .is ∙ filling-here (l .loop .inv .1)
+lift-by-requires-2 : tie.Need-lift-by-requires-2
+lift-by-requires-2 c κs = asked (c .before .before) (c .before .match .keys2)
 
-  rounded : toZ w64 (ofZ w64 (c .rounded .result)) ≡ round (l .before .args .k) (at (l .before .args .amounts .now) (l .loop .i))
-  rounded = held-ok w64 _ (c .rounded .ok) .is ∙ c .rounded .ensures ∙ ap (round (l .before .args .k)) (held-ok w64 _ (c .before .rounded-arg .given) .is)
+lift-by-requires-3 : tie.Need-lift-by-requires-3
+lift-by-requires-3 c κs = asked (c .before .before) (c .before .match .keys3)
 
-loop-holds : tie.Need-loop-holds Inv-loop μ-loop
-loop-holds c = (omega arith, filling-none _ _)
+lift-by-requires-4 : tie.Need-lift-by-requires-4
+lift-by-requires-4 c κs = asked (c .before .before) (c .before .match .keys4)
 
-mul-moved : tie.Need-mul-moved Inv-loop μ-loop
-mul-moved c = search needs
+lift-by-requires-5 : tie.Need-lift-by-requires-5
+lift-by-requires-5 c κs = asked (c .before .before) (c .before .match .keys5)
 
-slice-copy-out-moved : tie.Need-slice-copy-out-moved Inv-loop μ-loop
-slice-copy-out-moved c = omega arith
+lift-by-requires-6 : tie.Need-lift-by-requires-6
+lift-by-requires-6 c κs = asked (c .before .before) (c .before .match .keys6)
 
-mul-rounded : tie.Need-mul-rounded Inv-loop μ-loop
-mul-rounded c = search needs
+lift-by-requires-7 : tie.Need-lift-by-requires-7
+lift-by-requires-7 c κs = asked (c .before .before) (c .before .match .keys7)
 
-shared-slice-copy-out-rounded : tie.Need-shared-slice-copy-out-rounded Inv-loop μ-loop
-shared-slice-copy-out-rounded c = omega arith
+lift-by-requires-8 : tie.Need-lift-by-requires-8
+lift-by-requires-8 c κs = search needs
 
-rounded-requires : tie.Need-rounded-requires Inv-loop μ-loop
-rounded-requires c κs = search needs
+same-length : tie.Need-same-length
+same-length c = search needs
 
-moved-requires : tie.Need-moved-requires Inv-loop μ-loop
-moved-requires c κs = (rw (old c) (l c .before .pre .1 .1 .size (l c .loop .i)), rw (rounded c) (l c .before .pre .1 .0 .small (l c .loop .i)))
+returns : tie.Need-returns
+returns c = c .before .lift-by .ensures ∙ told (c .before .before .before .before) (c .before .before .before .match .keys1)
 
-mul-t15 : tie.Need-mul-t15 Inv-loop μ-loop
-mul-t15 c = search needs
+same-length-2 : tie.Need-same-length-2
+same-length-2 c = search needs
 
-slice-set-from-y : tie.Need-slice-set-from-y Inv-loop μ-loop
-slice-set-from-y c = omega arith
+returns-2 : tie.Need-returns-2
+returns-2 c = c .before .lift-by2 .ensures ∙ told (c .before .before .before .before) (c .before .before .before .match .keys2)
 
-add-i : tie.Need-add-i Inv-loop μ-loop
-add-i c = omega arith
+same-length-3 : tie.Need-same-length-3
+same-length-3 c = search needs
 
-loop-less : tie.Need-loop-less Inv-loop μ-loop
-loop-less c = omega arith
+returns-3 : tie.Need-returns-3
+returns-3 c = c .before .lift-by3 .ensures ∙ told (c .before .before .before .before) (c .before .before .before .match .keys3)
 
-loop-again : tie.Need-loop-again Inv-loop μ-loop
-loop-again c =
-    let r = c .before in (
-      omega arith,
-      filling-next (l r .loop .inv .1) (held-ok w64 _ (c .moved .ok) .is ∙ c .moved .ensures ∙ ap₂ (moved (l r .before .args .undo)) (old r) (rounded r)),
-    )
+same-length-4 : tie.Need-same-length-4
+same-length-4 c = search needs
 
-same-length : tie.Need-same-length Inv-loop μ-loop
-same-length c = omega arith
+returns-4 : tie.Need-returns-4
+returns-4 c = c .before .lift-by4 .ensures ∙ told (c .before .before .before .before) (c .before .before .before .match .keys4)
 
-returns : tie.Need-returns Inv-loop μ-loop
-returns c = filling-all (c .before .loop .inv .1) (omega arith)
+same-length-5 : tie.Need-same-length-5
+same-length-5 c = search needs
+
+returns-5 : tie.Need-returns-5
+returns-5 c = c .before .lift-by5 .ensures ∙ told (c .before .before .before .before) (c .before .before .before .match .keys5)
+
+same-length-6 : tie.Need-same-length-6
+same-length-6 c = search needs
+
+returns-6 : tie.Need-returns-6
+returns-6 c = c .before .lift-by6 .ensures ∙ told (c .before .before .before .before) (c .before .before .before .match .keys6)
+
+same-length-7 : tie.Need-same-length-7
+same-length-7 c = search needs
+
+returns-7 : tie.Need-returns-7
+returns-7 c = c .before .lift-by7 .ensures ∙ told (c .before .before .before .before) (c .before .before .before .match .keys7)
+
+same-length-8 : tie.Need-same-length-8
+same-length-8 c = search needs
+
+returns-8 : tie.Need-returns-8
+returns-8 c = search needs
 
 pub lift-spec : {M : Type 1} → statement M
 lift-spec =
     tie.close
     (tie.spec
-    Inv-loop
-    μ-loop
-    loop-holds
-    mul-moved
-    slice-copy-out-moved
-    mul-rounded
-    shared-slice-copy-out-rounded
-    rounded-requires
-    moved-requires
-    mul-t15
-    slice-set-from-y
-    add-i
-    loop-less
-    loop-again
+    lift-by-requires
+    lift-by-requires-2
+    lift-by-requires-3
+    lift-by-requires-4
+    lift-by-requires-5
+    lift-by-requires-6
+    lift-by-requires-7
+    lift-by-requires-8
     same-length
-    returns)
+    returns
+    same-length-2
+    returns-2
+    same-length-3
+    returns-3
+    same-length-4
+    returns-4
+    same-length-5
+    returns-5
+    same-length-6
+    returns-6
+    same-length-7
+    returns-7
+    same-length-8
+    returns-8)
