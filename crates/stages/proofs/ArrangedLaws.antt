@@ -1,28 +1,25 @@
--- A width by its number, and what is copied or gathered from the tables of one.
-use mathlib.Core.Path.{_≡_, sym, ap, _∙_}
+-- A width by its number, limits of tables, and lists brought into an order.
+use mathlib.Core.Path.{_≡_, sym}
 use mathlib.Core.Bool.{Bool, true, _&&_}
 use mathlib.Core.List.{List, [], _∷_}
 use Prim.Native.Nat.{ℕ, zero, suc, _≤_, _<_}
 use native.Mathlib.Omega.{arith}
-use lib.Dec.{T, leb, leb→le, ltb, ltb→lt}
-use lib.IntN.{ℤ, natAbs, _*ℤ_}
-use lib.ListN.{getD}
+use lib.Dec.{T, leb, leb→le}
+use lib.IntN.{ℤ, natAbs}
+use lib.ListN.{length, getD}
 use Rattle.integers.specs.Places.{places, at, Within}
-use Rattle.integers.specs.Tests.{every}
-use Rattle.integers.proofs.Tested.{and-left, and-right, every-at}
-use Rattle.tables.specs.Widths.{halfWidth}
-use Rattle.tables.proofs.ByWidth.{at-other}
-use Rattle.stages.specs.Moves.{Below}
-use Rattle.stages.specs.Arranged.{placesIn, signsIn, placesOut, signsOut, placeIn, signIn, placeOut, signOut}
+use Rattle.integers.proofs.Tested.{and-left, and-right}
+use Rattle.integers.proofs.Order.{natAbs-*ℤ-le}
+use Rattle.integers.proofs.PlaceLaws.{within-places}
+use Rattle.tables.specs.Widths.{byWidth, halfWidth}
+use Rattle.tables.proofs.ByWidth.{at-each, at-other}
+use Rattle.stages.specs.Moves.{Order, gathered}
 
 pub no-width : (N : ℕ) → (N ≡ 8 → ⊥) → (N ≡ 32 → ⊥) → (N ≡ 128 → ⊥) → 0 < halfWidth N → ⊥
 unfolding halfWidth
 no-width N x y z h = absurd (omega (arith, at-other {A = ℕ} 4 16 64 0 {n = N} x y z))
 
 -- ---- limits, by a test of every entry
-pub all-below : {n k : ℕ} → n ≡ k → (xs : List ℕ) → T (every (λ i x. ltb x k) 0 xs) → Below n xs
-all-below {k = k} e xs t = record { below = λ i l. rw e (ltb→lt (getD xs i 0) k (every-at (λ i x. ltb x k) xs t i l)) }
-
 abbrev pub small : ℕ → List ℤ → Bool
 small m [] = true
 small m (x ∷ xs) = leb (natAbs x) m && small m xs
@@ -35,12 +32,12 @@ small-at m (x ∷ xs) t (suc i) = small-at m xs (and-right (leb (natAbs x) m) (s
 pub all-within : (m : ℕ) (xs : List ℤ) → T (small m xs) → Within m xs
 all-within m xs t = record { size = small-at m xs t }
 
--- ---- gathered in the order of a width
-module _ {N k n : ℕ} (w : N ≡ k) (l : n ≡ halfWidth k) (x : List ℤ) (ps : List ℕ) (ss : List ℤ) {out : List ℤ} (e : out ≡ places n (λ j. at ss j *ℤ at x (getD ps j 0))) where
-  pub gathered-in : ps ≡ placesIn k → ss ≡ signsIn k → out ≡ places (halfWidth N) (λ j. signIn N j *ℤ at x (placeIn N j))
-  unfolding placeIn signIn
-  gathered-in p s = rw (e, l, p, s, w)
+-- ---- a list brought into an order
+pub gathered-within : {n m : ℕ} {ps : List ℕ} {ss : List ℤ} (x : List ℤ) → Order n ps ss → Within m x → Within m (places n (gathered ps ss x))
+gathered-within {n} {m} {ps} {ss} x o h =
+    within-places n m _ (λ k l. omega (arith, natAbs-*ℤ-le (at ss k) (at x (getD ps k 0)) (o .within .size k) (h .size (getD ps k 0))))
 
-  pub gathered-out : ps ≡ placesOut k → ss ≡ signsOut k → out ≡ places (halfWidth N) (λ m. signOut N m *ℤ at x (placeOut N m))
-  unfolding placeOut signOut
-  gathered-out p s = rw (e, l, p, s, w)
+-- lists of a width, each as long as its half
+pub half-long : {A : Type 0} (a b c : List A) → length a ≡ 4 → length b ≡ 16 → length c ≡ 64 → (N : ℕ) → length (byWidth a b c [] N) ≡ halfWidth N
+unfolding halfWidth byWidth
+half-long a b c p q r = at-each (λ N l. length l ≡ halfWidth N) a b c [] p q r (λ N x y z. sym (at-other {A = ℕ} 4 16 64 0 {n = N} x y z))

@@ -1,5 +1,5 @@
 -- The cosine matrix, with its rows and columns in the order of the powers of 3, is parts of one list, up to signs.
-use mathlib.Core.Path.{_≡_, refl, sym, ap, ap₂, subst, _∙_}
+use mathlib.Core.Path.{_≡_, refl, sym, ap, ap₂, subst, subst₂, _∙_}
 use mathlib.Core.Bool.{Bool, _&&_}
 use mathlib.Core.List.{List, []}
 use Prim.Native.Nat.{ℕ, _+_, _-_, _%_, _^_, _≤_, _<_}
@@ -22,8 +22,10 @@ use Rattle.tables.proofs.Sizes.{cosine-size}
 use Rattle.steps.specs.Steps.{cosine}
 use Rattle.steps.proofs.Undo.{width-half}
 use Rattle.stages.specs.Expanded.{turnAt, turnedSums, Sizes, window, cosineSums}
-use Rattle.stages.specs.Arranged.{placesIn, signsIn, placesOut, signsOut, placeIn, signIn, placeOut, signOut}
-use Rattle.stages.proofs.ArrangedLaws.{all-within}
+use Rattle.stages.specs.Moves.{Order, gathered}
+use Rattle.stages.specs.Words.{lowered}
+use Rattle.stages.specs.Arranged.{CosineTables, placesIn, signsIn, placesOut, signsOut, placeIn, signIn, placeOut, signOut}
+use Rattle.stages.proofs.ArrangedLaws.{all-within, half-long}
 use Rattle.stages.proofs.WindowLaws.{window-size}
 use Rattle.stages.proofs.WordLaws.{sum-scaled}
 
@@ -74,6 +76,28 @@ turned-cosine N m j h k = sym (matrix-at (halfWidth N) (turned N) m j h k) ∙ a
 signs-in-within : (N : ℕ) → Within 1 (signsIn N)
 unfolding signsIn
 signs-in-within = at-each (λ N ss. Within 1 ss) _ _ _ _ (all-within 1 _ tt) (all-within 1 _ tt) (all-within 1 _ tt) (λ N x y z. all-within 1 _ tt)
+
+signs-out-within : (N : ℕ) → Within 1 (signsOut N)
+unfolding signsOut
+signs-out-within = at-each (λ N ss. Within 1 ss) _ _ _ _ (all-within 1 _ tt) (all-within 1 _ tt) (all-within 1 _ tt) (λ N x y z. all-within 1 _ tt)
+
+in-order : (N : ℕ) → Order (halfWidth N) (placesIn N) (signsIn N)
+unfolding placeIn placesIn signsIn
+in-order N = record {
+  places-long = half-long _ _ _ refl refl refl N;
+  signs-long = half-long _ _ _ refl refl refl N;
+  below = record { below = λ j h. in-out N j (subst (λ n. j < n) (half-long _ _ _ refl refl refl N) h) .0 };
+  within = signs-in-within N;
+}
+
+out-order : (N : ℕ) → Order (halfWidth N) (placesOut N) (signsOut N)
+unfolding placeOut placesOut signsOut
+out-order N = record {
+  places-long = half-long _ _ _ refl refl refl N;
+  signs-long = half-long _ _ _ refl refl refl N;
+  below = record { below = λ m h. out-in N m (subst (λ n. m < n) (half-long _ _ _ refl refl refl N) h) .0 };
+  within = signs-out-within N;
+}
 
 sign-in-size : (N j : ℕ) → natAbs (signIn N j) ≤ 1
 unfolding signIn
@@ -134,3 +158,30 @@ module _ (N : ℕ) (x row : List ℤ) (wide : 0 < halfWidth N) (r : row ≡ plac
   unfolding cosineSums turnedSums
   cosine-windows sums e =
       places-ext M _ _ (λ m h. ap (λ z. signOut N m *ℤ z) (ap (λ l. at l (placeOut N m)) e ∙ at-places M (window turn row) (placeOut N m) (out-in N m h .0)) ∙ cosine-window m h)
+
+-- ---- with the tables of a width
+module _ {N : ℕ} {ps : List ℕ} {ss t ws : List ℤ} {qs : List ℕ} {rs : List ℤ} (c : CosineTables N ps ss t ws qs rs) where
+  abbrev H : ℕ
+  H = halfWidth N
+
+  pub order-in : Order H ps ss
+  order-in = subst₂ (Order H) (sym (c .places-in)) (sym (c .signs-in)) (in-order N)
+
+  pub order-out : Order H qs rs
+  order-out = subst₂ (Order H) (sym (c .places-out)) (sym (c .signs-out)) (out-order N)
+
+  pub table-long : length t ≡ N
+  unfolding lowered
+  table-long = sym (length-places (length t) _) ∙ ap length (c .cosines) ∙ length-places N (turnAt N)
+
+  pub row-is : (x : List ℤ) → places H (gathered ps ss x) ≡ places H (λ j. signIn N j *ℤ at x (placeIn N j))
+  unfolding placeIn signIn
+  row-is x = ap₂ (λ p s. places H (gathered p s x)) (c .places-in) (c .signs-in)
+
+  pub lowered-sums : (row : List ℤ) → places H (window (lowered t) row) ≡ turnedSums N row
+  unfolding turnedSums
+  lowered-sums row = ap (λ u. places H (window u row)) (c .cosines)
+
+  pub cosine-sums-are : 0 < H → (x row sums : List ℤ) → row ≡ places H (gathered ps ss x) → sums ≡ turnedSums N row → places H (gathered qs rs sums) ≡ cosineSums N x
+  unfolding placeOut signOut
+  cosine-sums-are wide x row sums r e = ap₂ (λ q f. places H (gathered q f sums)) (c .places-out) (c .signs-out) ∙ cosine-windows N x row wide (r ∙ row-is x) sums e

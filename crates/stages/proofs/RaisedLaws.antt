@@ -7,19 +7,21 @@ use native.Mathlib.Omega.{arith}
 use lib.Dec.{T}
 use lib.IntN.{ℤ, pos, _+ℤ_, _-ℤ_, _*ℤ_}
 use lib.Signed.{_≤ℤ_, leZ, ≤ℤ-refl}
-use lib.ListN.{drop}
+use lib.ListN.{length, drop}
 use lib.Seq.{getD-drop, drop-drop}
 use native.Mathlib.Numerals.{add-one}
 use Rattle.integers.specs.Places.{tab, places, at, sum, Within}
 use Rattle.integers.proofs.Tested.{and-left, and-right}
-use Rattle.integers.proofs.PlaceLaws.{places-ext, sum-ext, sum-front, within-places}
+use Rattle.integers.proofs.PlaceLaws.{length-places, places-ext, sum-ext, sum-front, within-places}
 use Rattle.tables.specs.Widths.{halfWidth}
+use Rattle.tables.proofs.ByWidth.{half-width-le}
 use Rattle.tables.proofs.Sizes.{cosine-size}
-use Rattle.stages.specs.Expanded.{window, inFours, Sizes, turnAt, turnedSums, secantFor}
+use Rattle.stages.specs.Expanded.{window, inFours, Sizes, turnAt, turnedSums, secantFor, secantWindows}
 use Rattle.stages.specs.Words.{Above, Raised, lowered}
+use Rattle.stages.specs.Arranged.{CosineTables, placesIn, signsIn, placesOut, signsOut}
 use Rattle.stages.proofs.ArrangedLaws.{small, all-within}
 use Rattle.stages.proofs.WindowLaws.{fours-window}
-use Rattle.stages.proofs.CosineOrder.{turn-sizes}
+use Rattle.stages.proofs.CosineOrder.{half-in-fours, turn-sizes}
 use Rattle.stages.proofs.SumLaws.{secant-sizes}
 
 -- no entry below 0, by a test of every entry
@@ -65,16 +67,23 @@ weights-from h ts (suc m) i =
     (ap (partWeights h m) (drop-drop 1 i ts ∙ ap (λ k. drop k ts) (add-one i)) ∙ weights-from h ts m (suc i))
 
 -- ---- the cosines
-module _ {n h : ℕ} (k : ℕ) (ts ws : List ℤ) (l : n ≡ h) where
-  pub raised-of : T (ups ts) → T (small (2 ^ 29) ts) → lowered ts ≡ places k (turnAt k) → T (small (2 ^ 61) ws) → ws ≡ partWeights h h ts → Raised n ts ws
-  unfolding turnAt
-  raised-of u s t v w = record {
+pub tables-of : (k h : ℕ) (ps : List ℕ) (ss ts ws : List ℤ) (qs : List ℕ) (rs : List ℤ) → halfWidth k ≡ h → ps ≡ placesIn k → ss ≡ signsIn k → qs ≡ placesOut k → rs ≡ signsOut k
+    → T (ups ts) → T (small (2 ^ 29) ts) → lowered ts ≡ places k (turnAt k) → T (small (2 ^ 61) ws) → ws ≡ partWeights h h ts → CosineTables k ps ss ts ws qs rs
+unfolding turnAt
+tables-of k h ps ss ts ws qs rs l a b c d u s t v w = record {
+  places-in = a;
+  signs-in = b;
+  places-out = c;
+  signs-out = d;
+  raises = record {
     above = record { above = ups-at ts u };
     within = all-within (2 ^ 29) ts s;
     lowered-within = subst (Within (2 ^ 28)) (sym t) (within-places k _ _ (λ j m. cosine-size _));
     weights-within = all-within (2 ^ 61) ws v;
     weights-are = w ∙ weights-from h ts h 0 ∙ ap (λ m. places m (λ i. pos (2 ^ 27) *ℤ sum m (λ j. at ts (i + j) -ℤ pos (2 ^ 28)))) (sym l);
-  }
+  };
+  cosines = t;
+}
 
 -- the sums that a part of the table gives
 module _ {N k n : ℕ} (w : N ≡ k) (l : n ≡ halfWidth N) {t : List ℤ} (row : List ℤ) {out : List ℤ} (e : t ≡ places k (turnAt k)) where
@@ -89,6 +98,14 @@ pub turn-fits : (k : ℕ) {n : ℕ} (t x : List ℤ) → t ≡ places k (turnAt 
 turn-fits k {n} t x e l h = turn-sizes k n t x e l h
 
 -- ---- the secants
-pub secants-are : {N k n : ℕ} → N ≡ k → n ≡ halfWidth N → {t : List ℤ} (z w : List ℤ) {out : List ℤ} → t ≡ places k (secantFor k) → out ≡ places n (inFours t z w 2 2 4)
-    → out ≡ places (halfWidth N) (inFours (places N (secantFor N)) z w 2 2 4)
-secants-are {N} w l {t} z y e o = o ∙ ap (λ m. places m (inFours t z y 2 2 4)) l ∙ ap (λ u. places (halfWidth N) (inFours u z y 2 2 4)) (e ∙ ap (λ m. places m (secantFor m)) (sym w))
+module _ (N : ℕ) (e : halfWidth N + halfWidth N ≡ N) (t z w : List ℤ) (s : t ≡ places N (secantFor N)) {o : ℕ} (l : (length z ≡ halfWidth N) × (length w ≡ halfWidth N) × (o ≡ halfWidth N)) where
+  pub secants-asked : Within 10000000 z → Within 10000000 w
+      → ((o ≡ length z) × (length w ≡ length z) × (length z % 4 ≡ 0) × (length t ≡ length z + length z)) × (((2 ≤ 4) × (2 ≤ 4) × (4 ≤ 4)) × (Sizes (length z) t z × Sizes (length z) t w))
+  secants-asked a b =
+      let n : length z ≤ 64 = omega (arith, l .0, half-width-le N) in (
+        (l .2 ∙ sym (l .0), l .1 ∙ sym (l .0), ap (λ m. m % 4) (l .0) ∙ half-in-fours N, ap length s ∙ length-places N _ ∙ sym e ∙ ap (λ m. m + m) (sym (l .0))),
+        ((omega arith, omega arith, omega arith), (secant-sizes N t z s _ z n a, secant-sizes N t w s _ w n b)),
+      )
+
+  pub secants-are : places o (inFours t z w 2 2 4) ≡ secantWindows N z w
+  secants-are = ap₂ (λ m u. places m (inFours u z w 2 2 4)) (l .2) s

@@ -1,11 +1,14 @@
 -- The order of the powers of 3: each odd number 2m+1 is ±3^j up to reflection, so that C(m, n) is a cosine at 3^(i+j), with signs. A list is
 -- brought into that order (`In`), and back (`Out`).
+use mathlib.Core.Path.{_≡_}
 use mathlib.Core.List.{List, [], _∷_}
 use Prim.Native.Nat.{ℕ}
 use lib.IntN.{ℤ, pos, negsuc}
 use lib.ListN.{getD}
-use Rattle.integers.specs.Places.{at}
-use Rattle.tables.specs.Widths.{byWidth}
+use Rattle.integers.specs.Places.{places, at}
+use Rattle.tables.specs.Widths.{byWidth, halfWidth}
+use Rattle.stages.specs.Expanded.{turnAt}
+use Rattle.stages.specs.Words.{Raised, lowered}
 
 abbrev plus : ℤ
 plus = pos 1
@@ -57,3 +60,12 @@ placeOut N m = getD (placesOut N) m 0
 
 unfoldable pub signOut : ℕ → ℕ → ℤ
 signOut N m = at (signsOut N) m
+
+-- the order of a width, and its cosines raised, with what raising a list adds to their sums
+pub record CosineTables (N : ℕ) (order : List ℕ) (signs raised weights : List ℤ) (back : List ℕ) (flips : List ℤ) : Type 0 where
+  pub places-in : order ≡ placesIn N
+  pub signs-in : signs ≡ signsIn N
+  pub places-out : back ≡ placesOut N
+  pub signs-out : flips ≡ signsOut N
+  pub raises : Raised (halfWidth N) raised weights
+  pub cosines : lowered raised ≡ places N (turnAt N)

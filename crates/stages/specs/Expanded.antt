@@ -49,6 +49,9 @@ turnedSums N x = places (halfWidth N) (window (places N (turnAt N)) x)
 unfoldable pub secantFor : ℕ → ℕ → ℤ
 secantFor N k = cond (eqb (k % 2) 0) (secantOf N (pos (k + 1))) (secantOf N (pos k -ℤ pos (halfWidth N)))
 
+abbrev pub secantWindows : ℕ → List ℤ → List ℤ → List ℤ
+secantWindows N even odd = places (halfWidth N) (inFours (places N (secantFor N)) even odd 2 2 4)
+
 -- the place in a list from which a row of secants takes its factor: o is 0 for even rows, 1 for odd ones
 unfoldable pub takenPlace : ℕ → ℕ → ℕ → ℕ
 takenPlace M o l = cond (eqb (l % 2) 0) (l + o) (M - o - l)

@@ -1,12 +1,11 @@
 // Tables of a width as the sums take them.
 ghost use mathlib.Core.Path.{_≡_};
-ghost use Prim.Native.Nat.{_-_, _^_, _<_};
-ghost use lib.IntN.{_*ℤ_};
+ghost use Prim.Native.Nat.{_<_};
 ghost use lib.ListN.{length};
-ghost use Rattle.integers.specs.Places.{places, at, Within};
+ghost use Rattle.integers.specs.Places.{Within};
 ghost use Rattle.tables.specs.Widths.{halfWidth};
-ghost use Rattle.stages.specs.Expanded.{turnedSums, inFours, secantFor};
-ghost use Rattle.stages.specs.Arranged.{placeIn, signIn, placeOut, signOut};
+ghost use Rattle.stages.specs.Expanded.{cosineSums, turnedSums, secantWindows};
+ghost use Rattle.stages.specs.Arranged.{CosineTables};
 use crate::vectors;
 use crate::windows;
 use crate::words;
@@ -919,21 +918,7 @@ const SIGNS_OUT_128: [i64; 64] = [
     -1,
 ];
 
-// The sums of every part of the cosines at 3^k·π/(4M) with a list, in words. The list is raised.
-fn turned_words(width: usize, row: &mut [i64], out: &mut [i64])
-    requires { ⌜ (length (now row) ≡ halfWidth width) × (length (now out) ≡ halfWidth width) × (0 < halfWidth width) ⌝ }
-    requires { ⌜ Within 134217727 (now row) ⌝ }
-    ensures { λ _. ⌜ now (out .exit) ≡ turnedSums width (now (row .entry)) ⌝ }
-{
-    match width {
-        8 => words::raised_sums(&RAISED_8, &WEIGHTS_8, row, out),
-        32 => words::raised_sums(&RAISED_32, &WEIGHTS_32, row, out),
-        128 => words::raised_sums(&RAISED_128, &WEIGHTS_128, row, out),
-        _ => {}
-    }
-}
-
-// The same of larger numbers.
+// The sums of every part of the cosines at 3^k·π/(4M) with a list.
 fn turned_wide(width: usize, row: &[i64], out: &mut [i64])
     requires { ⌜ (length (now row) ≡ halfWidth width) × (length (now out) ≡ halfWidth width) × (0 < halfWidth width) ⌝ }
     requires { ⌜ Within 500000000 (now row) ⌝ }
@@ -948,57 +933,145 @@ fn turned_wide(width: usize, row: &[i64], out: &mut [i64])
 }
 
 // Only frames that no readings make have numbers that do not go in words.
-pub fn turned(width: usize, row: &mut [i64], out: &mut [i64])
-    requires { ⌜ (length (now row) ≡ halfWidth width) × (length (now out) ≡ halfWidth width) × (0 < halfWidth width) ⌝ }
-    requires { ⌜ Within 500000000 (now row) ⌝ }
-    ensures { λ _. ⌜ now (out .exit) ≡ turnedSums width (now (row .entry)) ⌝ }
+fn cosine_sums_with(
+    width: usize,
+    order: &[usize],
+    signs: &[i64],
+    raised: &[i64],
+    weights: &[i64],
+    back: &[usize],
+    flips: &[i64],
+    x: &[i64],
+    row: &mut [i64],
+    sums: &mut [i64],
+    out: &mut [i64],
+)
+    requires { ⌜ 0 < halfWidth width ⌝ }
+    requires { ⌜ CosineTables width (now order) (now signs) (now raised) (now weights) (now back) (now flips) ⌝ }
+    requires { ⌜ (length (now x) ≡ halfWidth width) × (length (now row) ≡ halfWidth width) × (length (now sums) ≡ halfWidth width) × (length (now out) ≡ halfWidth width) ⌝ }
+    requires { ⌜ Within 500000000 (now x) ⌝ }
+    ensures { λ _. ⌜ now (out .exit) ≡ cosineSums width (now (x .entry)) ⌝ }
 {
-    if words::inside(row) {
-        turned_words(width, row, out);
+    if words::inside(x) {
+        words::ordered_sums(
+            order,
+            signs,
+            raised,
+            weights,
+            back,
+            flips,
+            x,
+            row,
+            sums,
+            out,
+        );
         return;
     }
-    turned_wide(width, row, out);
+    vectors::signed_gather(order, signs, x, row);
+    turned_wide(width, row, sums);
+    vectors::signed_gather(back, flips, sums, out);
+}
+
+// A constant is written out by the function that names it, so each width has its own.
+pub fn cosine_sums_8(x: &[i64], row: &mut [i64], sums: &mut [i64], out: &mut [i64])
+    requires { ⌜ (length (now x) ≡ halfWidth 8) × (length (now row) ≡ halfWidth 8) × (length (now sums) ≡ halfWidth 8) × (length (now out) ≡ halfWidth 8) ⌝ }
+    requires { ⌜ Within 500000000 (now x) ⌝ }
+    ensures { λ _. ⌜ now (out .exit) ≡ cosineSums 8 (now (x .entry)) ⌝ }
+{
+    cosine_sums_with(
+        8,
+        &PLACES_IN_8,
+        &SIGNS_IN_8,
+        &RAISED_8,
+        &WEIGHTS_8,
+        &PLACES_OUT_8,
+        &SIGNS_OUT_8,
+        x,
+        row,
+        sums,
+        out,
+    );
+}
+
+pub fn cosine_sums_32(x: &[i64], row: &mut [i64], sums: &mut [i64], out: &mut [i64])
+    requires { ⌜ (length (now x) ≡ halfWidth 32) × (length (now row) ≡ halfWidth 32) × (length (now sums) ≡ halfWidth 32) × (length (now out) ≡ halfWidth 32) ⌝ }
+    requires { ⌜ Within 500000000 (now x) ⌝ }
+    ensures { λ _. ⌜ now (out .exit) ≡ cosineSums 32 (now (x .entry)) ⌝ }
+{
+    cosine_sums_with(
+        32,
+        &PLACES_IN_32,
+        &SIGNS_IN_32,
+        &RAISED_32,
+        &WEIGHTS_32,
+        &PLACES_OUT_32,
+        &SIGNS_OUT_32,
+        x,
+        row,
+        sums,
+        out,
+    );
+}
+
+pub fn cosine_sums_128(x: &[i64], row: &mut [i64], sums: &mut [i64], out: &mut [i64])
+    requires { ⌜ (length (now x) ≡ halfWidth 128) × (length (now row) ≡ halfWidth 128) × (length (now sums) ≡ halfWidth 128) × (length (now out) ≡ halfWidth 128) ⌝ }
+    requires { ⌜ Within 500000000 (now x) ⌝ }
+    ensures { λ _. ⌜ now (out .exit) ≡ cosineSums 128 (now (x .entry)) ⌝ }
+{
+    cosine_sums_with(
+        128,
+        &PLACES_IN_128,
+        &SIGNS_IN_128,
+        &RAISED_128,
+        &WEIGHTS_128,
+        &PLACES_OUT_128,
+        &SIGNS_OUT_128,
+        x,
+        row,
+        sums,
+        out,
+    );
+}
+
+fn secant_windows_8(even: &[i64], odd: &[i64], out: &mut [i64])
+    requires { ⌜ (length (now even) ≡ halfWidth 8) × (length (now odd) ≡ halfWidth 8) × (length (now out) ≡ halfWidth 8) ⌝ }
+    requires { ⌜ Within 10000000 (now even) ⌝ }
+    requires { ⌜ Within 10000000 (now odd) ⌝ }
+    ensures { λ _. ⌜ now (out .exit) ≡ secantWindows 8 (now (even .entry)) (now (odd .entry)) ⌝ }
+{
+    windows::windows(&SECANTS_8, even, odd, 2, 2, 4, out);
+}
+
+fn secant_windows_32(even: &[i64], odd: &[i64], out: &mut [i64])
+    requires { ⌜ (length (now even) ≡ halfWidth 32) × (length (now odd) ≡ halfWidth 32) × (length (now out) ≡ halfWidth 32) ⌝ }
+    requires { ⌜ Within 10000000 (now even) ⌝ }
+    requires { ⌜ Within 10000000 (now odd) ⌝ }
+    ensures { λ _. ⌜ now (out .exit) ≡ secantWindows 32 (now (even .entry)) (now (odd .entry)) ⌝ }
+{
+    windows::windows(&SECANTS_32, even, odd, 2, 2, 4, out);
+}
+
+fn secant_windows_128(even: &[i64], odd: &[i64], out: &mut [i64])
+    requires { ⌜ (length (now even) ≡ halfWidth 128) × (length (now odd) ≡ halfWidth 128) × (length (now out) ≡ halfWidth 128) ⌝ }
+    requires { ⌜ Within 10000000 (now even) ⌝ }
+    requires { ⌜ Within 10000000 (now odd) ⌝ }
+    ensures { λ _. ⌜ now (out .exit) ≡ secantWindows 128 (now (even .entry)) (now (odd .entry)) ⌝ }
+{
+    windows::windows(&SECANTS_128, even, odd, 2, 2, 4, out);
 }
 
 // The secants, for r = k + 1 at even k and r = k - M at odd k, with two lists.
 pub fn secant_windows(width: usize, even: &[i64], odd: &[i64], out: &mut [i64])
-    requires { ⌜ (length (now even) ≡ halfWidth width) × (length (now odd) ≡ halfWidth width) × (length (now out) ≡ halfWidth width) × (0 < halfWidth width) ⌝ }
+    requires { ⌜ 0 < halfWidth width ⌝ }
+    requires { ⌜ (length (now even) ≡ halfWidth width) × (length (now odd) ≡ halfWidth width) × (length (now out) ≡ halfWidth width) ⌝ }
     requires { ⌜ Within 10000000 (now even) ⌝ }
     requires { ⌜ Within 10000000 (now odd) ⌝ }
-    ensures { λ _. ⌜ now (out .exit) ≡ places (halfWidth width) (inFours (places width (secantFor width)) (now (even .entry)) (now (odd .entry)) 2 2 4) ⌝ }
+    ensures { λ _. ⌜ now (out .exit) ≡ secantWindows width (now (even .entry)) (now (odd .entry)) ⌝ }
 {
     match width {
-        8 => windows::windows(&SECANTS_8, even, odd, 2, 2, 4, out),
-        32 => windows::windows(&SECANTS_32, even, odd, 2, 2, 4, out),
-        128 => windows::windows(&SECANTS_128, even, odd, 2, 2, 4, out),
-        _ => {}
-    }
-}
-
-// A list in the order of the powers of 3, with their signs.
-pub fn ordered(width: usize, x: &[i64], out: &mut [i64])
-    requires { ⌜ (length (now x) ≡ halfWidth width) × (length (now out) ≡ halfWidth width) × (0 < halfWidth width) ⌝ }
-    requires { ⌜ Within (2 ^ 63 - 1) (now x) ⌝ }
-    ensures { λ _. ⌜ now (out .exit) ≡ places (halfWidth width) (λ j. signIn width j *ℤ at (now (x .entry)) (placeIn width j)) ⌝ }
-{
-    match width {
-        8 => vectors::signed_gather(&PLACES_IN_8, &SIGNS_IN_8, x, out),
-        32 => vectors::signed_gather(&PLACES_IN_32, &SIGNS_IN_32, x, out),
-        128 => vectors::signed_gather(&PLACES_IN_128, &SIGNS_IN_128, x, out),
-        _ => {}
-    }
-}
-
-// A list back from that order.
-pub fn reordered(width: usize, x: &[i64], out: &mut [i64])
-    requires { ⌜ (length (now x) ≡ halfWidth width) × (length (now out) ≡ halfWidth width) × (0 < halfWidth width) ⌝ }
-    requires { ⌜ Within (2 ^ 63 - 1) (now x) ⌝ }
-    ensures { λ _. ⌜ now (out .exit) ≡ places (halfWidth width) (λ m. signOut width m *ℤ at (now (x .entry)) (placeOut width m)) ⌝ }
-{
-    match width {
-        8 => vectors::signed_gather(&PLACES_OUT_8, &SIGNS_OUT_8, x, out),
-        32 => vectors::signed_gather(&PLACES_OUT_32, &SIGNS_OUT_32, x, out),
-        128 => vectors::signed_gather(&PLACES_OUT_128, &SIGNS_OUT_128, x, out),
+        8 => secant_windows_8(even, odd, out),
+        32 => secant_windows_32(even, odd, out),
+        128 => secant_windows_128(even, odd, out),
         _ => {}
     }
 }

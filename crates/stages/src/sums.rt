@@ -15,9 +15,12 @@ pub fn cosine_sums(width: usize, x: &[i64], row: &mut [i64], sums: &mut [i64], o
     requires { ⌜ Within 500000000 (now x) ⌝ }
     ensures { λ _. ⌜ now (out .exit) ≡ cosineSums width (now (x .entry)) ⌝ }
 {
-    arranged::ordered(width, x, row);
-    arranged::turned(width, row, sums);
-    arranged::reordered(width, sums, out);
+    match width {
+        8 => arranged::cosine_sums_8(x, row, sums, out),
+        32 => arranged::cosine_sums_32(x, row, sums, out),
+        128 => arranged::cosine_sums_128(x, row, sums, out),
+        _ => {}
+    }
 }
 
 fn taken_place(half: usize, odd: usize, l: usize) -> usize

@@ -8,7 +8,9 @@ ghost use lib.Signed.{_≤ℤ_};
 ghost use lib.ListN.{length};
 ghost use Rattle.integers.specs.Places.{places, at, sum, Within};
 ghost use Rattle.stages.specs.Expanded.{window};
+ghost use Rattle.stages.specs.Moves.{Order, gathered};
 ghost use Rattle.stages.specs.Words.{Words, Settles, Raised, lowered};
+use crate::vectors;
 use crate::windows::Four;
 
 fn times(a: i64, b: i64) -> i64
@@ -116,7 +118,7 @@ fn settle(base: i64, weights: &[i64], y: &mut [i64])
 }
 
 // The sums of every part of the table, before it was raised, with row, which is raised.
-pub fn raised_sums(table: &[i64], weights: &[i64], row: &mut [i64], out: &mut [i64])
+fn raised_sums(table: &[i64], weights: &[i64], row: &mut [i64], out: &mut [i64])
     requires { ⌜ (length (now out) ≡ length (now row)) × (length (now weights) ≡ length (now row)) × (length (now row) % 4 ≡ 0) × (length (now table) ≡ length (now row) + length (now row)) × (length (now row) ≤ 64) ⌝ }
     requires { ⌜ Raised (length (now row)) (now table) (now weights) ⌝ }
     requires { ⌜ Within 134217727 (now row) ⌝ }
@@ -126,4 +128,29 @@ pub fn raised_sums(table: &[i64], weights: &[i64], row: &mut [i64], out: &mut [i
     windows(table, row, out);
     let base = 268435456 * total(row);
     settle(base, weights, out);
+}
+
+// The same, of a list brought into another order, and with the sums brought into another.
+pub fn ordered_sums(
+    order: &[usize],
+    signs: &[i64],
+    table: &[i64],
+    weights: &[i64],
+    back: &[usize],
+    flips: &[i64],
+    x: &[i64],
+    row: &mut [i64],
+    sums: &mut [i64],
+    out: &mut [i64],
+)
+    requires { ⌜ (length (now row) ≡ length (now x)) × (length (now sums) ≡ length (now x)) × (length (now out) ≡ length (now x)) × (length (now x) % 4 ≡ 0) × (length (now table) ≡ length (now x) + length (now x)) × (length (now x) ≤ 64) ⌝ }
+    requires { ⌜ Order (length (now x)) (now order) (now signs) ⌝ }
+    requires { ⌜ Order (length (now x)) (now back) (now flips) ⌝ }
+    requires { ⌜ Raised (length (now x)) (now table) (now weights) ⌝ }
+    requires { ⌜ Within 134217727 (now x) ⌝ }
+    ensures { λ _. ⌜ now (out .exit) ≡ places (length (now (x .entry))) (gathered (now (back .entry)) (now (flips .entry)) (places (length (now (x .entry))) (window (lowered (now (table .entry))) (places (length (now (x .entry))) (gathered (now (order .entry)) (now (signs .entry)) (now (x .entry))))))) ⌝ }
+{
+    vectors::signed_gather(order, signs, x, row);
+    raised_sums(table, weights, row, sums);
+    vectors::signed_gather(back, flips, sums, out);
 }

@@ -57,8 +57,11 @@ secant-windows-requires c κs =
     let s = c .before .before .before .before .before .before .before .before .before in
     let f = c .before .before .before .before .before .before .before in
     let g = c .before .before .before .before in (
-      (ap length (row-is f) ∙ length-places _ _, ap length (odd-is g) ∙ length-places _ _, s .pre .1 .0 .3, s .pre .0),
-      (subst (Within 10000000) (sym (row-is f)) (taken-within s 0), subst (Within 10000000) (sym (odd-is g)) (taken-within s 1)),
+      s .pre .0,
+      (
+        (ap length (row-is f) ∙ length-places _ _, ap length (odd-is g) ∙ length-places _ _, s .pre .1 .0 .3),
+        (subst (Within 10000000) (sym (row-is f)) (taken-within s 0), subst (Within 10000000) (sym (odd-is g)) (taken-within s 1)),
+      ),
     )
 
 same-length : tie.Need-same-length
