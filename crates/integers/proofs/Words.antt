@@ -1,18 +1,18 @@
 -- What fits a signed machine word: a size below half the word's range, a change of sign, a quotient. Sizes are `natAbs`, so that `omega` reads them.
 use mathlib.Core.Path.{_≡_, refl, sym, ap, subst, _∙_}
-use mathlib.Core.Bool.{Bool, true, false}
-use Prim.Native.Nat.{ℕ, zero, suc, _+_, _-_, _*_, _/_, _%_, _^_, _≤_, _<_}
-use native.Mathlib.Nat.{div-le-self, mod-lt, div-add-mod', suc-mul, add-zero}
+use mathlib.Core.Bool.{true, false, true≢false}
+use Prim.Native.Nat.{ℕ, zero, suc, _+_, _-_, _*_, _/_, _^_, _≤_, _<_}
+use native.Mathlib.Nat.{div-le-self}
 use native.Mathlib.Omega.{arith}
-use lib.Arith.{digits-div}
-use lib.Dec.{T, ltb, ltb→lt, leb→le}
+use borrow.Author.Tests.{le-ltb}
+use lib.Dec.{T, ltb→lt, leb→le}
 use lib.IntN.{ℤ, pos, negsuc, negℤ, natAbs, _+ℤ_, _-ℤ_, _*ℤ_, +ℤ-idl}
 use lib.Signed.{mag, quotZ, remZ, mag-rem, ltZ, _<ℤ_, _≤ℤ_}
 use mir.Syntax.{Width}
 use mir.Val.{SFits, ofZ, hbits}
 use mir.ValLaws.{sfits-le}
 use Rattle.integers.specs.Floor.{above, floorDiv}
-use Rattle.integers.proofs.Differences.{dif, zb}
+use Rattle.integers.proofs.Differences.{dif, zs, zb}
 use Rattle.integers.proofs.Order.{natAbs-negℤ, mag-lt}
 use Rattle.integers.proofs.Rounding.{floorDiv-le, floorDiv-lt}
 
@@ -50,52 +50,40 @@ floor-fits w v zero h = record { sfits = omega (arith, h .sfits) }
 floor-fits w (pos a) (suc p) h = record { sfits = omega (arith, div-le-self a (suc p), h .sfits) }
 floor-fits w (negsuc a) (suc p) h = record { sfits = omega (arith, div-le-self a (suc p), h .sfits) }
 
--- a / p where q * p + r is a + 1: one below q where nothing is left, and q where something is
-down-exact : (a p q r : ℕ) → 0 < p → q * p + r ≡ suc a → r ≡ 0 → suc (a / p) ≡ q
-down-exact a p zero r hp e z = absurd (omega arith)
-down-exact a p (suc k) r hp e z =
-    let f : a ≡ k * p + (p - 1) = omega (arith, suc-mul k p) in
-    rw f (ap suc (digits-div k {m = p} {r = p - 1} (omega arith)))
+-- −1 − z counts from −1 down
+from-below : (a : ℕ) → negsuc 0 -ℤ negsuc a ≡ pos a
+from-below a = rw (le-ltb (suc a) 1 (omega arith)) (ap pos (omega arith))
 
-down-rest : (a p q r : ℕ) → q * p + r ≡ suc a → 0 < r → r < p → a / p ≡ q
-down-rest a p q r e hr hp =
-    let f : a ≡ q * p + (r - 1) = omega arith in
-    rw f (digits-div q {m = p} {r = r - 1} (omega arith))
+to-below : (n : ℕ) → negsuc 0 -ℤ pos n ≡ negsuc n
+to-below n = simp zs (omega arith)
 
-neg-less : (q : ℕ) → negℤ (pos q) -ℤ pos 1 ≡ negsuc q
-neg-less zero = refl
-neg-less (suc k) = ap (λ (n : ℕ). negsuc (suc n)) (add-zero k)
-
-neg-test : (r : ℕ) (b : Bool) → ltZ (negℤ (pos r)) (pos 0) ≡ b → (T b → 0 < r) × ((T b → ⊥) → r ≡ 0)
-neg-test zero b e = ((λ t. absurd (subst T (sym e) t)), (λ f. refl))
-neg-test (suc r) b e = ((λ t. omega arith), (λ f. absurd (f (subst T e tt))))
-
-pub floor-exact : (v p : ℤ) → pos 0 <ℤ p → ltZ (remZ v p) (pos 0) ≡ false → quotZ v p ≡ floorDiv v (above p)
+pub floor-above : (v p : ℤ) → pos 0 <ℤ p → ltZ v (pos 0) ≡ false → quotZ v p ≡ floorDiv v (above p)
 unfolding floorDiv above
-floor-exact v (negsuc p) k e = absurd (k .lt)
-floor-exact v (pos zero) k e = absurd (k .lt)
-floor-exact (pos a) (pos (suc p)) k e = refl
-floor-exact (negsuc a) (pos (suc p)) k e =
-    let z = neg-test (suc a % suc p) false e .1 (λ t. t) in
-    ap (λ (n : ℕ). negℤ (pos n)) (sym (down-exact a (suc p) (suc a / suc p) (suc a % suc p) (omega arith) (div-add-mod' (suc a) (suc p)) z))
+floor-above v (negsuc p) k e = absurd (k .lt)
+floor-above v (pos zero) k e = absurd (k .lt)
+floor-above (pos a) (pos (suc p)) k e = refl
+floor-above (negsuc a) (pos (suc p)) k e = absurd (true≢false e)
 
-pub floor-less : (v p : ℤ) → pos 0 <ℤ p → ltZ (remZ v p) (pos 0) ≡ true → quotZ v p -ℤ pos 1 ≡ floorDiv v (above p)
+pub floor-below : (v p : ℤ) → pos 0 <ℤ p → ltZ v (pos 0) ≡ true → negsuc 0 -ℤ quotZ (negsuc 0 -ℤ v) p ≡ floorDiv v (above p)
 unfolding floorDiv above
-floor-less v (negsuc p) k e = absurd (k .lt)
-floor-less v (pos zero) k e = absurd (k .lt)
-floor-less (pos a) (pos (suc p)) k e = absurd (omega (arith, ltb→lt (a % suc p) 0 (subst T (sym e) tt)))
-floor-less (negsuc a) (pos (suc p)) k e =
-    let z = neg-test (suc a % suc p) true e .0 tt in
-    neg-less (suc a / suc p) ∙ ap negsuc (sym (down-rest a (suc p) (suc a / suc p) (suc a % suc p) (div-add-mod' (suc a) (suc p)) z (mod-lt (suc a) {m = suc p} (omega arith))))
+floor-below v (negsuc p) k e = absurd (k .lt)
+floor-below v (pos zero) k e = absurd (k .lt)
+floor-below (pos a) (pos (suc p)) k e = absurd (omega (arith, ltb→lt a 0 (subst T (sym e) tt)))
+floor-below (negsuc a) (pos (suc p)) k e = ap (λ (z : ℤ). negsuc 0 -ℤ quotZ z (pos (suc p))) (from-below a) ∙ to-below (a / suc p)
+
+-- what is divided, and its quotient, fit
+pub turned-fits : (w : Width) (v : ℤ) → SFits w v → ltZ v (pos 0) ≡ true → SFits w (negsuc 0 -ℤ v)
+turned-fits w (pos a) h e = absurd (omega (arith, ltb→lt a 0 (subst T (sym e) tt)))
+turned-fits w (negsuc a) h e = subst (SFits w) (sym (from-below a)) (record { sfits = omega (arith, h .sfits) })
+
+pub below-fits : (w : Width) (v p : ℤ) → SFits w v → pos 0 <ℤ p → ltZ v (pos 0) ≡ true → SFits w (negsuc 0 -ℤ quotZ (negsuc 0 -ℤ v) p)
+below-fits w v p h k e = subst (SFits w) (sym (floor-below v p k e)) (floor-fits w v (above p) h)
 
 pub floor-none : (v p : ℤ) → p ≤ℤ pos 0 → pos 0 ≡ floorDiv v (above p)
 unfolding floorDiv above
 floor-none v (pos zero) e = refl
 floor-none v (pos (suc p)) e = absurd (omega (arith, leb→le (suc p) 0 (e .le)))
 floor-none v (negsuc p) e = refl
-
-pub less-fits : (w : Width) (v p : ℤ) → SFits w v → pos 0 <ℤ p → ltZ (remZ v p) (pos 0) ≡ true → SFits w (quotZ v p -ℤ pos 1)
-less-fits w v p h k e = subst (SFits w) (sym (floor-less v p k e)) (floor-fits w v (above p) h)
 
 -- a number less its half, rounded down
 halving : (f g : ℤ) (H : ℕ) → (pos 2 *ℤ g) ≤ℤ f → f <ℤ (pos 2 *ℤ g +ℤ pos 2) → mag f < H → mag (f -ℤ g) < H

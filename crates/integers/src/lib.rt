@@ -2,18 +2,17 @@
 ghost use mathlib.Core.Path.{_≡_};
 ghost use Rattle.integers.specs.Floor.{above, floorDiv, round};
 
-// The floor of v / p, and 0 for a divisor that is not above zero.
+// The floor of v / p, and 0 for a divisor that is not above zero. What is divided is never below zero.
 pub fn floor_div(v: i64, p: i64) -> i64
     ensures { λ r. ⌜ r ≡ floorDiv v (above p) ⌝ }
 {
     if p <= 0 {
         return 0;
     }
-    let q = v / p;
-    if v % p < 0 {
-        return q - 1;
+    if v < 0 {
+        return -1 - (-1 - v) / p;
     }
-    q
+    v / p
 }
 
 // v / 2^k rounded, halves up. Counted in halves of 2^k, so that no sum leaves 64 bits.
