@@ -130,7 +130,7 @@ fn settled_gather(
     }
 }
 
-// The sums of every part of the table, before it was raised, with x in another order, and they in another.
+// The sums of every part of the table, as it was before it was raised, with x in one order. The sums come out in another.
 pub fn ordered_sums(
     order: &[usize],
     signs: &[i64],
