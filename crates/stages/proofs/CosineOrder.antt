@@ -5,13 +5,12 @@ use mathlib.Core.List.{List, []}
 use Prim.Native.Nat.{ℕ, _+_, _-_, _%_, _^_, _≤_, _<_}
 use native.Mathlib.Omega.{arith}
 use lib.Dec.{T, ltb, ltb→lt, eqb, eqb→eq}
-use lib.IntN.{ℤ, natAbs, _+ℤ_, _*ℤ_}
+use lib.IntN.{ℤ, _*ℤ_}
 use lib.ListN.{length, getD}
 use Rattle.integers.specs.Places.{tab, places, at, sum, Within}
 use Rattle.integers.specs.Tests.{below}
 use Rattle.integers.proofs.Tested.{and-left, and-right, below-at}
-use Rattle.integers.proofs.Order.{natAbs-*ℤ-le}
-use Rattle.integers.proofs.Ring.{*ℤ-assoc, *ℤ-distribl}
+use Rattle.integers.proofs.Ring.{*ℤ-assoc}
 use Rattle.integers.proofs.PlaceLaws.{at-tab, length-places, at-places, places-ext, sum-ext, within-places}
 use Rattle.integers.proofs.Permutations.{sum-permuted}
 use Rattle.tables.specs.Widths.{byWidth, halfWidth}
@@ -99,10 +98,6 @@ out-order N = record {
   within = signs-out-within N;
 }
 
-sign-in-size : (N j : ℕ) → natAbs (signIn N j) ≤ 1
-unfolding signIn
-sign-in-size N j = signs-in-within N .size j
-
 pub half-in-fours : (N : ℕ) → halfWidth N % 4 ≡ 0
 unfolding halfWidth
 half-in-fours = at-each (λ N M. M % 4 ≡ 0) 4 16 64 0 refl refl refl (λ N x y z. refl)
@@ -129,11 +124,8 @@ module _ (N : ℕ) (x row : List ℤ) (wide : 0 < halfWidth N) (r : row ≡ plac
   abbrev turn : List ℤ
   turn = places N (turnAt N)
 
-  pub row-long : length row ≡ M
+  row-long : length row ≡ M
   row-long = ap length r ∙ length-places M _
-
-  pub row-within : Within 500000000 x → Within 500000000 row
-  row-within h = subst (Within 500000000) (sym r) (within-places M _ _ (λ j l. natAbs-*ℤ-le (signIn N j) (at x (placeIn N j)) (sign-in-size N j) (h .size (placeIn N j))))
 
   term : (m j : ℕ) → m < M → j < M → signOut N m *ℤ (at turn (placeOut N m + j) *ℤ at row j) ≡ cosine N m (placeIn N j) *ℤ at x (placeIn N j)
   term m j h k =
@@ -150,9 +142,9 @@ module _ (N : ℕ) (x row : List ℤ) (wide : 0 < halfWidth N) (r : row ≡ plac
       ∙ sum-ext M _ _ (λ j k. term m j h k)
       ∙ sum-permuted M (placeIn N) (placeOut N) (in-out N) (out-in N) (λ n. cosine N m n *ℤ at x n)
 
-  pub turned-within : Within 500000000 x → Within (2 ^ 63 - 1) (turnedSums N row)
+  pub turned-within : Within 500000000 row → Within (2 ^ 63 - 1) (turnedSums N row)
   unfolding turnedSums
-  turned-within h = within-places M _ _ (λ i l. window-size (turn-sizes N (length row) turn row refl (omega (arith, row-long, half-width-le N)) (row-within h)) i)
+  turned-within h = within-places M _ _ (λ i l. window-size (turn-sizes N (length row) turn row refl (omega (arith, row-long, half-width-le N)) h) i)
 
   pub cosine-windows : (sums : List ℤ) → sums ≡ turnedSums N row → places M (λ m. signOut N m *ℤ at sums (placeOut N m)) ≡ cosineSums N x
   unfolding cosineSums turnedSums

@@ -2,7 +2,7 @@
 use mathlib.Core.Path.{_≡_, refl, sym, ap, ap₂, subst, _∙_}
 use mathlib.Core.Bool.{Bool, true, _&&_}
 use mathlib.Core.List.{List, [], _∷_}
-use Prim.Native.Nat.{ℕ, zero, suc, _+_, _%_, _^_, _≤_, _<_}
+use Prim.Native.Nat.{ℕ, zero, suc, _+_, _%_, _^_, _≤_}
 use native.Mathlib.Omega.{arith}
 use lib.Dec.{T}
 use lib.IntN.{ℤ, pos, _+ℤ_, _-ℤ_, _*ℤ_}
@@ -17,11 +17,11 @@ use Rattle.tables.specs.Widths.{halfWidth}
 use Rattle.tables.proofs.ByWidth.{half-width-le}
 use Rattle.tables.proofs.Sizes.{cosine-size}
 use Rattle.stages.specs.Expanded.{window, inFours, Sizes, turnAt, turnedSums, secantFor, secantWindows}
-use Rattle.stages.specs.Words.{Above, Raised, lowered}
+use Rattle.stages.specs.Words.{lowered}
 use Rattle.stages.specs.Arranged.{CosineTables, placesIn, signsIn, placesOut, signsOut}
 use Rattle.stages.proofs.ArrangedLaws.{small, all-within}
 use Rattle.stages.proofs.WindowLaws.{fours-window}
-use Rattle.stages.proofs.CosineOrder.{half-in-fours, turn-sizes}
+use Rattle.stages.proofs.CosineOrder.{half-in-fours}
 use Rattle.stages.proofs.SumLaws.{secant-sizes}
 
 -- no entry below 0, by a test of every entry
@@ -36,7 +36,7 @@ ups-at (x ∷ xs) t (suc i) = ups-at xs (and-right (leZ (pos 0) x) (ups xs) t) i
 
 -- a width k, its half h, and lists as long as the half
 module _ (k h : ℕ) (e : halfWidth k ≡ h) {N n o : ℕ} (w : N ≡ k) (a : n ≡ halfWidth N) (b : o ≡ halfWidth N) where
-  pub half-is : n ≡ h
+  half-is : n ≡ h
   half-is = a ∙ ap halfWidth w ∙ e
 
   pub lengths : h % 4 ≡ 0 → k ≡ h + h → h ≤ 64 → (o ≡ n) × (n % 4 ≡ 0) × (k ≡ n + n) × (n ≤ 64)
@@ -87,15 +87,12 @@ tables-of k h ps ss ts ws qs rs l a b c d u s t v w = record {
 
 -- the sums that a part of the table gives
 module _ {N k n : ℕ} (w : N ≡ k) (l : n ≡ halfWidth N) {t : List ℤ} (row : List ℤ) {out : List ℤ} (e : t ≡ places k (turnAt k)) where
-  pub turned-is : out ≡ places n (window t row) → out ≡ turnedSums N row
+  turned-is : out ≡ places n (window t row) → out ≡ turnedSums N row
   unfolding turnedSums
   turned-is o = o ∙ ap (λ m. places m (window t row)) l ∙ ap (λ u. places (halfWidth N) (window u row)) (e ∙ ap (λ m. places m (turnAt m)) (sym w))
 
   pub turned-fours : out ≡ places n (inFours t row row 1 2 3) → out ≡ turnedSums N row
   turned-fours o = turned-is (o ∙ places-ext n _ _ (λ i m. fours-window t row i))
-
-pub turn-fits : (k : ℕ) {n : ℕ} (t x : List ℤ) → t ≡ places k (turnAt k) → n ≤ 64 → Within 500000000 x → Sizes n t x
-turn-fits k {n} t x e l h = turn-sizes k n t x e l h
 
 -- ---- the secants
 module _ (N : ℕ) (e : halfWidth N + halfWidth N ≡ N) (t z w : List ℤ) (s : t ≡ places N (secantFor N)) {o : ℕ} (l : (length z ≡ halfWidth N) × (length w ≡ halfWidth N) × (o ≡ halfWidth N)) where

@@ -4,18 +4,19 @@ use mathlib.Core.Bool.{Bool, true, false}
 use mathlib.Core.List.{List}
 use Prim.Native.Nat.{ℕ, zero, suc, _+_, _-_, _*_, _^_, _≤_, _<_}
 use native.Mathlib.Omega.{arith}
-use lib.IntN.{ℤ, pos, negℤ, natAbs, _+ℤ_, _-ℤ_, _*ℤ_, *ℤ-zero, *ℤ-comm, +ℤ-comm, -ℤ-+ℤ-cancel}
+use lib.IntN.{ℤ, pos, natAbs, _+ℤ_, _-ℤ_, _*ℤ_, *ℤ-zero, *ℤ-comm, +ℤ-comm, -ℤ-+ℤ-cancel}
 use lib.Dec.{ltb}
 use lib.Signed.{_≤ℤ_, ≤ℤ-refl}
-use lib.ListN.{length, drop, List·getD-eq-default}
+use lib.ListN.{length, getD, drop, List·getD-eq-default}
 use borrow.Author.Tests.{ltb-true, ltb-false}
 use Rattle.integers.proofs.Order.{natAbs-+ℤ, natAbs-+ℤ-le, natAbs-≤-iff, pos-≤-iff, ≤ℤ-trans, +ℤ-mono-r}
 use Rattle.integers.proofs.Ring.{*ℤ-distribl, *ℤ-distribr, -ℤ-move}
-use Rattle.integers.proofs.PlaceLaws.{length-places, at-places, sum-ext, within-places}
+use Rattle.integers.proofs.PlaceLaws.{length-places, at-places, places-ext, sum-ext, within-places}
 use Rattle.integers.proofs.Permutations.{sum-plus}
 use Rattle.integers.specs.Places.{places, at, sum, Within}
 use Rattle.stages.specs.Expanded.{window, Sizes}
-use Rattle.stages.specs.Words.{Above, Words, Raised, Settles, lowered}
+use Rattle.stages.specs.Moves.{Order, gathered}
+use Rattle.stages.specs.Words.{Above, Words, Raised, Settles, lowered, settled}
 use Rattle.stages.proofs.WindowLaws.{term, product-size, window-le, part-at}
 
 module _ {n : ℕ} {t x : List ℤ} (s : Words n t x) (j k : ℕ) (h : j < n) {u v : ℤ} (a : u ≡ at t k) (b : v ≡ at x j) where
@@ -88,6 +89,9 @@ module _ (n : ℕ) (t weights x : List ℤ) (r : Raised n t weights) (tl : lengt
   abbrev pub raised : List ℤ
   raised = places n (λ i. at x i +ℤ pos 134217728)
 
+  pub raised-gathered : (f : ℕ → ℤ) → x ≡ places n f → places n (λ k. f k +ℤ pos 134217728) ≡ raised
+  raised-gathered f e = places-ext n _ _ (λ k h. ap (λ y. y +ℤ pos 134217728) (sym (ap (λ l. at l k) e ∙ at-places n f k h)))
+
   pub raised-within : Within (2 ^ 28 - 1) raised
   raised-within = within-places n _ _ (λ i h. omega (arith, natAbs-+ℤ (at x i) (pos 134217728), q .size i))
 
@@ -124,7 +128,7 @@ module _ (n : ℕ) (t weights x : List ℤ) (r : Raised n t weights) (tl : lengt
       ∙ sym (ap (λ w. at w i) (r .weights-are) ∙ at-places n _ i h))
       (ap (λ m. sum m (λ j. at (lowered t) (i + j) *ℤ at x j)) (sym xl)))
 
-  pub window-small : (i : ℕ) → natAbs (window (lowered t) x i) ≤ 2 ^ 61
+  window-small : (i : ℕ) → natAbs (window (lowered t) x i) ≤ 2 ^ 61
   window-small i =
       omega (arith, window-le (record { table = 2 ^ 28; list = 134217727; table-within = r .lowered-within; list-within = q; fits = omega (arith, small, xl) }) i, small, xl)
 
@@ -137,9 +141,15 @@ module _ (n : ℕ) (t weights x : List ℤ) (r : Raised n t weights) (tl : lengt
 
     pub settles : Settles base weights sums
     settles = record {
-      settled = λ i h. let l : i < n = omega (arith, h, ap length w, length-places n (window t raised)) in rw (raised-at i l) (omega (arith, natAbs-+ℤ (at weights i) (window (lowered t) x i), r .weights-within .size i, window-small i));
+      lessened = λ i h. let l : i < n = omega (arith, h, ap length w, length-places n (window t raised)) in rw (raised-at i l) (omega (arith, natAbs-+ℤ (at weights i) (window (lowered t) x i), r .weights-within .size i, window-small i));
       weighed = r .weights-within;
     }
 
-    pub settled-window : (i : ℕ) → i < n → at sums i -ℤ base -ℤ at weights i ≡ window (lowered t) x i
+    settled-window : (i : ℕ) → i < n → settled base weights sums i ≡ window (lowered t) x i
     settled-window i h = ap (λ y. y -ℤ at weights i) (raised-at i h) ∙ -ℤ-move _ (at weights i) (window (lowered t) x i) refl
+
+    pub settled-gathered : (ps : List ℕ) (ss : List ℤ) → Order n ps ss → places n (λ m. at ss m *ℤ settled base weights sums (getD ps m 0)) ≡ places n (gathered ps ss (places n (window (lowered t) x)))
+    settled-gathered ps ss o =
+        places-ext n _ _ (λ m h.
+        let l : getD ps m 0 < n = o .below .below m (omega (arith, h, o .places-long)) in
+        ap (λ y. at ss m *ℤ y) (settled-window (getD ps m 0) l ∙ sym (at-places n (window (lowered t) x) (getD ps m 0) l)))

@@ -32,7 +32,11 @@ pub record Raised (n : ℕ) (t weights : List ℤ) : Type 0 where
   pub weights-within : Within (2 ^ 61) weights
   pub weights-are : weights ≡ places n (λ i. pos (2 ^ 27) *ℤ sum n (λ j. at t (i + j) -ℤ pos (2 ^ 28)))
 
--- what is taken from the numbers of y fits 64 bits
-pub record Settles (base : ℤ) (weights y : List ℤ) : Type 0 where
-  pub settled : (i : ℕ) → i < length y → natAbs (at y i -ℤ base) ≤ 2 ^ 62
+-- a sum less what raising added to it
+abbrev pub settled : ℤ → List ℤ → List ℤ → ℕ → ℤ
+settled base weights sums i = at sums i -ℤ base -ℤ at weights i
+
+-- what is taken from the sums fits 64 bits
+pub record Settles (base : ℤ) (weights sums : List ℤ) : Type 0 where
+  pub lessened : (i : ℕ) → i < length sums → natAbs (at sums i -ℤ base) ≤ 2 ^ 62
   pub weighed : Within (2 ^ 61) weights

@@ -1,4 +1,4 @@
-// Tables of a width as the sums take them.
+// The tables of each width, and the row sums with them.
 ghost use mathlib.Core.Path.{_≡_};
 ghost use Prim.Native.Nat.{_<_};
 ghost use lib.ListN.{length};

@@ -3,14 +3,13 @@
 ghost use mathlib.Core.Path.{_≡_};
 ghost use mathlib.Core.Bool.{true};
 ghost use Prim.Native.Nat.{_+_, _%_, _*_, _^_, _≤_, _<_};
-ghost use lib.IntN.{pos, natAbs, _+ℤ_, _-ℤ_, _*ℤ_};
+ghost use lib.IntN.{pos, natAbs, _+ℤ_, _*ℤ_};
 ghost use lib.Signed.{_≤ℤ_};
-ghost use lib.ListN.{length};
+ghost use lib.ListN.{length, getD};
 ghost use Rattle.integers.specs.Places.{places, at, sum, Within};
 ghost use Rattle.stages.specs.Expanded.{window};
 ghost use Rattle.stages.specs.Moves.{Order, gathered};
-ghost use Rattle.stages.specs.Words.{Words, Settles, Raised, lowered};
-use crate::vectors;
+ghost use Rattle.stages.specs.Words.{Words, Settles, Raised, lowered, settled};
 use crate::windows::Four;
 
 fn times(a: i64, b: i64) -> i64
@@ -80,14 +79,18 @@ pub fn inside(x: &[i64]) -> bool
     true
 }
 
-fn raise(y: &mut [i64])
-    requires { ⌜ Within (2 ^ 60) (now y) ⌝ }
-    ensures { λ _. ⌜ now (y .exit) ≡ places (length (now (y .entry))) (λ i. at (now (y .entry)) i +ℤ pos 134217728) ⌝ }
+// The numbers at these places of x, each with a sign, and raised.
+fn raised_gather(order: &[usize], signs: &[i64], x: &[i64], out: &mut [i64])
+    requires { ⌜ length (now out) ≡ length (now x) ⌝ }
+    requires { ⌜ Order (length (now x)) (now order) (now signs) ⌝ }
+    requires { ⌜ Within 134217727 (now x) ⌝ }
+    ensures { λ _. ⌜ now (out .exit) ≡ places (length (now (x .entry))) (λ k. gathered (now (order .entry)) (now (signs .entry)) (now (x .entry)) k +ℤ pos 134217728) ⌝ }
 {
-    let mut i = 0;
-    while i < y.len() {
-        y[i] = y[i] + 134217728;
-        i += 1;
+    let mut k = 0;
+    while k < out.len() {
+        let from = order[k];
+        out[k] = signs[k] * x[from] + 134217728;
+        k += 1;
     }
 }
 
@@ -105,32 +108,29 @@ fn total(x: &[i64]) -> i64
     sum
 }
 
-fn settle(base: i64, weights: &[i64], y: &mut [i64])
-    requires { ⌜ length (now weights) ≡ length (now y) ⌝ }
-    requires { ⌜ Settles base (now weights) (now y) ⌝ }
-    ensures { λ _. ⌜ now (y .exit) ≡ places (length (now (y .entry))) (λ i. at (now (y .entry)) i -ℤ base -ℤ at (now (weights .entry)) i) ⌝ }
+// The sums at these places, less what raising added to them, each with a sign.
+fn settled_gather(
+    base: i64,
+    weights: &[i64],
+    order: &[usize],
+    signs: &[i64],
+    sums: &[i64],
+    out: &mut [i64],
+)
+    requires { ⌜ (length (now weights) ≡ length (now sums)) × (length (now out) ≡ length (now sums)) ⌝ }
+    requires { ⌜ Order (length (now sums)) (now order) (now signs) ⌝ }
+    requires { ⌜ Settles base (now weights) (now sums) ⌝ }
+    ensures { λ _. ⌜ now (out .exit) ≡ places (length (now (sums .entry))) (λ m. at (now (signs .entry)) m *ℤ settled base (now (weights .entry)) (now (sums .entry)) (getD (now (order .entry)) m 0)) ⌝ }
 {
-    let mut i = 0;
-    while i < y.len() {
-        y[i] = y[i] - base - weights[i];
-        i += 1;
+    let mut k = 0;
+    while k < out.len() {
+        let from = order[k];
+        out[k] = signs[k] * (sums[from] - base - weights[from]);
+        k += 1;
     }
 }
 
-// The sums of every part of the table, before it was raised, with row, which is raised.
-fn raised_sums(table: &[i64], weights: &[i64], row: &mut [i64], out: &mut [i64])
-    requires { ⌜ (length (now out) ≡ length (now row)) × (length (now weights) ≡ length (now row)) × (length (now row) % 4 ≡ 0) × (length (now table) ≡ length (now row) + length (now row)) × (length (now row) ≤ 64) ⌝ }
-    requires { ⌜ Raised (length (now row)) (now table) (now weights) ⌝ }
-    requires { ⌜ Within 134217727 (now row) ⌝ }
-    ensures { λ _. ⌜ now (out .exit) ≡ places (length (now (row .entry))) (window (lowered (now (table .entry))) (now (row .entry))) ⌝ }
-{
-    raise(row);
-    windows(table, row, out);
-    let base = 268435456 * total(row);
-    settle(base, weights, out);
-}
-
-// The same, of a list brought into another order, and with the sums brought into another.
+// The sums of every part of the table, as it was before it was raised, with x in one order. The sums come out in another.
 pub fn ordered_sums(
     order: &[usize],
     signs: &[i64],
@@ -150,7 +150,8 @@ pub fn ordered_sums(
     requires { ⌜ Within 134217727 (now x) ⌝ }
     ensures { λ _. ⌜ now (out .exit) ≡ places (length (now (x .entry))) (gathered (now (back .entry)) (now (flips .entry)) (places (length (now (x .entry))) (window (lowered (now (table .entry))) (places (length (now (x .entry))) (gathered (now (order .entry)) (now (signs .entry)) (now (x .entry))))))) ⌝ }
 {
-    vectors::signed_gather(order, signs, x, row);
-    raised_sums(table, weights, row, sums);
-    vectors::signed_gather(back, flips, sums, out);
+    raised_gather(order, signs, x, row);
+    windows(table, row, sums);
+    let base = 268435456 * total(row);
+    settled_gather(base, weights, back, flips, sums, out);
 }

@@ -53,6 +53,9 @@ module _ (r : tie.After-signed-gather) where
   is-row : row ≡ ordered s
   is-row = r .signed-gather .ensures ∙ ap (λ m. places m (gathered (s .args .order .now) (s .args .signs .now) (x s))) (s .pre .1 .1 .0 .1)
 
+  row-within : Within 500000000 row
+  row-within = subst (Within 500000000) (sym is-row) (gathered-within (x s) (order-in (tables s)) (s .pre .1 .1 .1))
+
 module _ (w : tie.After-turned-wide) where
   abbrev r : tie.After-signed-gather
   r = w .before .before .before .before
@@ -115,7 +118,7 @@ turned-wide-requires : tie.Need-turned-wide-requires
 turned-wide-requires c κs =
     let r = c .before .before .before in
     let q = s r .pre in
-    ((ap length (is-row r) ∙ length-places _ _, q .1 .1 .0 .2, q .0), subst (Within 500000000) (sym (is-row r)) (gathered-within (x (s r)) (order-in (tables (s r))) (q .1 .1 .1)))
+    ((ap length (is-row r) ∙ length-places _ _, q .1 .1 .0 .2, q .0), row-within r)
 
 signed-gather-requires-2 : tie.Need-signed-gather-requires-2
 signed-gather-requires-2 c κs =
@@ -126,7 +129,7 @@ signed-gather-requires-2 c κs =
       (o .places-long ∙ e, o .signs-long ∙ e),
       (
         subst (λ n. Below n (t .args .back .now)) (sym (sums-long w)) (o .below),
-        (o .within, subst (Within (2 ^ 63 - 1)) (sym (are-sums w)) (turned-within (N t) (x t) (row (r w)) (t .pre .0) (is-row (r w) ∙ row-is (tables t) (x t)) (t .pre .1 .1 .1))),
+        (o .within, subst (Within (2 ^ 63 - 1)) (sym (are-sums w)) (turned-within (N t) (x t) (row (r w)) (t .pre .0) (is-row (r w) ∙ row-is (tables t) (x t)) (row-within (r w)))),
       ),
     )
 

@@ -1,14 +1,13 @@
 -- `stages::words::inside` meets its contract.
 use borrow.Author.Needs.{needs}
 use native.Mathlib.Omega.{arith}
-use mathlib.Core.Path.{_≡_, sym}
 use mathlib.Core.Bool.{false≢true}
-use Prim.Native.Nat.{ℕ, _+_, _-_, _≤_, _<_}
+use Prim.Native.Nat.{_-_, _≤_}
 use lib.IntN.{ℤ, pos, negℤ, natAbs}
 use lib.ListN.{length}
 use mir.Syntax.{w64}
-use Rattle.integers.specs.Places.{at, Within}
-use Rattle.integers.proofs.Held.{Held, held-ok, held, h-lt}
+use Rattle.integers.specs.Places.{at}
+use Rattle.integers.proofs.Held.{held-ok, held, h-lt}
 use Rattle.integers.proofs.Order.{natAbs-≤-iff, lt-left}
 use Rattle.stages.proofs.WordLaws.{InsideSo, none-inside, next-inside, all-inside}
 use Rattle.stages.proofs.words.inside.Statement.{statement}
