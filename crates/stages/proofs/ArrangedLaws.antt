@@ -1,10 +1,11 @@
 -- A width by its number, limits of tables, and lists brought into an order.
-use mathlib.Core.Path.{_≡_, sym}
-use mathlib.Core.Bool.{Bool, true, _&&_}
+use mathlib.Core.Path.{_≡_, refl, sym}
+use mathlib.Core.Bool.{Bool, true, false, _&&_}
+use borrow.Author.Tests.{eqb-true, eqb-false}
 use mathlib.Core.List.{List, [], _∷_}
 use Prim.Native.Nat.{ℕ, zero, suc, _≤_, _<_}
 use native.Mathlib.Omega.{arith}
-use lib.Dec.{T, leb, leb→le}
+use lib.Dec.{T, eqb, leb, leb→le}
 use lib.IntN.{ℤ, natAbs}
 use lib.ListN.{length, getD}
 use Rattle.integers.specs.Places.{places, at, Within}
@@ -18,6 +19,13 @@ use Rattle.stages.specs.Moves.{Order, gathered}
 pub no-width : (N : ℕ) → (N ≡ 8 → ⊥) → (N ≡ 32 → ⊥) → (N ≡ 128 → ⊥) → 0 < halfWidth N → ⊥
 unfolding halfWidth
 no-width N x y z h = absurd (omega (arith, at-other {A = ℕ} 4 16 64 0 {n = N} x y z))
+
+pub only-eight : (N : ℕ) → N ≤ 8 → 0 < halfWidth N → N ≡ 8
+only-eight N l h = by (eqb N 8) refl
+  where
+    by : (t : Bool) → eqb N 8 ≡ t → N ≡ 8
+    by true e = eqb-true N 8 e
+    by false e = absurd (no-width N (eqb-false N 8 e) (λ f. omega (arith, l, f)) (λ f. omega (arith, l, f)) h)
 
 -- ---- limits, by a test of every entry
 abbrev pub small : ℕ → List ℤ → Bool

@@ -10,17 +10,6 @@ use crate::vectors;
 use crate::windows;
 use crate::words;
 
-const TURN_8: [i64; 8] = [
-    263277544,
-    223195925,
-    -52369160,
-    149134749,
-    -263277544,
-    -223195925,
-    52369160,
-    -149134749,
-];
-
 const TURN_32: [i64; 32] = [
     268112114,
     265530048,
@@ -185,17 +174,6 @@ const TURN_128: [i64; 128] = [
     261171580,
     205398024,
     -135167556,
-];
-
-const RAISED_8: [i64; 8] = [
-    531713000,
-    491631381,
-    216066296,
-    417570205,
-    5157912,
-    45239531,
-    320804616,
-    119300707,
 ];
 
 const RAISED_32: [i64; 32] = [
@@ -364,13 +342,6 @@ const RAISED_128: [i64; 128] = [
     133267900,
 ];
 
-const WEIGHTS_8: [i64; 4] = [
-    78281021245620224,
-    7607993667420160,
-    -52305706237296640,
-    -38247966892359680,
-];
-
 const WEIGHTS_32: [i64; 16] = [
     217198391178821632,
     145227593598107648,
@@ -455,17 +426,6 @@ const WEIGHTS_128: [i64; 64] = [
     -447236936055128064,
     -377129223883587584,
     -321993111649648640,
-];
-
-const SECANTS_8: [i64; 8] = [
-    290552444,
-    701455651,
-    701455651,
-    290552444,
-    -701455651,
-    290552444,
-    -290552444,
-    701455651,
 ];
 
 const SECANTS_32: [i64; 32] = [
@@ -634,8 +594,6 @@ const SECANTS_128: [i64; 128] = [
     10938142553,
 ];
 
-const PLACES_IN_8: [usize; 4] = [0, 1, 3, 2];
-
 const PLACES_IN_32: [usize; 16] = [0, 1, 4, 13, 8, 6, 12, 5, 15, 14, 11, 2, 7, 9, 3, 10];
 
 const PLACES_IN_128: [usize; 64] = [
@@ -704,8 +662,6 @@ const PLACES_IN_128: [usize; 64] = [
     28,
     42,
 ];
-
-const SIGNS_IN_8: [i64; 4] = [1, 1, -1, 1];
 
 const SIGNS_IN_32: [i64; 16] = [1, 1, 1, 1, -1, 1, -1, 1, -1, 1, -1, 1, 1, -1, 1, 1];
 
@@ -776,8 +732,6 @@ const SIGNS_IN_128: [i64; 64] = [
     1,
 ];
 
-const PLACES_OUT_8: [usize; 4] = [0, 1, 3, 2];
-
 const PLACES_OUT_32: [usize; 16] = [0, 1, 11, 14, 2, 7, 5, 12, 4, 13, 15, 10, 6, 3, 9, 8];
 
 const PLACES_OUT_128: [usize; 64] = [
@@ -846,8 +800,6 @@ const PLACES_OUT_128: [usize; 64] = [
     33,
     32,
 ];
-
-const SIGNS_OUT_8: [i64; 4] = [1, 1, 1, -1];
 
 const SIGNS_OUT_32: [i64; 16] = [1, 1, 1, 1, 1, 1, 1, 1, -1, -1, 1, -1, -1, 1, 1, -1];
 
@@ -920,12 +872,11 @@ const SIGNS_OUT_128: [i64; 64] = [
 
 // The sums of every part of the cosines at 3^k·π/(4M) with a list.
 fn turned_wide(width: usize, row: &[i64], out: &mut [i64])
-    requires { ⌜ (length (now row) ≡ halfWidth width) × (length (now out) ≡ halfWidth width) × (0 < halfWidth width) ⌝ }
+    requires { ⌜ (length (now row) ≡ halfWidth width) × (length (now out) ≡ halfWidth width) × (0 < halfWidth width) × (8 < width) ⌝ }
     requires { ⌜ Within 500000000 (now row) ⌝ }
     ensures { λ _. ⌜ now (out .exit) ≡ turnedSums width (now (row .entry)) ⌝ }
 {
     match width {
-        8 => windows::windows(&TURN_8, row, row, 1, 2, 3, out),
         32 => windows::windows(&TURN_32, row, row, 1, 2, 3, out),
         128 => windows::windows(&TURN_128, row, row, 1, 2, 3, out),
         _ => {}
@@ -946,7 +897,7 @@ fn cosine_sums_with(
     sums: &mut [i64],
     out: &mut [i64],
 )
-    requires { ⌜ 0 < halfWidth width ⌝ }
+    requires { ⌜ (0 < halfWidth width) × (8 < width) ⌝ }
     requires { ⌜ CosineTables width (now order) (now signs) (now raised) (now weights) (now back) (now flips) ⌝ }
     requires { ⌜ (length (now x) ≡ halfWidth width) × (length (now row) ≡ halfWidth width) × (length (now sums) ≡ halfWidth width) × (length (now out) ≡ halfWidth width) ⌝ }
     requires { ⌜ Within 500000000 (now x) ⌝ }
@@ -973,26 +924,6 @@ fn cosine_sums_with(
 }
 
 // A constant is written out by the function that names it, so each width has its own.
-pub fn cosine_sums_8(x: &[i64], row: &mut [i64], sums: &mut [i64], out: &mut [i64])
-    requires { ⌜ (length (now x) ≡ halfWidth 8) × (length (now row) ≡ halfWidth 8) × (length (now sums) ≡ halfWidth 8) × (length (now out) ≡ halfWidth 8) ⌝ }
-    requires { ⌜ Within 500000000 (now x) ⌝ }
-    ensures { λ _. ⌜ now (out .exit) ≡ cosineSums 8 (now (x .entry)) ⌝ }
-{
-    cosine_sums_with(
-        8,
-        &PLACES_IN_8,
-        &SIGNS_IN_8,
-        &RAISED_8,
-        &WEIGHTS_8,
-        &PLACES_OUT_8,
-        &SIGNS_OUT_8,
-        x,
-        row,
-        sums,
-        out,
-    );
-}
-
 pub fn cosine_sums_32(x: &[i64], row: &mut [i64], sums: &mut [i64], out: &mut [i64])
     requires { ⌜ (length (now x) ≡ halfWidth 32) × (length (now row) ≡ halfWidth 32) × (length (now sums) ≡ halfWidth 32) × (length (now out) ≡ halfWidth 32) ⌝ }
     requires { ⌜ Within 500000000 (now x) ⌝ }
@@ -1033,15 +964,6 @@ pub fn cosine_sums_128(x: &[i64], row: &mut [i64], sums: &mut [i64], out: &mut [
     );
 }
 
-fn secant_windows_8(even: &[i64], odd: &[i64], out: &mut [i64])
-    requires { ⌜ (length (now even) ≡ halfWidth 8) × (length (now odd) ≡ halfWidth 8) × (length (now out) ≡ halfWidth 8) ⌝ }
-    requires { ⌜ Within 10000000 (now even) ⌝ }
-    requires { ⌜ Within 10000000 (now odd) ⌝ }
-    ensures { λ _. ⌜ now (out .exit) ≡ secantWindows 8 (now (even .entry)) (now (odd .entry)) ⌝ }
-{
-    windows::windows(&SECANTS_8, even, odd, 2, 2, 4, out);
-}
-
 fn secant_windows_32(even: &[i64], odd: &[i64], out: &mut [i64])
     requires { ⌜ (length (now even) ≡ halfWidth 32) × (length (now odd) ≡ halfWidth 32) × (length (now out) ≡ halfWidth 32) ⌝ }
     requires { ⌜ Within 10000000 (now even) ⌝ }
@@ -1062,14 +984,13 @@ fn secant_windows_128(even: &[i64], odd: &[i64], out: &mut [i64])
 
 // The secants, for r = k + 1 at even k and r = k - M at odd k, with two lists.
 pub fn secant_windows(width: usize, even: &[i64], odd: &[i64], out: &mut [i64])
-    requires { ⌜ 0 < halfWidth width ⌝ }
+    requires { ⌜ (0 < halfWidth width) × (8 < width) ⌝ }
     requires { ⌜ (length (now even) ≡ halfWidth width) × (length (now odd) ≡ halfWidth width) × (length (now out) ≡ halfWidth width) ⌝ }
     requires { ⌜ Within 10000000 (now even) ⌝ }
     requires { ⌜ Within 10000000 (now odd) ⌝ }
     ensures { λ _. ⌜ now (out .exit) ≡ secantWindows width (now (even .entry)) (now (odd .entry)) ⌝ }
 {
     match width {
-        8 => secant_windows_8(even, odd, out),
         32 => secant_windows_32(even, odd, out),
         128 => secant_windows_128(even, odd, out),
         _ => {}

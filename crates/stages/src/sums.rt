@@ -7,6 +7,7 @@ ghost use Rattle.integers.specs.Places.{places, at, Within};
 ghost use Rattle.tables.specs.Widths.{halfWidth};
 ghost use Rattle.stages.specs.Expanded.{cosineSums, secantSums, takenPlace};
 use crate::arranged;
+use crate::four;
 
 // Every row sum of the cosine matrix with x.
 pub fn cosine_sums(width: usize, x: &[i64], row: &mut [i64], sums: &mut [i64], out: &mut [i64])
@@ -16,7 +17,7 @@ pub fn cosine_sums(width: usize, x: &[i64], row: &mut [i64], sums: &mut [i64], o
     ensures { λ _. ⌜ now (out .exit) ≡ cosineSums width (now (x .entry)) ⌝ }
 {
     match width {
-        8 => arranged::cosine_sums_8(x, row, sums, out),
+        8 => four::cosine_sums(x, out),
         32 => arranged::cosine_sums_32(x, row, sums, out),
         128 => arranged::cosine_sums_128(x, row, sums, out),
         _ => {}
@@ -45,9 +46,8 @@ fn for_rows(odd: usize, x: &[i64], out: &mut [i64])
     }
 }
 
-// Every row sum of the secants with x.
-pub fn secant_sums(width: usize, x: &[i64], row: &mut [i64], odd: &mut [i64], out: &mut [i64])
-    requires { ⌜ 0 < halfWidth width ⌝ }
+fn secant_parts(width: usize, x: &[i64], row: &mut [i64], odd: &mut [i64], out: &mut [i64])
+    requires { ⌜ (0 < halfWidth width) × (8 < width) ⌝ }
     requires { ⌜ (length (now x) ≡ halfWidth width) × (length (now row) ≡ halfWidth width) × (length (now odd) ≡ halfWidth width) × (length (now out) ≡ halfWidth width) ⌝ }
     requires { ⌜ Within 10000000 (now x) ⌝ }
     ensures { λ _. ⌜ now (out .exit) ≡ secantSums width (now (x .entry)) ⌝ }
@@ -55,4 +55,18 @@ pub fn secant_sums(width: usize, x: &[i64], row: &mut [i64], odd: &mut [i64], ou
     for_rows(0, x, row);
     for_rows(1, x, odd);
     arranged::secant_windows(width, row, odd, out);
+}
+
+// Every row sum of the secants with x.
+pub fn secant_sums(width: usize, x: &[i64], row: &mut [i64], odd: &mut [i64], out: &mut [i64])
+    requires { ⌜ 0 < halfWidth width ⌝ }
+    requires { ⌜ (length (now x) ≡ halfWidth width) × (length (now row) ≡ halfWidth width) × (length (now odd) ≡ halfWidth width) × (length (now out) ≡ halfWidth width) ⌝ }
+    requires { ⌜ Within 10000000 (now x) ⌝ }
+    ensures { λ _. ⌜ now (out .exit) ≡ secantSums width (now (x .entry)) ⌝ }
+{
+    if width <= 8 {
+        four::secant_sums(x, out);
+        return;
+    }
+    secant_parts(width, x, row, odd, out);
 }

@@ -32,7 +32,7 @@ slice-aggregate-cosine-sums-with-6 c = search needs
 
 cosine-sums-with-requires : tie.Need-cosine-sums-with-requires
 unfolding tab lowered turnAt cosineOf sines halfWidth byWidth halfTurn reflected minus signed placesIn signsIn placesOut signsOut
-cosine-sums-with-requires c κs = (omega arith, (tables-of 32 16 _ _ _ _ _ _ refl refl refl refl refl tt tt refl tt refl, c .before .before .before .before .before .before .before .before .before .pre))
+cosine-sums-with-requires c κs = ((omega arith, omega arith), (tables-of 32 16 _ _ _ _ _ _ refl refl refl refl refl tt tt refl tt refl, c .before .before .before .before .before .before .before .before .before .pre))
 
 same-length : tie.Need-same-length
 same-length c = search needs

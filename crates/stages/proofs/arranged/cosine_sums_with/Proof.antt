@@ -36,7 +36,7 @@ module _ (s : tie.Start) where
   x-long = s .pre .1 .1 .0 .0
 
   raised-long : length (s .args .raised .now) ≡ length x + length x
-  raised-long = table-long tables ∙ sym (width-half N (s .pre .0)) ∙ ap (λ m. m + m) (sym x-long)
+  raised-long = table-long tables ∙ sym (width-half N (s .pre .0 .0)) ∙ ap (λ m. m + m) (sym x-long)
 
   -- x in the order of the powers of 3
   abbrev ordered : List ℤ
@@ -105,7 +105,7 @@ returns c =
     let s = c .before .before .before .before .before .before .before .before .before .before .before in
     c .before .before .before .ordered-sums .ensures
     ∙ ap (λ m. places m (gathered (s .args .back .now) (s .args .flips .now) (places m (window (lowered (s .args .raised .now)) (places m (gathered (s .args .order .now) (s .args .signs .now) (x s))))))) (x-long s)
-    ∙ cosine-sums-are (tables s) (s .pre .0) (x s) (ordered s) _ refl (lowered-sums (tables s) (ordered s))
+    ∙ cosine-sums-are (tables s) (s .pre .0 .0) (x s) (ordered s) _ refl (lowered-sums (tables s) (ordered s))
 
 signed-gather-requires : tie.Need-signed-gather-requires
 signed-gather-requires c κs =
@@ -118,7 +118,7 @@ turned-wide-requires : tie.Need-turned-wide-requires
 turned-wide-requires c κs =
     let r = c .before .before .before in
     let q = s r .pre in
-    ((ap length (is-row r) ∙ length-places _ _, q .1 .1 .0 .2, q .0), row-within r)
+    ((ap length (is-row r) ∙ length-places _ _, q .1 .1 .0 .2, q .0 .0, q .0 .1), row-within r)
 
 signed-gather-requires-2 : tie.Need-signed-gather-requires-2
 signed-gather-requires-2 c κs =
@@ -129,7 +129,7 @@ signed-gather-requires-2 c κs =
       (o .places-long ∙ e, o .signs-long ∙ e),
       (
         subst (λ n. Below n (t .args .back .now)) (sym (sums-long w)) (o .below),
-        (o .within, subst (Within (2 ^ 63 - 1)) (sym (are-sums w)) (turned-within (N t) (x t) (row (r w)) (t .pre .0) (is-row (r w) ∙ row-is (tables t) (x t)) (row-within (r w)))),
+        (o .within, subst (Within (2 ^ 63 - 1)) (sym (are-sums w)) (turned-within (N t) (x t) (row (r w)) (t .pre .0 .0) (is-row (r w) ∙ row-is (tables t) (x t)) (row-within (r w)))),
       ),
     )
 
@@ -148,7 +148,7 @@ returns-2 c =
     let t = start w in
     c .before .signed-gather2 .ensures
     ∙ ap (λ m. places m (gathered (t .args .back .now) (t .args .flips .now) (sums w))) (t .pre .1 .1 .0 .3)
-    ∙ cosine-sums-are (tables t) (t .pre .0) (x t) (row (r w)) (sums w) (is-row (r w)) (are-sums w)
+    ∙ cosine-sums-are (tables t) (t .pre .0 .0) (x t) (row (r w)) (sums w) (is-row (r w)) (are-sums w)
 
 pub cosine-sums-with-spec : {M : Type 1} → statement M
 cosine-sums-with-spec =

@@ -20,8 +20,8 @@ windows-requires : tie.Need-windows-requires
 unfolding tab turnAt cosineOf sines halfWidth byWidth halfTurn reflected minus signed
 windows-requires c κs =
     let s = c .before .before .before in
-    let a = lengths 8 4 refl (c .before .before .match .keys1) (s .pre .0 .0) (s .pre .0 .1) refl refl (omega arith) in
-    let z = turn-sizes 8 _ _ _ refl (a .3) (s .pre .1) in
+    let a = lengths 32 16 refl (c .before .before .match .keys1) (s .pre .0 .0) (s .pre .0 .1) refl refl (omega arith) in
+    let z = turn-sizes 32 _ _ _ refl (a .3) (s .pre .1) in
     ((a .0, refl, a .1, a .2), ((omega arith, omega arith, omega arith), (z, z)))
 
 slice-aggregate-windows-2 : tie.Need-slice-aggregate-windows-2
@@ -31,18 +31,7 @@ windows-requires-2 : tie.Need-windows-requires-2
 unfolding tab turnAt cosineOf sines halfWidth byWidth halfTurn reflected minus signed
 windows-requires-2 c κs =
     let s = c .before .before .before in
-    let a = lengths 32 16 refl (c .before .before .match .keys2) (s .pre .0 .0) (s .pre .0 .1) refl refl (omega arith) in
-    let z = turn-sizes 32 _ _ _ refl (a .3) (s .pre .1) in
-    ((a .0, refl, a .1, a .2), ((omega arith, omega arith, omega arith), (z, z)))
-
-slice-aggregate-windows-3 : tie.Need-slice-aggregate-windows-3
-slice-aggregate-windows-3 c = search needs
-
-windows-requires-3 : tie.Need-windows-requires-3
-unfolding tab turnAt cosineOf sines halfWidth byWidth halfTurn reflected minus signed
-windows-requires-3 c κs =
-    let s = c .before .before .before in
-    let a = lengths 128 64 refl (c .before .before .match .keys3) (s .pre .0 .0) (s .pre .0 .1) refl refl (omega arith) in
+    let a = lengths 128 64 refl (c .before .before .match .keys2) (s .pre .0 .0) (s .pre .0 .1) refl refl (omega arith) in
     let z = turn-sizes 128 _ _ _ refl (a .3) (s .pre .1) in
     ((a .0, refl, a .1, a .2), ((omega arith, omega arith, omega arith), (z, z)))
 
@@ -60,17 +49,11 @@ returns-2 : tie.Need-returns-2
 unfolding tab turnAt cosineOf sines halfWidth byWidth halfTurn reflected minus signed
 returns-2 c = turned-fours (c .before .before .before .before .match .keys2) (c .before .before .before .before .before .pre .0 .1) (c .before .before .before .before .before .args .row .now) refl (c .before .windows2 .ensures)
 
-same-length-3 : tie.Need-same-length-3
-same-length-3 c = search needs
-
 returns-3 : tie.Need-returns-3
-unfolding tab turnAt cosineOf sines halfWidth byWidth halfTurn reflected minus signed
-returns-3 c = turned-fours (c .before .before .before .before .match .keys3) (c .before .before .before .before .before .pre .0 .1) (c .before .before .before .before .before .args .row .now) refl (c .before .windows3 .ensures)
-
-returns-4 : tie.Need-returns-4
-returns-4 c =
+returns-3 c =
     let r = c .match .rest in
-    absurd (no-width (c .before .args .width) (r .0 .0 .1) (r .0 .1) (r .1) (c .before .pre .0 .2))
+    let s = c .before in
+    absurd (no-width (s .args .width) (λ e. omega (arith, e, s .pre .0 .3)) (r .0 .1) (r .1) (s .pre .0 .2))
 
 pub turned-wide-spec : {M : Type 1} → statement M
 turned-wide-spec =
@@ -80,12 +63,8 @@ turned-wide-spec =
     windows-requires
     slice-aggregate-windows-2
     windows-requires-2
-    slice-aggregate-windows-3
-    windows-requires-3
     same-length
     returns
     same-length-2
     returns-2
-    same-length-3
-    returns-3
-    returns-4)
+    returns-3)

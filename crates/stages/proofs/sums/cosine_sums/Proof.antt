@@ -1,9 +1,10 @@
+-- `stages::sums::cosine_sums` meets its contract.
 use borrow.Author.Needs.{needs}
 use mathlib.Core.Path.{_≡_, sym, ap, _∙_}
 use Prim.Native.Nat.{ℕ}
 use lib.ListN.{length}
 use Rattle.integers.specs.Places.{Within}
-use Rattle.tables.specs.Widths.{halfWidth}
+use Rattle.tables.specs.Widths.{byWidth, halfWidth}
 use Rattle.stages.specs.Expanded.{cosineSums}
 use Rattle.stages.proofs.ArrangedLaws.{no-width}
 use Rattle.stages.proofs.sums.cosine_sums.Statement.{statement}
@@ -14,8 +15,9 @@ asked : (s : tie.Start) {k : ℕ} → s .args .width ≡ k
     → ((length (s .args .x .now) ≡ halfWidth k) × (length (s .args .row .now) ≡ halfWidth k) × (length (s .args .sums .now) ≡ halfWidth k) × (length (s .args .out .now) ≡ halfWidth k)) × Within 500000000 (s .args .x .now)
 asked s w = rw (sym w) (s .pre .1)
 
-cosine-sums-8-requires : tie.Need-cosine-sums-8-requires
-cosine-sums-8-requires c κs = asked (c .before .before .before .before) (c .before .before .before .match .keys1)
+cosine-sums-requires : tie.Need-cosine-sums-requires
+unfolding halfWidth byWidth
+cosine-sums-requires c κs = let q = asked (c .before .before) (c .before .match .keys1) in ((q .0 .0, q .0 .3), q .1)
 
 cosine-sums-32-requires : tie.Need-cosine-sums-32-requires
 cosine-sums-32-requires c κs = asked (c .before .before .before .before) (c .before .before .before .match .keys2)
@@ -26,17 +28,20 @@ cosine-sums-128-requires c κs = asked (c .before .before .before .before) (c .b
 same-length : tie.Need-same-length
 same-length c = search needs
 
+returns : tie.Need-returns
+returns c = let s = c .before .before .before .before in c .before .cosine-sums .ensures ∙ ap (λ n. cosineSums n (s .args .x .now)) (sym (c .before .before .before .match .keys1))
+
 same-length-2 : tie.Need-same-length-2
 same-length-2 c = search needs
 
 same-length-3 : tie.Need-same-length-3
 same-length-3 c = search needs
 
-returns : tie.Need-returns
-returns c = let s = c .before .before .before .before .before .before .before .before in c .before .before .before .cosine-sums-8 .ensures ∙ ap (λ n. cosineSums n (s .args .x .now)) (sym (c .before .before .before .before .before .before .before .match .keys1))
-
 same-length-4 : tie.Need-same-length-4
 same-length-4 c = search needs
+
+returns-2 : tie.Need-returns-2
+returns-2 c = let s = c .before .before .before .before .before .before .before .before in c .before .before .before .cosine-sums-32 .ensures ∙ ap (λ n. cosineSums n (s .args .x .now)) (sym (c .before .before .before .before .before .before .before .match .keys2))
 
 same-length-5 : tie.Need-same-length-5
 same-length-5 c = search needs
@@ -44,17 +49,8 @@ same-length-5 c = search needs
 same-length-6 : tie.Need-same-length-6
 same-length-6 c = search needs
 
-returns-2 : tie.Need-returns-2
-returns-2 c = let s = c .before .before .before .before .before .before .before .before in c .before .before .before .cosine-sums-32 .ensures ∙ ap (λ n. cosineSums n (s .args .x .now)) (sym (c .before .before .before .before .before .before .before .match .keys2))
-
 same-length-7 : tie.Need-same-length-7
 same-length-7 c = search needs
-
-same-length-8 : tie.Need-same-length-8
-same-length-8 c = search needs
-
-same-length-9 : tie.Need-same-length-9
-same-length-9 c = search needs
 
 returns-3 : tie.Need-returns-3
 returns-3 c = let s = c .before .before .before .before .before .before .before .before in c .before .before .before .cosine-sums-128 .ensures ∙ ap (λ n. cosineSums n (s .args .x .now)) (sym (c .before .before .before .before .before .before .before .match .keys3))
@@ -68,19 +64,17 @@ pub cosine-sums-spec : {M : Type 1} → statement M
 cosine-sums-spec =
     tie.close
     (tie.spec
-    cosine-sums-8-requires
+    cosine-sums-requires
     cosine-sums-32-requires
     cosine-sums-128-requires
     same-length
+    returns
     same-length-2
     same-length-3
-    returns
     same-length-4
+    returns-2
     same-length-5
     same-length-6
-    returns-2
     same-length-7
-    same-length-8
-    same-length-9
     returns-3
     returns-4)
