@@ -28,13 +28,13 @@ module _ (s : tie.Start) where
   work = s .args .work .now
 
   long : length work ≡ N
-  long = s .pre .1 .1 .0
+  long = s .pre .1 .1 .1 .0
 
   twice : M + M ≡ N
-  twice = width-half N (s .pre .0 .wide)
+  twice = width-half N (s .pre .0 .1)
 
   wide : (4 ≤ M) × (M ≤ 64)
-  wide = (half-width-ge N (s .pre .0 .wide), half-width-le N)
+  wide = (half-width-ge N (s .pre .0 .1), half-width-le N)
 
 top1 : (c : tie.After-strided) → c .strided .last .1 .1 .1 .0 ≡ take (M (c .before .before .before)) (work (c .before .before .before))
 top1 c =
@@ -44,32 +44,32 @@ top1 c =
 bottom1 : (c : tie.After-strided2) → c .strided2 .last .1 .1 .1 .0 ≡ drop (M (c .before .before .before .before .before .before .before)) (work (c .before .before .before .before .before .before .before))
 bottom1 c =
     let s = c .before .before .before .before .before .before .before in
-    c .strided2 .ensures ∙ ap₂ (λ n h. places n (λ i. at (work s) ((h + i * 1) % length (work s)))) (s .pre .1 .0 .bottom-long) (s .pre .0 .half-is) ∙ read-back (N s) (work s) (long s) (twice s)
+    c .strided2 .ensures ∙ ap₂ (λ n h. places n (λ i. at (work s) ((h + i * 1) % length (work s)))) (s .pre .1 .0 .bottom-long) (s .pre .1 .0 .top-long) ∙ read-back (N s) (work s) (long s) (twice s)
 
 strided-requires : tie.Need-strided-requires
 strided-requires c κs = let s = c .before .before in (omega (arith, wide s, twice s, long s), omega (arith, wide s, twice s, long s), omega (arith, wide s, twice s, long s))
 
 strided-requires-2 : tie.Need-strided-requires-2
-strided-requires-2 c κs = let s = c .before .before .before .before .before .before in (omega (arith, wide s, twice s, long s, s .pre .0 .half-is), omega (arith, wide s, twice s, long s), omega (arith, wide s, twice s, long s))
+strided-requires-2 c κs = let s = c .before .before .before .before .before .before in (omega (arith, wide s, twice s, long s, s .pre .1 .0 .top-long), omega (arith, wide s, twice s, long s), omega (arith, wide s, twice s, long s))
 
-staged-requires : tie.Need-staged-requires
-staged-requires c κs =
-    let q = c .before .before .before in
+all-requires : tie.Need-all-requires
+all-requires c κs =
+    let q = c .before .before .before .before .before .before .before in
     let p = q .before .before .before .before in
     let s = p .before .before .before in (
       s .pre .0,
       (
-        record { top-long = q .before .before .before .top .given ∙ s .pre .1 .0 .top-long; bottom-long = c .before .before .bottom .given ∙ s .pre .1 .0 .bottom-long },
-        (subst (Within 1048576) (sym (top1 p)) (take-within (N s) 1048576 (work s) (s .pre .1 .1 .1) (M s)), subst (Within 1048576) (sym (bottom1 q)) (drop-within (N s) 1048576 (work s) (s .pre .1 .1 .1) (M s))),
+        record { top-long = q .before .before .before .top .given ∙ s .pre .1 .0 .top-long; bottom-long = c .before .before .before .before .before .before .bottom .given ∙ s .pre .1 .0 .bottom-long },
+        (s .pre .1 .1 .0, (subst (Within 1048576) (sym (top1 p)) (take-within (N s) 1048576 (work s) (s .pre .1 .1 .1 .1) (M s)), subst (Within 1048576) (sym (bottom1 q)) (drop-within (N s) 1048576 (work s) (s .pre .1 .1 .1 .1) (M s)))),
       ),
     )
 
 interleave-requires : tie.Need-interleave-requires
 interleave-requires c κs =
-    let g = c .before .before .before .before .before in
-    let s = g .before .before .before .before .before .before .before .before .before .before .before in
-    let x = ap length (g .staged .ensures .0) ∙ unlong2 (N s) _ _ in
-    let y = ap length (g .staged .ensures .1) ∙ unlong1 (N s) _ _ in
+    let g = c .before .before .before .before .before .before .before .before .before in
+    let s = g .before .before .before .before .before .before .before .before .before .before .before .before .before .before .before in
+    let x = ap length (g .all .ensures .0) ∙ unlong2 (N s) _ _ in
+    let y = ap length (g .all .ensures .1) ∙ unlong1 (N s) _ _ in
     (x ∙ sym y, omega (arith, twice s, long s))
 
 same-length : tie.Need-same-length
@@ -81,14 +81,26 @@ same-length-2 c = search needs
 same-length-3 : tie.Need-same-length-3
 same-length-3 c = search needs
 
+same-length-4 : tie.Need-same-length-4
+same-length-4 c = search needs
+
+same-length-5 : tie.Need-same-length-5
+same-length-5 c = search needs
+
+same-length-6 : tie.Need-same-length-6
+same-length-6 c = search needs
+
+same-length-7 : tie.Need-same-length-7
+same-length-7 c = search needs
+
 returns : tie.Need-returns
 returns c =
     let j = c .before in
-    let g = j .before .before .before .before .before .before in
-    let q = g .before .before .before .before in
+    let g = j .before .before .before .before .before .before .before .before .before .before in
+    let q = g .before .before .before .before .before .before .before .before in
     let p = q .before .before .before .before in
     let s = p .before .before .before in
-    j .interleave .ensures ∙ ap₂ (λ t u. places (length (work s)) (wovenAt t u)) (g .staged .ensures .0 ∙ ap₂ (untop2 (N s)) (top1 p) (bottom1 q)) (g .staged .ensures .1 ∙ ap₂ (unbottom1 (N s)) (top1 p) (bottom1 q)) ∙ unstages-halves (N s) (work s) (long s) (twice s)
+    j .interleave .ensures ∙ ap₂ (λ t u. places (length (work s)) (wovenAt t u)) (g .all .ensures .0 ∙ ap₂ (untop2 (N s)) (top1 p) (bottom1 q)) (g .all .ensures .1 ∙ ap₂ (unbottom1 (N s)) (top1 p) (bottom1 q)) ∙ unstages-halves (N s) (work s) (long s) (twice s)
 
 pub unframed-spec : {M : Type 1} → statement M
 unframed-spec =
@@ -96,9 +108,13 @@ unframed-spec =
     (tie.spec
     strided-requires
     strided-requires-2
-    staged-requires
+    all-requires
     interleave-requires
     same-length
     same-length-2
     same-length-3
+    same-length-4
+    same-length-5
+    same-length-6
+    same-length-7
     returns)
