@@ -1,15 +1,27 @@
 // A frame from its folded values by the five stages, and its way back. a, b, c and row are room to work in.
 ghost use mathlib.Core.Bool.{cond};
 ghost use mathlib.Core.Path.{_≡_};
-ghost use Prim.Native.Nat.{_<_};
+ghost use Prim.Native.Nat.{_+_, _*_, _<_};
 ghost use lib.ListN.{length};
-ghost use Rattle.integers.specs.Places.{Within};
+ghost use Rattle.integers.specs.Places.{places, at, Within};
 ghost use Rattle.tables.specs.Widths.{halfWidth};
 ghost use Rattle.steps.specs.Steps.{rootLog, stages, unstages};
 ghost use Rattle.stages.specs.Expanded.{Halves, Room, Width};
 use stages::expand;
 use stages::room;
 use stages::vectors;
+
+// The numbers at the even places, or else at the odd ones: first is 0 or 1.
+fn every_second(x: &[i64], first: usize, out: &mut [i64])
+    requires { ⌜ (first < 2) × (length (now x) ≡ length (now out) + length (now out)) ⌝ }
+    ensures { λ _. ⌜ now (out .exit) ≡ places (length (now (out .entry))) (λ i. at (now (x .entry)) (2 * i + first)) ⌝ }
+{
+    let mut i = 0;
+    while i < out.len() {
+        out[i] = x[2 * i + first];
+        i += 1;
+    }
+}
 
 // Folded values to the frame, in place; top and bottom are room for the halves.
 fn framed(
@@ -30,8 +42,8 @@ fn framed(
     requires { ⌜ Within 50000 (now work) ⌝ }
     ensures { λ _. ⌜ now (work .exit) ≡ Rattle.steps.specs.Steps.stages width (now (work .entry)) ⌝ }
 {
-    vectors::strided(work, 0, 2, top);
-    vectors::strided(work, 1, 2, bottom);
+    every_second(work, 0, top);
+    every_second(work, 1, bottom);
     stages::stages::all(false, width, root, top, bottom, a, b, c, row);
     vectors::join(top, bottom, work);
 }
@@ -56,8 +68,8 @@ fn unframed(
     ensures { λ _. ⌜ now (work .exit) ≡ Rattle.steps.specs.Steps.unstages width (now (work .entry)) ⌝ }
 {
     let half = top.len();
-    vectors::strided(work, 0, 1, top);
-    vectors::strided(work, half, 1, bottom);
+    vectors::copy(&work[..half], top);
+    vectors::copy(&work[half..], bottom);
     stages::stages::all(true, width, root, top, bottom, a, b, c, row);
     vectors::interleave(top, bottom, work);
 }
