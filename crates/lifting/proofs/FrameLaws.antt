@@ -1,45 +1,38 @@
 -- What is read from and written to a frame's list: its halves, and the stages over both.
-use mathlib.Core.Path.{_≡_, refl, sym, ap, subst, _∙_}
+use mathlib.Core.Path.{_≡_, refl, ap, subst}
 use mathlib.Core.List.{List, [], _∷_, _++_}
-use Prim.Native.Nat.{ℕ, zero, suc, _+_, _*_, _%_, _^_, _≤_}
-use native.Mathlib.Nat.{mod-eq-of-lt}
+use Prim.Native.Nat.{ℕ, zero, suc, _+_, _*_, _^_, _≤_}
 use native.Mathlib.Omega.{arith}
 use lib.IntN.{ℤ, pos, natAbs}
-use lib.ListN.{length, take, drop, length-drop}
-use lib.Seq.{length-take-le, getD-take, getD-drop}
+use lib.ListN.{length, take, drop}
+use lib.Seq.{getD-drop}
 use Rattle.integers.specs.Places.{places, at, Within}
-use Rattle.integers.proofs.PlaceLaws.{by-places, places-ext, within-places, within-up}
+use Rattle.integers.proofs.PlaceLaws.{places-ext, within-places, within-up}
 use Rattle.tables.specs.Widths.{halfWidth}
 use Rattle.steps.specs.Steps.{topOf, bottomOf, stages, unstages, interleaved}
 use Rattle.stages.specs.Moves.{wovenAt}
 use Rattle.stages.proofs.FrameSizes.{within4, within5}
 use Rattle.stages.specs.Expanded.{bottom1, top2, bottom3, top4, bottom5, unbottom5, untop4, unbottom3, untop2, unbottom1}
 
-module _ (N : ℕ) (f : List ℤ) (long : length f ≡ N) (half : halfWidth N + halfWidth N ≡ N) where
+module _ (N : ℕ) (f : List ℤ) where
   abbrev M : ℕ
   M = halfWidth N
 
-  pub read-evens : places M (λ i. at f ((0 + i * 2) % length f)) ≡ topOf N f
+  pub read-evens : places M (λ i. at f (2 * i + 0)) ≡ topOf N f
   unfolding topOf
-  read-evens = places-ext M _ _ (λ i l. ap (at f) (mod-eq-of-lt (omega arith) ∙ omega arith))
+  read-evens = places-ext M _ _ (λ i l. ap (at f) (omega arith))
 
-  pub read-odds : places M (λ i. at f ((1 + i * 2) % length f)) ≡ bottomOf N f
+  pub read-odds : places M (λ i. at f (2 * i + 1)) ≡ bottomOf N f
   unfolding bottomOf
-  read-odds = places-ext M _ _ (λ i l. ap (at f) (mod-eq-of-lt (omega arith) ∙ omega arith))
-
-  pub read-front : places M (λ i. at f ((0 + i * 1) % length f)) ≡ take M f
-  read-front = sym (by-places M (take M f) _ (length-take-le M f (omega arith)) (λ i l. getD-take M f i (pos 0) l ∙ ap (at f) (sym (mod-eq-of-lt (omega arith) ∙ omega arith))))
-
-  pub read-back : places M (λ i. at f ((M + i * 1) % length f)) ≡ drop M f
-  read-back = sym (by-places M (drop M f) _ (length-drop M f ∙ omega arith) (λ i l. getD-drop M f i (pos 0) ∙ ap (at f) (sym (mod-eq-of-lt (omega arith) ∙ omega arith))))
+  read-odds = refl
 
   pub stages-halves : top4 N (topOf N f) (bottomOf N f) ++ bottom5 N (topOf N f) (bottomOf N f) ≡ stages N f
   unfolding stages top4 bottom5 bottom3 top2 bottom1
   stages-halves = refl
 
-  pub unstages-halves : places (length f) (wovenAt (untop2 N (take M f) (drop M f)) (unbottom1 N (take M f) (drop M f))) ≡ unstages N f
+  pub unstages-halves : length f ≡ N → places (length f) (wovenAt (untop2 N (take M f) (drop M f)) (unbottom1 N (take M f) (drop M f))) ≡ unstages N f
   unfolding unstages interleaved wovenAt untop2 unbottom1 unbottom3 untop4 unbottom5
-  unstages-halves = ap (λ n. places n (wovenAt (untop2 N (take M f) (drop M f)) (unbottom1 N (take M f) (drop M f)))) long
+  unstages-halves long = ap (λ n. places n (wovenAt (untop2 N (take M f) (drop M f)) (unbottom1 N (take M f) (drop M f)))) long
 
 -- limits on the parts of a list
 taken : (B n : ℕ) (f : List ℤ) (i : ℕ) → Within B f → natAbs (at (take n f) i) ≤ B
@@ -73,5 +66,5 @@ pub stages-within : (N : ℕ) (f : List ℤ) → length f ≡ N → halfWidth N 
 stages-within N f l e h =
     let t = top-within N 50000 f h in
     let b = bottom-within N 50000 f h in
-    subst (Within (2 ^ 30)) (stages-halves N f l e)
+    subst (Within (2 ^ 30)) (stages-halves N f)
     (record { size = appended (2 ^ 30) _ _ (within-up (within4 N _ _ t b) (omega arith)) (within-up (within5 N _ _ t b) (omega arith)) })

@@ -2,3 +2,4 @@ pub mod Parts
 pub mod FrameLaws
 pub mod GateLaws
 pub mod FoldLaws
+pub mod RoomLaws

@@ -1,67 +1,191 @@
-// A frame from its folded values by the five stages, and its way back.
+// A frame from its folded values by the five stages, and its way back. a, b, c and row are room to work in.
 ghost use mathlib.Core.Bool.{cond};
 ghost use mathlib.Core.Path.{_≡_};
-ghost use Prim.Native.Nat.{_+_, _<_};
+ghost use Prim.Native.Nat.{_+_, _*_, _<_};
 ghost use lib.ListN.{length};
-ghost use Rattle.integers.specs.Places.{Within};
+ghost use Rattle.integers.specs.Places.{places, at, Within};
 ghost use Rattle.tables.specs.Widths.{halfWidth};
-ghost use Rattle.steps.specs.Steps.{stages, unstages};
-ghost use Rattle.stages.specs.Expanded.{Halves, top4, bottom5, untop2, unbottom1, Width};
+ghost use Rattle.steps.specs.Steps.{rootLog, stages, unstages};
+ghost use Rattle.stages.specs.Expanded.{Halves, Room, Width};
 use stages::expand;
 use stages::room;
 use stages::vectors;
 
-fn staged(undo: bool, width: usize, half: usize, top: &mut [i64], bottom: &mut [i64])
-    requires { ⌜ Width width half ⌝ }
-    requires { ⌜ Halves width (now top) (now bottom) ⌝ }
-    requires { ⌜ Within (cond undo 1048576 50000) (now top) ⌝ }
-    requires { ⌜ Within (cond undo 1048576 50000) (now bottom) ⌝ }
-    ensures { λ _. ⌜ (now (top .exit) ≡ cond undo (untop2 width (now (top .entry)) (now (bottom .entry))) (top4 width (now (top .entry)) (now (bottom .entry)))) × (now (bottom .exit) ≡ cond undo (unbottom1 width (now (top .entry)) (now (bottom .entry))) (bottom5 width (now (top .entry)) (now (bottom .entry)))) ⌝ }
+// The numbers at the even places, or else at the odd ones: first is 0 or 1.
+fn every_second(x: &[i64], first: usize, out: &mut [i64])
+    requires { ⌜ (first < 2) × (length (now x) ≡ length (now out) + length (now out)) ⌝ }
+    ensures { λ _. ⌜ now (out .exit) ≡ places (length (now (out .entry))) (λ i. at (now (x .entry)) (2 * i + first)) ⌝ }
 {
-    let mut a = room::of_64();
-    let mut b = room::of_64();
-    let mut c = room::of_64();
-    let mut row = room::of_64();
-    let root = expand::root_log(width);
-    stages::stages::all(
-        undo,
-        width,
-        root,
-        top,
-        bottom,
-        &mut a[..half],
-        &mut b[..half],
-        &mut c[..half],
-        &mut row[..half],
-    );
+    let mut i = 0;
+    while i < out.len() {
+        out[i] = x[2 * i + first];
+        i += 1;
+    }
 }
 
 // Folded values to the frame, in place; top and bottom are room for the halves.
-fn framed(width: usize, half: usize, work: &mut [i64], top: &mut [i64], bottom: &mut [i64])
-    requires { ⌜ Width width half ⌝ }
+fn framed(
+    width: usize,
+    root: u32,
+    work: &mut [i64],
+    top: &mut [i64],
+    bottom: &mut [i64],
+    a: &mut [i64],
+    b: &mut [i64],
+    c: &mut [i64],
+    row: &mut [i64],
+)
+    requires { ⌜ (root ≡ rootLog width) × (0 < halfWidth width) ⌝ }
     requires { ⌜ Halves width (now top) (now bottom) ⌝ }
+    requires { ⌜ Room width (now a) (now b) (now c) (now row) ⌝ }
     requires { ⌜ length (now work) ≡ width ⌝ }
     requires { ⌜ Within 50000 (now work) ⌝ }
     ensures { λ _. ⌜ now (work .exit) ≡ Rattle.steps.specs.Steps.stages width (now (work .entry)) ⌝ }
 {
-    vectors::strided(work, 0, 2, top);
-    vectors::strided(work, 1, 2, bottom);
-    staged(false, width, half, top, bottom);
+    every_second(work, 0, top);
+    every_second(work, 1, bottom);
+    stages::stages::all(false, width, root, top, bottom, a, b, c, row);
     vectors::join(top, bottom, work);
 }
 
 // A frame to its folded values, in place.
-fn unframed(width: usize, half: usize, work: &mut [i64], top: &mut [i64], bottom: &mut [i64])
-    requires { ⌜ Width width half ⌝ }
+fn unframed(
+    width: usize,
+    root: u32,
+    work: &mut [i64],
+    top: &mut [i64],
+    bottom: &mut [i64],
+    a: &mut [i64],
+    b: &mut [i64],
+    c: &mut [i64],
+    row: &mut [i64],
+)
+    requires { ⌜ (root ≡ rootLog width) × (0 < halfWidth width) ⌝ }
     requires { ⌜ Halves width (now top) (now bottom) ⌝ }
+    requires { ⌜ Room width (now a) (now b) (now c) (now row) ⌝ }
     requires { ⌜ length (now work) ≡ width ⌝ }
     requires { ⌜ Within 1048576 (now work) ⌝ }
     ensures { λ _. ⌜ now (work .exit) ≡ Rattle.steps.specs.Steps.unstages width (now (work .entry)) ⌝ }
 {
-    vectors::strided(work, 0, 1, top);
-    vectors::strided(work, half, 1, bottom);
-    staged(true, width, half, top, bottom);
+    let half = top.len();
+    vectors::copy(&work[..half], top);
+    vectors::copy(&work[half..], bottom);
+    stages::stages::all(true, width, root, top, bottom, a, b, c, row);
     vectors::interleave(top, bottom, work);
+}
+
+// One or the other, in place.
+fn either_way(
+    undo: bool,
+    width: usize,
+    work: &mut [i64],
+    top: &mut [i64],
+    bottom: &mut [i64],
+    a: &mut [i64],
+    b: &mut [i64],
+    c: &mut [i64],
+    row: &mut [i64],
+)
+    requires { ⌜ 0 < halfWidth width ⌝ }
+    requires { ⌜ Halves width (now top) (now bottom) ⌝ }
+    requires { ⌜ Room width (now a) (now b) (now c) (now row) ⌝ }
+    requires { ⌜ length (now work) ≡ width ⌝ }
+    requires { ⌜ Within (cond undo 1048576 50000) (now work) ⌝ }
+    ensures { λ _. ⌜ now (work .exit) ≡ cond undo (Rattle.steps.specs.Steps.unstages width (now (work .entry))) (Rattle.steps.specs.Steps.stages width (now (work .entry))) ⌝ }
+{
+    let root = expand::root_log(width);
+    if undo {
+        unframed(width, root, work, top, bottom, a, b, c, row);
+        return;
+    }
+    framed(width, root, work, top, bottom, a, b, c, row);
+}
+
+// One function to a width, since an array's length is fixed: room for a wider frame would be cleared for nothing.
+fn in_room_8(undo: bool, work: &mut [i64])
+    requires { ⌜ length (now work) ≡ 8 ⌝ }
+    requires { ⌜ Within (cond undo 1048576 50000) (now work) ⌝ }
+    ensures { λ _. ⌜ now (work .exit) ≡ cond undo (Rattle.steps.specs.Steps.unstages 8 (now (work .entry))) (Rattle.steps.specs.Steps.stages 8 (now (work .entry))) ⌝ }
+{
+    let mut top = room::of_4();
+    let mut bottom = room::of_4();
+    let mut a = room::of_4();
+    let mut b = room::of_4();
+    let mut c = room::of_4();
+    let mut row = room::of_4();
+    either_way(
+        undo,
+        8,
+        work,
+        &mut top,
+        &mut bottom,
+        &mut a,
+        &mut b,
+        &mut c,
+        &mut row,
+    );
+}
+
+fn in_room_32(undo: bool, work: &mut [i64])
+    requires { ⌜ length (now work) ≡ 32 ⌝ }
+    requires { ⌜ Within (cond undo 1048576 50000) (now work) ⌝ }
+    ensures { λ _. ⌜ now (work .exit) ≡ cond undo (Rattle.steps.specs.Steps.unstages 32 (now (work .entry))) (Rattle.steps.specs.Steps.stages 32 (now (work .entry))) ⌝ }
+{
+    let mut top = room::of_16();
+    let mut bottom = room::of_16();
+    let mut a = room::of_16();
+    let mut b = room::of_16();
+    let mut c = room::of_16();
+    let mut row = room::of_16();
+    either_way(
+        undo,
+        32,
+        work,
+        &mut top,
+        &mut bottom,
+        &mut a,
+        &mut b,
+        &mut c,
+        &mut row,
+    );
+}
+
+fn in_room_128(undo: bool, work: &mut [i64])
+    requires { ⌜ length (now work) ≡ 128 ⌝ }
+    requires { ⌜ Within (cond undo 1048576 50000) (now work) ⌝ }
+    ensures { λ _. ⌜ now (work .exit) ≡ cond undo (Rattle.steps.specs.Steps.unstages 128 (now (work .entry))) (Rattle.steps.specs.Steps.stages 128 (now (work .entry))) ⌝ }
+{
+    let mut top = room::of_64();
+    let mut bottom = room::of_64();
+    let mut a = room::of_64();
+    let mut b = room::of_64();
+    let mut c = room::of_64();
+    let mut row = room::of_64();
+    either_way(
+        undo,
+        128,
+        work,
+        &mut top,
+        &mut bottom,
+        &mut a,
+        &mut b,
+        &mut c,
+        &mut row,
+    );
+}
+
+fn in_room(undo: bool, width: usize, work: &mut [i64])
+    requires { ⌜ 0 < halfWidth width ⌝ }
+    requires { ⌜ length (now work) ≡ width ⌝ }
+    requires { ⌜ Within (cond undo 1048576 50000) (now work) ⌝ }
+    ensures { λ _. ⌜ now (work .exit) ≡ cond undo (Rattle.steps.specs.Steps.unstages width (now (work .entry))) (Rattle.steps.specs.Steps.stages width (now (work .entry))) ⌝ }
+{
+    match width {
+        8 => in_room_8(undo, work),
+        32 => in_room_32(undo, work),
+        128 => in_room_128(undo, work),
+        _ => {}
+    }
 }
 
 // The five stages.
@@ -71,9 +195,7 @@ pub fn stages(width: usize, half: usize, work: &mut [i64])
     requires { ⌜ Within 50000 (now work) ⌝ }
     ensures { λ _. ⌜ now (work .exit) ≡ Rattle.steps.specs.Steps.stages width (now (work .entry)) ⌝ }
 {
-    let mut top = room::of_64();
-    let mut bottom = room::of_64();
-    framed(width, half, work, &mut top[..half], &mut bottom[..half]);
+    in_room(false, width, work);
 }
 
 // The five stages undone.
@@ -83,7 +205,5 @@ pub fn unstages(width: usize, half: usize, work: &mut [i64])
     requires { ⌜ Within 1048576 (now work) ⌝ }
     ensures { λ _. ⌜ now (work .exit) ≡ Rattle.steps.specs.Steps.unstages width (now (work .entry)) ⌝ }
 {
-    let mut top = room::of_64();
-    let mut bottom = room::of_64();
-    unframed(width, half, work, &mut top[..half], &mut bottom[..half]);
+    in_room(true, width, work);
 }

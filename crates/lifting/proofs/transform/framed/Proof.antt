@@ -3,12 +3,11 @@ use borrow.Author.Needs.{needs}
 use native.Mathlib.Omega.{arith}
 use mathlib.Core.Path.{_≡_, sym, ap, ap₂, subst, _∙_}
 use mathlib.Core.List.{List, _++_}
-use Prim.Native.Nat.{ℕ, _+_, _*_, _%_, _≤_}
+use Prim.Native.Nat.{ℕ, _+_, _*_}
 use lib.IntN.{ℤ}
 use lib.ListN.{length}
 use Rattle.integers.specs.Places.{places, at, Within}
 use Rattle.tables.specs.Widths.{halfWidth}
-use Rattle.tables.proofs.ByWidth.{half-width-le, half-width-ge}
 use Rattle.steps.specs.Steps.{topOf, bottomOf}
 use Rattle.stages.specs.Expanded.{top4, bottom5}
 use Rattle.steps.proofs.Undo.{width-half, length-top, length-bottom}
@@ -28,48 +27,45 @@ module _ (s : tie.Start) where
   work = s .args .work .now
 
   long : length work ≡ N
-  long = s .pre .1 .1 .0
+  long = s .pre .1 .1 .1 .0
 
   twice : M + M ≡ N
-  twice = width-half N (s .pre .0 .wide)
+  twice = width-half N (s .pre .0 .1)
 
-  wide : (4 ≤ M) × (M ≤ 64)
-  wide = (half-width-ge N (s .pre .0 .wide), half-width-le N)
-
-top1 : (c : tie.After-strided) → c .strided .last .1 .1 .1 .0 ≡ topOf (N (c .before .before .before)) (work (c .before .before .before))
+top1 : (c : tie.After-every-second) → c .every-second .last .1 .1 .0 ≡ topOf (N (c .before .before .before)) (work (c .before .before .before))
 top1 c =
     let s = c .before .before .before in
-    c .strided .ensures ∙ ap (λ n. places n (λ i. at (work s) ((0 + i * 2) % length (work s)))) (s .pre .1 .0 .top-long) ∙ read-evens (N s) (work s) (long s) (twice s)
+    c .every-second .ensures ∙ ap (λ n. places n (λ i. at (work s) (2 * i + 0))) (s .pre .1 .0 .top-long) ∙ read-evens (N s) (work s)
 
-bottom1 : (c : tie.After-strided2) → c .strided2 .last .1 .1 .1 .0 ≡ bottomOf (N (c .before .before .before .before .before .before .before)) (work (c .before .before .before .before .before .before .before))
+bottom1 : (c : tie.After-every-second2) → c .every-second2 .last .1 .1 .0 ≡ bottomOf (N (c .before .before .before .before .before .before .before)) (work (c .before .before .before .before .before .before .before))
 bottom1 c =
     let s = c .before .before .before .before .before .before .before in
-    c .strided2 .ensures ∙ ap (λ n. places n (λ i. at (work s) ((1 + i * 2) % length (work s)))) (s .pre .1 .0 .bottom-long) ∙ read-odds (N s) (work s) (long s) (twice s)
+    c .every-second2 .ensures ∙ ap (λ n. places n (λ i. at (work s) (2 * i + 1))) (s .pre .1 .0 .bottom-long) ∙ read-odds (N s) (work s)
 
-strided-requires : tie.Need-strided-requires
-strided-requires c κs = let s = c .before .before in (omega (arith, wide s, twice s, long s), omega (arith, wide s, twice s, long s), omega (arith, wide s, twice s, long s))
+every-second-requires : tie.Need-every-second-requires
+every-second-requires c κs = let s = c .before .before in (omega arith, omega (arith, twice s, long s, s .pre .1 .0 .top-long))
 
-strided-requires-2 : tie.Need-strided-requires-2
-strided-requires-2 c κs = let s = c .before .before .before .before .before .before in (omega (arith, wide s, twice s, long s), omega (arith, wide s, twice s, long s), omega (arith, wide s, twice s, long s))
+every-second-requires-2 : tie.Need-every-second-requires-2
+every-second-requires-2 c κs = let s = c .before .before .before .before .before .before in (omega arith, omega (arith, twice s, long s, s .pre .1 .0 .bottom-long))
 
-staged-requires : tie.Need-staged-requires
-staged-requires c κs =
-    let q = c .before .before .before in
+all-requires : tie.Need-all-requires
+all-requires c κs =
+    let q = c .before .before .before .before .before .before .before in
     let p = q .before .before .before .before in
     let s = p .before .before .before in (
       s .pre .0,
       (
         record { top-long = ap length (top1 p) ∙ length-top (N s) (work s); bottom-long = ap length (bottom1 q) ∙ length-bottom (N s) (work s) },
-        (subst (Within 50000) (sym (top1 p)) (top-within (N s) 50000 (work s) (s .pre .1 .1 .1)), subst (Within 50000) (sym (bottom1 q)) (bottom-within (N s) 50000 (work s) (s .pre .1 .1 .1))),
+        (s .pre .1 .1 .0, (subst (Within 50000) (sym (top1 p)) (top-within (N s) 50000 (work s) (s .pre .1 .1 .1 .1)), subst (Within 50000) (sym (bottom1 q)) (bottom-within (N s) 50000 (work s) (s .pre .1 .1 .1 .1)))),
       ),
     )
 
 join-requires : tie.Need-join-requires
 join-requires c κs =
-    let g = c .before .before .before .before .before in
-    let s = g .before .before .before .before .before .before .before .before .before .before .before in
-    let x = ap length (g .staged .ensures .0) ∙ long4 (N s) _ _ in
-    let y = ap length (g .staged .ensures .1) ∙ long5 (N s) _ _ in
+    let g = c .before .before .before .before .before .before .before .before .before in
+    let s = g .before .before .before .before .before .before .before .before .before .before .before .before .before .before .before in
+    let x = ap length (g .all .ensures .0) ∙ long4 (N s) _ _ in
+    let y = ap length (g .all .ensures .1) ∙ long5 (N s) _ _ in
     omega (arith, twice s, long s)
 
 same-length : tie.Need-same-length
@@ -81,24 +77,40 @@ same-length-2 c = search needs
 same-length-3 : tie.Need-same-length-3
 same-length-3 c = search needs
 
+same-length-4 : tie.Need-same-length-4
+same-length-4 c = search needs
+
+same-length-5 : tie.Need-same-length-5
+same-length-5 c = search needs
+
+same-length-6 : tie.Need-same-length-6
+same-length-6 c = search needs
+
+same-length-7 : tie.Need-same-length-7
+same-length-7 c = search needs
+
 returns : tie.Need-returns
 returns c =
     let j = c .before in
-    let g = j .before .before .before .before .before .before in
-    let q = g .before .before .before .before in
+    let g = j .before .before .before .before .before .before .before .before .before .before in
+    let q = g .before .before .before .before .before .before .before .before in
     let p = q .before .before .before .before in
     let s = p .before .before .before in
-    j .join .ensures ∙ ap₂ _++_ (g .staged .ensures .0 ∙ ap₂ (top4 (N s)) (top1 p) (bottom1 q)) (g .staged .ensures .1 ∙ ap₂ (bottom5 (N s)) (top1 p) (bottom1 q)) ∙ stages-halves (N s) (work s) (long s) (twice s)
+    j .join .ensures ∙ ap₂ _++_ (g .all .ensures .0 ∙ ap₂ (top4 (N s)) (top1 p) (bottom1 q)) (g .all .ensures .1 ∙ ap₂ (bottom5 (N s)) (top1 p) (bottom1 q)) ∙ stages-halves (N s) (work s)
 
 pub framed-spec : {M : Type 1} → statement M
 framed-spec =
     tie.close
     (tie.spec
-    strided-requires
-    strided-requires-2
-    staged-requires
+    every-second-requires
+    every-second-requires-2
+    all-requires
     join-requires
     same-length
     same-length-2
     same-length-3
+    same-length-4
+    same-length-5
+    same-length-6
+    same-length-7
     returns)

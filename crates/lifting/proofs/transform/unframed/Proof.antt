@@ -1,19 +1,20 @@
 -- `lifting::transform::unframed` meets its contract.
 use borrow.Author.Needs.{needs}
+use borrow.Rule.Slice.PartAt.{part-to-end}
 use native.Mathlib.Omega.{arith}
 use mathlib.Core.Path.{_≡_, sym, ap, ap₂, subst, _∙_}
 use mathlib.Core.List.{List}
-use Prim.Native.Nat.{ℕ, _+_, _*_, _%_, _≤_}
+use Prim.Native.Nat.{ℕ, _+_, _-_, _≤_}
 use lib.IntN.{ℤ}
-use lib.ListN.{length, take, drop}
-use Rattle.integers.specs.Places.{places, at, Within}
+use lib.ListN.{length, take, drop, length-drop}
+use Rattle.integers.specs.Places.{places, Within}
 use Rattle.tables.specs.Widths.{halfWidth}
-use Rattle.tables.proofs.ByWidth.{half-width-le, half-width-ge}
 use Rattle.stages.specs.Moves.{wovenAt}
 use Rattle.stages.specs.Expanded.{untop2, unbottom1}
 use Rattle.steps.proofs.Undo.{width-half}
 use Rattle.stages.proofs.FrameSizes.{unlong2, unlong1}
-use Rattle.lifting.proofs.FrameLaws.{read-front, read-back, unstages-halves, take-within, drop-within}
+use Rattle.lifting.proofs.Parts.{part-long}
+use Rattle.lifting.proofs.FrameLaws.{unstages-halves, take-within, drop-within}
 use Rattle.lifting.proofs.transform.unframed.Statement.{statement}
 use Rattle.lifting.proofs.transform.unframed.Tie as tie
 
@@ -24,52 +25,78 @@ module _ (s : tie.Start) where
   abbrev M : ℕ
   M = halfWidth N
 
+  abbrev half : ℕ
+  half = length (s .args .top .now)
+
   abbrev work : List ℤ
   work = s .args .work .now
 
   long : length work ≡ N
-  long = s .pre .1 .1 .0
+  long = s .pre .1 .1 .1 .0
 
   twice : M + M ≡ N
-  twice = width-half N (s .pre .0 .wide)
+  twice = width-half N (s .pre .0 .1)
 
-  wide : (4 ≤ M) × (M ≤ 64)
-  wide = (half-width-ge N (s .pre .0 .wide), half-width-le N)
+  half-le : half ≤ length work
+  half-le = omega (arith, twice, long, s .pre .1 .0 .top-long)
 
-top1 : (c : tie.After-strided) → c .strided .last .1 .1 .1 .0 ≡ take (M (c .before .before .before)) (work (c .before .before .before))
-top1 c =
-    let s = c .before .before .before in
-    c .strided .ensures ∙ ap (λ n. places n (λ i. at (work s) ((0 + i * 1) % length (work s)))) (s .pre .1 .0 .top-long) ∙ read-front (N s) (work s) (long s) (twice s)
+  front-is : take half work ≡ take M work
+  front-is = ap (λ n. take n work) (s .pre .1 .0 .top-long)
 
-bottom1 : (c : tie.After-strided2) → c .strided2 .last .1 .1 .1 .0 ≡ drop (M (c .before .before .before .before .before .before .before)) (work (c .before .before .before .before .before .before .before))
-bottom1 c =
-    let s = c .before .before .before .before .before .before .before in
-    c .strided2 .ensures ∙ ap₂ (λ n h. places n (λ i. at (work s) ((h + i * 1) % length (work s)))) (s .pre .1 .0 .bottom-long) (s .pre .0 .half-is) ∙ read-back (N s) (work s) (long s) (twice s)
+  back-is : take (length work - half) (drop half work) ≡ drop M work
+  back-is = part-to-end work half ∙ ap (λ n. drop n work) (s .pre .1 .0 .top-long)
 
-strided-requires : tie.Need-strided-requires
-strided-requires c κs = let s = c .before .before in (omega (arith, wide s, twice s, long s), omega (arith, wide s, twice s, long s), omega (arith, wide s, twice s, long s))
+top1 : (c : tie.After-copy) → c .copy .last .1 .0 ≡ take (M (c .before .before .before)) (work (c .before .before .before))
+top1 c = c .copy .ensures ∙ front-is (c .before .before .before)
 
-strided-requires-2 : tie.Need-strided-requires-2
-strided-requires-2 c κs = let s = c .before .before .before .before .before .before in (omega (arith, wide s, twice s, long s, s .pre .0 .half-is), omega (arith, wide s, twice s, long s), omega (arith, wide s, twice s, long s))
+bottom1 : (c : tie.After-copy2) → c .copy2 .last .1 .0 ≡ drop (M (c .before .before .before .before .before .before .before .before)) (work (c .before .before .before .before .before .before .before .before))
+bottom1 c = c .copy2 .ensures ∙ back-is (c .before .before .before .before .before .before .before .before)
 
-staged-requires : tie.Need-staged-requires
-staged-requires c κs =
-    let q = c .before .before .before in
-    let p = q .before .before .before .before in
+slice-reshare-prefix-copy : tie.Need-slice-reshare-prefix-copy
+slice-reshare-prefix-copy c = half-le c
+
+slice-aggregate-copy : tie.Need-slice-aggregate-copy
+slice-aggregate-copy c = part-long _ _ (half-le (c .before))
+
+copy-requires : tie.Need-copy-requires
+copy-requires c κs = sym (part-long _ _ (half-le (c .before .before)))
+
+mul-copy : tie.Need-mul-copy
+mul-copy c = search needs
+
+sub-copy : tie.Need-sub-copy
+sub-copy c = half-le (c .before .before .before .before)
+
+part-copy-start : tie.Need-part-copy-start
+part-copy-start c = half-le (c .before .before .before .before .before)
+
+part-copy-end : tie.Need-part-copy-end
+part-copy-end c = search needs
+
+copy-requires-2 : tie.Need-copy-requires-2
+copy-requires-2 c κs = let s = c .before .before .before .before .before .before .before in ap length (back-is s) ∙ omega (arith, length-drop (M s) (work s), twice s, long s, s .pre .1 .0 .bottom-long)
+
+all-requires : tie.Need-all-requires
+all-requires c κs =
+    let q = c .before .before .before .before .before .before .before in
+    let p = q .before .before .before .before .before in
     let s = p .before .before .before in (
       s .pre .0,
       (
-        record { top-long = q .before .before .before .top .given ∙ s .pre .1 .0 .top-long; bottom-long = c .before .before .bottom .given ∙ s .pre .1 .0 .bottom-long },
-        (subst (Within 1048576) (sym (top1 p)) (take-within (N s) 1048576 (work s) (s .pre .1 .1 .1) (M s)), subst (Within 1048576) (sym (bottom1 q)) (drop-within (N s) 1048576 (work s) (s .pre .1 .1 .1) (M s))),
+        record { top-long = q .before .before .before .before .top .given ∙ s .pre .1 .0 .top-long; bottom-long = c .before .before .before .before .before .before .bottom .given ∙ s .pre .1 .0 .bottom-long },
+        (
+          s .pre .1 .1 .0,
+          (subst (Within 1048576) (sym (top1 p)) (take-within (N s) 1048576 (work s) (s .pre .1 .1 .1 .1) (M s)), subst (Within 1048576) (sym (bottom1 q)) (drop-within (N s) 1048576 (work s) (s .pre .1 .1 .1 .1) (M s))),
+        ),
       ),
     )
 
 interleave-requires : tie.Need-interleave-requires
 interleave-requires c κs =
-    let g = c .before .before .before .before .before in
-    let s = g .before .before .before .before .before .before .before .before .before .before .before in
-    let x = ap length (g .staged .ensures .0) ∙ unlong2 (N s) _ _ in
-    let y = ap length (g .staged .ensures .1) ∙ unlong1 (N s) _ _ in
+    let g = c .before .before .before .before .before .before .before .before .before in
+    let s = g .before .before .before .before .before .before .before .before .before .before .before .before .before .before .before .before in
+    let x = ap length (g .all .ensures .0) ∙ unlong2 (N s) _ _ in
+    let y = ap length (g .all .ensures .1) ∙ unlong1 (N s) _ _ in
     (x ∙ sym y, omega (arith, twice s, long s))
 
 same-length : tie.Need-same-length
@@ -81,24 +108,48 @@ same-length-2 c = search needs
 same-length-3 : tie.Need-same-length-3
 same-length-3 c = search needs
 
+same-length-4 : tie.Need-same-length-4
+same-length-4 c = search needs
+
+same-length-5 : tie.Need-same-length-5
+same-length-5 c = search needs
+
+same-length-6 : tie.Need-same-length-6
+same-length-6 c = search needs
+
+same-length-7 : tie.Need-same-length-7
+same-length-7 c = search needs
+
 returns : tie.Need-returns
 returns c =
     let j = c .before in
-    let g = j .before .before .before .before .before .before in
-    let q = g .before .before .before .before in
-    let p = q .before .before .before .before in
+    let g = j .before .before .before .before .before .before .before .before .before .before in
+    let q = g .before .before .before .before .before .before .before .before in
+    let p = q .before .before .before .before .before in
     let s = p .before .before .before in
-    j .interleave .ensures ∙ ap₂ (λ t u. places (length (work s)) (wovenAt t u)) (g .staged .ensures .0 ∙ ap₂ (untop2 (N s)) (top1 p) (bottom1 q)) (g .staged .ensures .1 ∙ ap₂ (unbottom1 (N s)) (top1 p) (bottom1 q)) ∙ unstages-halves (N s) (work s) (long s) (twice s)
+    j .interleave .ensures
+    ∙ ap₂ (λ t u. places (length (work s)) (wovenAt t u)) (g .all .ensures .0 ∙ ap₂ (untop2 (N s)) (top1 p) (bottom1 q)) (g .all .ensures .1 ∙ ap₂ (unbottom1 (N s)) (top1 p) (bottom1 q))
+    ∙ unstages-halves (N s) (work s) (long s)
 
 pub unframed-spec : {M : Type 1} → statement M
 unframed-spec =
     tie.close
     (tie.spec
-    strided-requires
-    strided-requires-2
-    staged-requires
+    slice-reshare-prefix-copy
+    slice-aggregate-copy
+    copy-requires
+    mul-copy
+    sub-copy
+    part-copy-start
+    part-copy-end
+    copy-requires-2
+    all-requires
     interleave-requires
     same-length
     same-length-2
     same-length-3
+    same-length-4
+    same-length-5
+    same-length-6
+    same-length-7
     returns)
