@@ -7,10 +7,9 @@ use native.Mathlib.Omega.{arith}
 use borrow.Author.Tests.{le-ltb}
 use lib.Dec.{T, ltb→lt, leb→le}
 use lib.IntN.{ℤ, pos, negsuc, negℤ, natAbs, _+ℤ_, _-ℤ_, _*ℤ_, +ℤ-idl}
-use lib.Signed.{mag, quotZ, remZ, mag-rem, ltZ, _<ℤ_, _≤ℤ_}
+use lib.Signed.{mag, quotZ, ltZ, _<ℤ_, _≤ℤ_}
 use mir.Syntax.{Width}
 use mir.Val.{SFits, ofZ, hbits}
-use mir.ValLaws.{sfits-le}
 use Rattle.integers.specs.Floor.{above, floorDiv}
 use Rattle.integers.proofs.Differences.{dif, zs, zb}
 use Rattle.integers.proofs.Order.{natAbs-negℤ, mag-lt}
@@ -40,9 +39,6 @@ pub quot-fits : (w : Width) (v p : ℤ) → SFits w v → pos 0 <ℤ p → SFits
 quot-fits w (pos a) (pos p) h k = record { sfits = omega (arith, div-le-self a p, h .sfits) }
 quot-fits w (negsuc a) (pos p) h k = record { sfits = omega (arith, mag-neg (suc a / p) (div-le-self (suc a) p), h .sfits) }
 quot-fits w v (negsuc p) h k = absurd (k .lt)
-
-pub rem-fits : (w : Width) (v p : ℤ) → SFits w v → SFits w (remZ v p)
-rem-fits w v p h = sfits-le (mag-rem v p) h
 
 pub floor-fits : (w : Width) (v : ℤ) (p : ℕ) → SFits w v → SFits w (floorDiv v p)
 unfolding floorDiv

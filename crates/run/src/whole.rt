@@ -2,7 +2,7 @@
 ghost use mathlib.Core.Path.{_≡_};
 ghost use lib.ListN.{length};
 ghost use Rattle.lifting.specs.Gate.{told};
-ghost use Prim.Native.Nat.{_+_, _*_, _/_, _≤_, _<_};
+ghost use Prim.Native.Nat.{_+_, _/_, _<_};
 ghost use Rattle.tables.specs.Widths.{halfWidth};
 ghost use Rattle.run.specs.Faults.{firstFault};
 ghost use Rattle.run.specs.declared.gate.Fault.the-variants.{Clear};

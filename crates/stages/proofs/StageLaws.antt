@@ -2,8 +2,8 @@
 use mathlib.Core.Path.{_≡_, refl, ap, ap₂, _∙_}
 use mathlib.Core.Bool.{Bool, true, false, cond}
 use mathlib.Core.List.{List}
-use Prim.Native.Nat.{ℕ, _+_, _-_, _*_, _%_, _^_, _<_}
-use native.Mathlib.Nat.{mod-eq-of-lt, pow-succ'}
+use Prim.Native.Nat.{ℕ, _+_, _-_, _*_, _^_, _<_}
+use native.Mathlib.Nat.{pow-succ'}
 use native.Mathlib.Numerals.{add-one}
 use native.Mathlib.Omega.{arith}
 use lib.IntN.{ℤ, pos, negℤ, _+ℤ_, _-ℤ_, _*ℤ_}
@@ -12,7 +12,7 @@ use Rattle.integers.specs.Floor.{round}
 use Rattle.integers.specs.Places.{places, at, sum}
 use Rattle.integers.proofs.Ring.{ring}
 use Rattle.integers.proofs.Rounding.{round-whole}
-use Rattle.integers.proofs.PlaceLaws.{length-places, at-places, places-ext, places-at, sum-ext}
+use Rattle.integers.proofs.PlaceLaws.{length-places, at-places, places-ext, sum-ext}
 use Rattle.tables.specs.Widths.{byWidth, halfWidth}
 use Rattle.tables.proofs.ByWidth.{at-each}
 use Rattle.steps.specs.Steps.{rootLog, cosine, secant, alternate, amount1, amount2, amount3, tangent, stage1, stage2, stage3, stage4, stage5, unstage1, unstage2, unstage3, unstage4, unstage5}
@@ -29,10 +29,6 @@ altered even y = places (length y) (λ i. flipped even i (at y i))
 -- a list by the places of another: what stands there may be said in another way
 pub respoken : (n : ℕ) (y : List ℤ) (f g : ℕ → ℤ) → length y ≡ n → ((i : ℕ) → i < n → f i ≡ g i) → places (length y) f ≡ places n g
 respoken n y f g l h = ap (λ k. places k f) l ∙ places-ext n f g h
-
--- ---- strides
-pub stride-copy : (x : List ℤ) (n : ℕ) → length x ≡ n → places n (λ i. at x ((0 + i * 1) % length x)) ≡ x
-stride-copy x n e = places-ext n _ (at x) (λ i l. ap (at x) (ap (λ k. k % length x) (omega arith) ∙ mod-eq-of-lt (omega arith))) ∙ places-at n x e
 
 -- ---- M and √M as powers of two
 pub half-power : (N : ℕ) → 0 < halfWidth N → 2 ^ (2 * rootLog N) ≡ halfWidth N

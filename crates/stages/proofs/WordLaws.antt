@@ -14,9 +14,9 @@ use Rattle.integers.proofs.Ring.{*ℤ-distribl, *ℤ-distribr, -ℤ-move}
 use Rattle.integers.proofs.PlaceLaws.{length-places, at-places, places-ext, sum-ext, within-places}
 use Rattle.integers.proofs.Permutations.{sum-plus}
 use Rattle.integers.specs.Places.{places, at, sum, Within}
-use Rattle.stages.specs.Expanded.{window, Sizes}
+use Rattle.stages.specs.Expanded.{window}
 use Rattle.stages.specs.Moves.{Order, gathered}
-use Rattle.stages.specs.Words.{Above, Words, Raised, Settles, lowered, settled}
+use Rattle.stages.specs.Words.{Words, Raised, Settles, lowered, settled}
 use Rattle.stages.proofs.WindowLaws.{term, product-size, window-le, part-at}
 
 module _ {n : ℕ} {t x : List ℤ} (s : Words n t x) (j k : ℕ) (h : j < n) {u v : ℤ} (a : u ≡ at t k) (b : v ≡ at x j) where

@@ -9,7 +9,7 @@ use lib.ListN.{length}
 use Rattle.integers.specs.Places.{places, at, sum, Within}
 use Rattle.tables.specs.Widths.{halfWidth}
 use Rattle.tables.specs.Numbers.{cosineOf, secantOf}
-use Rattle.steps.specs.Steps.{rootLog, cosine, secant, tangent, sine, tangentAmount, sineAmount, stage1, stage2, stage3, stage4, stage5, unstage1, unstage2, unstage3, unstage4, unstage5}
+use Rattle.steps.specs.Steps.{cosine, secant, tangent, sine, tangentAmount, sineAmount, stage1, stage2, stage3, stage4, stage5, unstage1, unstage2, unstage3, unstage4, unstage5}
 use Rattle.stages.specs.Moves.{moved}
 
 unfoldable pub cosineSums : ℕ → List ℤ → List ℤ

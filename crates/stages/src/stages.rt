@@ -30,7 +30,7 @@ fn first(
     requires { ⌜ Within (2 ^ 60) (now bottom) ⌝ }
     ensures { λ _. ⌜ now (bottom .exit) ≡ cond undo (unstage1 width (now (top .entry)) (now (bottom .entry))) (stage1 width (now (top .entry)) (now (bottom .entry))) ⌝ }
 {
-    vectors::strided(top, 0, 1, a);
+    vectors::copy(top, a);
     vectors::alternate(false, a);
     sums::cosine_sums(width, a, row, c, b);
     if undo {

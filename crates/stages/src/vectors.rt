@@ -6,34 +6,8 @@ ghost use lib.IntN.{natAbs, _*ℤ_};
 ghost use lib.ListN.{length, getD};
 ghost use Rattle.integers.specs.Floor.{round};
 ghost use Rattle.integers.specs.Places;
-ghost use Rattle.integers.specs.Places.{places, at, Within, sumProducts};
-ghost use Rattle.integers.specs.Vectors.{dot};
+ghost use Rattle.integers.specs.Places.{places, at, Within};
 ghost use Rattle.stages.specs.Moves.{moved, flipped, wovenAt, Moves, Below};
-
-// A place past the end of a list of len counts from its start again.
-fn wrapped(place: usize, len: usize) -> usize
-    requires { ⌜ place < len + len ⌝ }
-    ensures { λ r. ⌜ r ≡ place % len ⌝ }
-{
-    if place < len {
-        return place;
-    }
-    place - len
-}
-
-// Every step-th number of x from first on, around its end, one to each place of out.
-pub fn strided(x: &[i64], first: usize, step: usize, out: &mut [i64])
-    requires { ⌜ (first < length (now x)) × (step < length (now x)) × (length (now x) ≤ 1024) ⌝ }
-    ensures { λ _. ⌜ now (out .exit) ≡ places (length (now (out .entry))) (λ i. at (now (x .entry)) ((first + i * step) % length (now (x .entry)))) ⌝ }
-{
-    let mut from = first;
-    let mut i = 0;
-    while i < out.len() {
-        out[i] = x[from];
-        from = wrapped(from + step, x.len());
-        i += 1;
-    }
-}
 
 // Each number to its own place.
 pub fn copy(x: &[i64], out: &mut [i64])
@@ -73,20 +47,6 @@ pub fn signed_gather(places: &[usize], signs: &[i64], x: &[i64], out: &mut [i64]
         out[k] = signs[k] * x[from];
         k += 1;
     }
-}
-
-// The inner product.
-pub fn inner_product(row: &[i64], x: &[i64]) -> i64
-    requires { ⌜ (length (now row) ≡ length (now x)) × (sumProducts (now row) (now x) < 2 ^ 63) ⌝ }
-    ensures { λ r. ⌜ r ≡ dot (now (row .entry)) (now (x .entry)) ⌝ }
-{
-    let mut sum: i64 = 0;
-    let mut i = 0;
-    while i < row.len() {
-        sum += row[i] * x[i];
-        i += 1;
-    }
-    sum
 }
 
 pub fn moved(undo: bool, y: i64, amount: i64) -> i64

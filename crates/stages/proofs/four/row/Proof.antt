@@ -1,7 +1,6 @@
 -- `stages::four::row` meets its contract.
 use borrow.Author.Needs.{needs}
 use native.Mathlib.Omega.{arith}
-use mathlib.Core.Path.{_≡_}
 use Prim.Native.Nat.{ℕ, _*_, _^_, _≤_, _<_}
 use lib.IntN.{ℤ, natAbs, _+ℤ_, _*ℤ_}
 use lib.Signed.{mag}

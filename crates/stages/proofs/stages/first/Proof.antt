@@ -3,27 +3,22 @@ use borrow.Author.Needs.{needs}
 use native.Mathlib.Omega.{arith}
 use mathlib.Core.Path.{_≡_, sym, ap, ap₂, subst, _∙_}
 use mathlib.Core.Bool.{true, false, cond}
-use Prim.Native.Nat.{_+_, _-_, _*_, _%_, _^_, _≤_}
+use Prim.Native.Nat.{_+_, _-_, _^_, _≤_}
 use lib.ListN.{length}
-use Rattle.integers.specs.Places.{places, at, Within}
+use Rattle.integers.specs.Places.{Within}
 use Rattle.integers.proofs.PlaceLaws.{length-places, within-up}
 use Rattle.tables.specs.Widths.{halfWidth}
-use Rattle.tables.proofs.ByWidth.{half-width-le}
 use Rattle.stages.specs.Moves.{Moves}
 use Rattle.stages.proofs.StageSizes.{moves-wide, moves-whole}
-use Rattle.tables.proofs.ByWidth.{half-width-ge}
 use Rattle.steps.specs.Steps.{rootLog, stage1, unstage1}
 use Rattle.stages.specs.Expanded.{cosineSums}
-use Rattle.stages.proofs.StageLaws.{lifted, altered, stride-copy, stage1-is, unstage1-is}
+use Rattle.stages.proofs.StageLaws.{lifted, altered, stage1-is, unstage1-is}
 use Rattle.stages.proofs.StageSizes.{root-le, altered-within, lifted-wide, lifted-whole, cosine-sums-wide}
 use Rattle.stages.proofs.stages.first.Statement.{statement}
 use Rattle.stages.proofs.stages.first.Tie as tie
 
-copied : (c : tie.After-strided) → c .strided .last .1 .1 .1 .0 ≡ c .before .before .args .top .now
-copied c =
-    let s = c .before .before in
-    let top = s .args .top .now in
-    c .strided .ensures ∙ ap (λ n. places n (λ i. at top ((0 + i * 1) % length top))) (s .pre .1 .1 .0 .a-long) ∙ stride-copy top (halfWidth (s .args .width)) (s .pre .1 .0 .top-long)
+copied : (c : tie.After-copy) → c .copy .last .1 .0 ≡ c .before .before .args .top .now
+copied c = c .copy .ensures
 
 signed : (c : tie.After-alternate) → c .alternate .last .1 .0 ≡ altered false (c .before .before .before .before .before .args .top .now)
 signed c = c .alternate .ensures ∙ ap (altered false) (copied (c .before .before .before))
@@ -55,12 +50,8 @@ module _ (c : tie.After-cosine-sums) where
   sums-move : Moves (27 + s .args .root) (c .cosine-sums .last .1 .1 .1 .1 .0)
   sums-move = moves-wide (27 + s .args .root) _ (omega arith) sums-within
 
-strided-requires : tie.Need-strided-requires
-strided-requires c κs =
-    let s = c .before in
-    let t = s .pre .1 .0 .top-long in
-    let z = half-width-ge (s .args .width) (s .pre .0 .1) in
-    (omega arith, omega arith, omega (arith, half-width-le (s .args .width)))
+copy-requires : tie.Need-copy-requires
+copy-requires c κs = let s = c .before in s .pre .1 .0 .top-long ∙ sym (s .pre .1 .1 .0 .a-long)
 
 alternate-requires : tie.Need-alternate-requires
 alternate-requires c κs = let r = c .before .before in let s = r .before .before in subst (Within (2 ^ 61)) (sym (copied r)) (within-up (s .pre .1 .1 .1 .0) (omega arith))
@@ -166,7 +157,7 @@ pub first-spec : {M : Type 1} → statement M
 first-spec =
     tie.close
     (tie.spec
-    strided-requires
+    copy-requires
     alternate-requires
     cosine-sums-requires
     add-lift

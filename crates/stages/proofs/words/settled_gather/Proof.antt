@@ -1,7 +1,7 @@
 -- `stages::words::settled_gather` meets its contract.
 use borrow.Author.Needs.{needs, scaled-fits}
 use native.Mathlib.Omega.{arith}
-use mathlib.Core.Path.{_≡_, sym, ap, ap₂, _∙_}
+use mathlib.Core.Path.{_≡_, sym, ap₂, _∙_}
 use Prim.Native.Nat.{ℕ, _-_, _*_, _^_, _≤_, _<_}
 use lib.IntN.{ℤ, natAbs, _-ℤ_, _*ℤ_}
 use lib.ListN.{length, getD}
