@@ -42,10 +42,12 @@ fn framed(
     requires { ⌜ Within 50000 (now work) ⌝ }
     ensures { λ _. ⌜ now (work .exit) ≡ Rattle.steps.specs.Steps.stages width (now (work .entry)) ⌝ }
 {
+    let half = top.len();
     every_second(work, 0, top);
     every_second(work, 1, bottom);
     stages::stages::all(false, width, root, top, bottom, a, b, c, row);
-    vectors::join(top, bottom, work);
+    vectors::copy(top, &mut work[..half]);
+    vectors::copy(bottom, &mut work[half..]);
 }
 
 // A frame to its folded values, in place.

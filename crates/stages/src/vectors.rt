@@ -1,6 +1,5 @@
 // Work on lists of 64-bit numbers, place by place.
 ghost use mathlib.Core.Path.{_≡_};
-ghost use mathlib.Core.List.{_++_};
 ghost use Prim.Native.Nat.{_+_, _-_, _*_, _/_, _%_, _^_, _≤_, _<_};
 ghost use lib.IntN.{natAbs, _*ℤ_};
 ghost use lib.ListN.{length, getD};
@@ -137,28 +136,6 @@ pub fn interleave(top: &[i64], bottom: &[i64], out: &mut [i64])
     let mut i = 0;
     while i < out.len() {
         out[i] = woven(top, bottom, i);
-        i += 1;
-    }
-}
-
-fn joined(front: &[i64], rest: &[i64], i: usize) -> i64
-    requires { ⌜ i < length (now front) + length (now rest) ⌝ }
-    ensures { λ r. ⌜ r ≡ at (now (front .entry) ++ now (rest .entry)) i ⌝ }
-{
-    if i < front.len() {
-        return front[i];
-    }
-    rest[i - front.len()]
-}
-
-// One list, then the other.
-pub fn join(front: &[i64], rest: &[i64], out: &mut [i64])
-    requires { ⌜ length (now out) ≡ length (now front) + length (now rest) ⌝ }
-    ensures { λ _. ⌜ now (out .exit) ≡ now (front .entry) ++ now (rest .entry) ⌝ }
-{
-    let mut i = 0;
-    while i < out.len() {
-        out[i] = joined(front, rest, i);
         i += 1;
     }
 }

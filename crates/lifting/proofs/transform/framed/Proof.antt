@@ -3,15 +3,17 @@ use borrow.Author.Needs.{needs}
 use native.Mathlib.Omega.{arith}
 use mathlib.Core.Path.{_≡_, sym, ap, ap₂, subst, _∙_}
 use mathlib.Core.List.{List, _++_}
-use Prim.Native.Nat.{ℕ, _+_, _*_}
+use Prim.Native.Nat.{ℕ, _+_, _*_, _≤_}
 use lib.IntN.{ℤ}
-use lib.ListN.{length}
+use lib.ListN.{length, drop, length-drop}
 use Rattle.integers.specs.Places.{places, at, Within}
 use Rattle.tables.specs.Widths.{halfWidth}
+use Rattle.tables.proofs.ByWidth.{half-width-le}
 use Rattle.steps.specs.Steps.{topOf, bottomOf}
 use Rattle.stages.specs.Expanded.{top4, bottom5}
 use Rattle.steps.proofs.Undo.{width-half, length-top, length-bottom}
 use Rattle.stages.proofs.FrameSizes.{long4, long5}
+use Rattle.lifting.proofs.Parts.{part-long, front-le, rest-long, rest-put}
 use Rattle.lifting.proofs.FrameLaws.{read-evens, read-odds, stages-halves, top-within, bottom-within}
 use Rattle.lifting.proofs.transform.framed.Statement.{statement}
 use Rattle.lifting.proofs.transform.framed.Tie as tie
@@ -31,6 +33,12 @@ module _ (s : tie.Start) where
 
   twice : M + M ≡ N
   twice = width-half N (s .pre .0 .1)
+
+  half-is : length (s .args .top .now) ≡ M
+  half-is = s .pre .1 .0 .top-long
+
+  half-le : length (s .args .top .now) ≤ length work
+  half-le = omega (arith, twice, long, half-is)
 
 top1 : (c : tie.After-every-second) → c .every-second .last .1 .1 .0 ≡ topOf (N (c .before .before .before)) (work (c .before .before .before))
 top1 c =
@@ -60,13 +68,70 @@ all-requires c κs =
       ),
     )
 
-join-requires : tie.Need-join-requires
-join-requires c κs =
-    let g = c .before .before .before .before .before .before .before .before .before in
-    let s = g .before .before .before .before .before .before .before .before .before .before .before .before .before .before .before in
-    let x = ap length (g .all .ensures .0) ∙ long4 (N s) _ _ in
-    let y = ap length (g .all .ensures .1) ∙ long5 (N s) _ _ in
-    omega (arith, twice s, long s)
+-- the halves of the frame, and where they are put
+module _ (g : tie.After-all) where
+  abbrev from : tie.Start
+  from = g .before .before .before .before .before .before .before .before .before .before .before .before .before .before .before
+
+  abbrev top-of : List ℤ
+  top-of = g .all .last .1 .1 .1 .0
+
+  abbrev bottom-of : List ℤ
+  bottom-of = g .all .last .1 .1 .1 .1 .0
+
+  top-of-long : length top-of ≡ M from
+  top-of-long = ap length (g .all .ensures .0) ∙ long4 (N from) _ _
+
+  bottom-of-long : length bottom-of ≡ M from
+  bottom-of-long = ap length (g .all .ensures .1) ∙ long5 (N from) _ _
+
+module _ (k : tie.After-copy) where
+  abbrev made : tie.After-all
+  made = k .before .before .before .before .before .before .before .before .before
+
+  abbrev half : ℕ
+  half = length (from made .args .top .now)
+
+  abbrev front-of : List ℤ
+  front-of = k .copy .last .1 .0
+
+  abbrev behind : List ℤ
+  behind = drop half (work (from made))
+
+  front-is : length front-of ≡ half
+  front-is = ap length (k .copy .ensures) ∙ top-of-long made ∙ sym (half-is (from made))
+
+  behind-long : length behind ≡ M (from made)
+  behind-long = omega (arith, length-drop half (work (from made)), long (from made), twice (from made), half-is (from made))
+
+slice-relend-prefix-copy : tie.Need-slice-relend-prefix-copy
+slice-relend-prefix-copy c = half-le (c .before .before .before .before .before .before .before .before .before .before .before .before .before .before .before .before .before .before .before .before .before .before)
+
+slice-aggregate-copy : tie.Need-slice-aggregate-copy
+slice-aggregate-copy c = let s = c .before .before .before .before .before .before .before .before .before .before .before .before .before .before .before .before .before .before .before .before .before .before .before in part-long _ (work s) (half-le s)
+
+copy-requires : tie.Need-copy-requires
+copy-requires c κs =
+    let g = c .before .before .before .before .before .before .before .before in
+    let s = from g in
+    top-of-long g ∙ sym (half-is s) ∙ part-long _ (work s) (half-le s)
+
+mul-copy : tie.Need-mul-copy
+mul-copy c = let s = c .before .before .before .before .before .before .before .before .before .before .before .before .before .before .before .before .before .before .before .before .before .before .before .before .before .before in record { fits = omega (arith, half-is s, half-width-le (N s)) }
+
+sub-copy : tie.Need-sub-copy
+sub-copy c = let k = c .before .before in front-le _ (front-of k) (behind k) (front-is k)
+
+part-copy-start : tie.Need-part-copy-start
+part-copy-start c = let k = c .before .before in front-le _ (front-of k) (behind k) (front-is k)
+
+part-copy-end : tie.Need-part-copy-end
+part-copy-end c = search needs
+
+copy-requires-2 : tie.Need-copy-requires-2
+copy-requires-2 c κs =
+    let k = c .before .before .before in
+    bottom-of-long (made k) ∙ sym (behind-long k) ∙ sym (rest-long (half k) (front-of k) (behind k) (front-is k))
 
 same-length : tie.Need-same-length
 same-length c = search needs
@@ -91,12 +156,14 @@ same-length-7 c = search needs
 
 returns : tie.Need-returns
 returns c =
-    let j = c .before in
-    let g = j .before .before .before .before .before .before .before .before .before .before in
+    let k = c .before .before .before .before .before in
+    let g = made k in
     let q = g .before .before .before .before .before .before .before .before in
     let p = q .before .before .before .before in
-    let s = p .before .before .before in
-    j .join .ensures ∙ ap₂ _++_ (g .all .ensures .0 ∙ ap₂ (top4 (N s)) (top1 p) (bottom1 q)) (g .all .ensures .1 ∙ ap₂ (bottom5 (N s)) (top1 p) (bottom1 q)) ∙ stages-halves (N s) (work s)
+    let s = from g in
+    rest-put (half k) (front-of k) (behind k) (front-is k) _
+    ∙ ap₂ _++_ (k .copy .ensures ∙ g .all .ensures .0 ∙ ap₂ (top4 (N s)) (top1 p) (bottom1 q)) (c .before .copy2 .ensures ∙ g .all .ensures .1 ∙ ap₂ (bottom5 (N s)) (top1 p) (bottom1 q))
+    ∙ stages-halves (N s) (work s)
 
 pub framed-spec : {M : Type 1} → statement M
 framed-spec =
@@ -105,7 +172,14 @@ framed-spec =
     every-second-requires
     every-second-requires-2
     all-requires
-    join-requires
+    slice-relend-prefix-copy
+    slice-aggregate-copy
+    copy-requires
+    mul-copy
+    sub-copy
+    part-copy-start
+    part-copy-end
+    copy-requires-2
     same-length
     same-length-2
     same-length-3
