@@ -7,6 +7,8 @@ ghost use Rattle.integers.specs.Places.{places, at, Within};
 ghost use Rattle.tables.specs.Widths.{halfWidth};
 ghost use Rattle.steps.specs.Steps.{rootLog, stages, unstages};
 ghost use Rattle.stages.specs.Expanded.{Halves, Room, Width};
+use stages::eight;
+use stages::eight::Half;
 use stages::expand;
 use stages::room;
 use stages::vectors;
@@ -103,29 +105,49 @@ fn either_way(
     framed(width, root, work, top, bottom, a, b, c, row);
 }
 
+fn framed_8(work: &mut [i64])
+    requires { ⌜ length (now work) ≡ 8 ⌝ }
+    requires { ⌜ Within 50000 (now work) ⌝ }
+    ensures { λ _. ⌜ now (work .exit) ≡ Rattle.steps.specs.Steps.stages 8 (now (work .entry)) ⌝ }
+{
+    let made = eight::forward(eight::taken(work, 0, 2), eight::taken(work, 1, 2));
+    eight::put(made.top, made.bottom, work);
+}
+
+fn unframed_8(work: &mut [i64])
+    requires { ⌜ length (now work) ≡ 8 ⌝ }
+    requires { ⌜ Within 1048576 (now work) ⌝ }
+    ensures { λ _. ⌜ now (work .exit) ≡ Rattle.steps.specs.Steps.unstages 8 (now (work .entry)) ⌝ }
+{
+    let made = eight::backward(eight::taken(work, 0, 1), eight::taken(work, 4, 1));
+    let top = made.top;
+    let bottom = made.bottom;
+    let lower = Half {
+        a: top.a,
+        b: bottom.a,
+        c: top.b,
+        d: bottom.b,
+    };
+    let upper = Half {
+        a: top.c,
+        b: bottom.c,
+        c: top.d,
+        d: bottom.d,
+    };
+    eight::put(lower, upper, work);
+}
+
 // One function to a width, since an array's length is fixed: room for a wider frame would be cleared for nothing.
 fn in_room_8(undo: bool, work: &mut [i64])
     requires { ⌜ length (now work) ≡ 8 ⌝ }
     requires { ⌜ Within (cond undo 1048576 50000) (now work) ⌝ }
     ensures { λ _. ⌜ now (work .exit) ≡ cond undo (Rattle.steps.specs.Steps.unstages 8 (now (work .entry))) (Rattle.steps.specs.Steps.stages 8 (now (work .entry))) ⌝ }
 {
-    let mut top = room::of_4();
-    let mut bottom = room::of_4();
-    let mut a = room::of_4();
-    let mut b = room::of_4();
-    let mut c = room::of_4();
-    let mut row = room::of_4();
-    either_way(
-        undo,
-        8,
-        work,
-        &mut top,
-        &mut bottom,
-        &mut a,
-        &mut b,
-        &mut c,
-        &mut row,
-    );
+    if undo {
+        unframed_8(work);
+        return;
+    }
+    framed_8(work);
 }
 
 fn in_room_32(undo: bool, work: &mut [i64])

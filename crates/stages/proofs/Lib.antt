@@ -5,6 +5,7 @@ pub mod SecantRows
 pub mod SumLaws
 pub mod WindowLaws
 pub mod WordLaws
+pub mod EightLaws
 pub mod FourLaws
 pub mod RaisedLaws
 pub mod StageLaws

@@ -2,3 +2,4 @@ pub mod Moves
 pub mod Expanded
 pub mod Arranged
 pub mod Words
+pub mod Eight

@@ -1,5 +1,6 @@
 // The five stages on the halves of a frame, each with its way back, and what they work with: tables as lists, row sums, moves of lists.
 pub mod arranged;
+pub mod eight;
 pub mod expand;
 mod four;
 pub mod lifts;

@@ -302,7 +302,7 @@ pub fn by_sines(undo: bool, back: bool, width: usize, x: &[i64], y: &mut [i64])
     }
 }
 
-fn third_amount(root: u32, secants: i64, cosines: i64, tangent: i64) -> i64
+pub fn third_amount(root: u32, secants: i64, cosines: i64, tangent: i64) -> i64
     requires { ⌜ (root ≤ 3) × (natAbs secants ≤ 2 ^ 60) × (natAbs cosines ≤ 2 ^ 57) × (natAbs tangent ≤ 2 ^ 56) ⌝ }
     ensures { λ r. ⌜ r ≡ third root secants cosines tangent ⌝ }
 {

@@ -90,7 +90,7 @@ pub fn lift(undo: bool, k: u32, amounts: &[i64], y: &mut [i64])
     }
 }
 
-fn flipped(even: bool, i: usize, x: i64) -> i64
+pub fn flipped(even: bool, i: usize, x: i64) -> i64
     requires { ⌜ natAbs x ≤ 2 ^ 61 ⌝ }
     ensures { λ r. ⌜ r ≡ Rattle.stages.specs.Moves.flipped even i x ⌝ }
 {

@@ -1,73 +1,38 @@
 -- `lifting::transform::in_room_8` meets its contract.
 use borrow.Author.Needs.{needs}
-use native.Mathlib.Omega.{arith}
-use Rattle.lifting.proofs.RoomLaws.{half-8, room-for}
+use mathlib.Core.Path.{sym, ap, subst, _∙_}
+use mathlib.Core.Bool.{cond}
+use Prim.Native.Nat.{ℕ}
+use Rattle.integers.specs.Places.{Within}
+use Rattle.steps.specs.Steps.{stages, unstages}
 use Rattle.lifting.proofs.transform.in_room_8.Statement.{statement}
 use Rattle.lifting.proofs.transform.in_room_8.Tie as tie
 
-of-4-requires : tie.Need-of-4-requires
-of-4-requires c κs = search needs
-
-of-4-requires-2 : tie.Need-of-4-requires-2
-of-4-requires-2 c κs = search needs
-
-of-4-requires-3 : tie.Need-of-4-requires-3
-of-4-requires-3 c κs = search needs
-
-of-4-requires-4 : tie.Need-of-4-requires-4
-of-4-requires-4 c κs = search needs
-
-of-4-requires-5 : tie.Need-of-4-requires-5
-of-4-requires-5 c κs = search needs
-
-of-4-requires-6 : tie.Need-of-4-requires-6
-of-4-requires-6 c κs = search needs
-
-slice-aggregate-either-way : tie.Need-slice-aggregate-either-way
-slice-aggregate-either-way c = search needs
-
-slice-aggregate-either-way-2 : tie.Need-slice-aggregate-either-way-2
-slice-aggregate-either-way-2 c = search needs
-
-slice-aggregate-either-way-3 : tie.Need-slice-aggregate-either-way-3
-slice-aggregate-either-way-3 c = search needs
-
-slice-aggregate-either-way-4 : tie.Need-slice-aggregate-either-way-4
-slice-aggregate-either-way-4 c = search needs
-
-slice-aggregate-either-way-5 : tie.Need-slice-aggregate-either-way-5
-slice-aggregate-either-way-5 c = search needs
-
-slice-aggregate-either-way-6 : tie.Need-slice-aggregate-either-way-6
-slice-aggregate-either-way-6 c = search needs
-
-either-way-requires : tie.Need-either-way-requires
-either-way-requires c κs =
-    let r = c .before .before .before .before .before .before .before in
-    room-for half-8 (omega arith) (r .before .before .before .before .before .of-4 .ensures) (r .before .before .before .before .of-42 .ensures) (r .before .before .before .of-43 .ensures) (r .before .before .of-44 .ensures) (r .before .of-45 .ensures) (r .of-46 .ensures) (r .before .before .before .before .before .before .pre)
+unframed-8-requires : tie.Need-unframed-8-requires
+unframed-8-requires c κs =
+    let s = c .before .before in
+    (s .pre .0, subst (λ k. Within k (s .args .work .now)) (ap (λ u. cond {A = ℕ} u 1048576 50000) (c .before .if1 .taken)) (s .pre .1))
 
 same-length : tie.Need-same-length
 same-length c = search needs
 
 returns : tie.Need-returns
-returns c = search needs
+returns c =
+    let s = c .before .before .before .before in
+    c .before .unframed-8 .ensures ∙ sym (ap (λ u. cond u (unstages 8 (s .args .work .now)) (stages 8 (s .args .work .now))) (c .before .before .before .if1 .taken))
+
+framed-8-requires : tie.Need-framed-8-requires
+framed-8-requires c κs =
+    let s = c .before .before in
+    (s .pre .0, subst (λ k. Within k (s .args .work .now)) (ap (λ u. cond {A = ℕ} u 1048576 50000) (c .before .if1 .left)) (s .pre .1))
+
+same-length-2 : tie.Need-same-length-2
+same-length-2 c = search needs
+
+returns-2 : tie.Need-returns-2
+returns-2 c =
+    let s = c .before .before .before .before in
+    c .before .framed-8 .ensures ∙ sym (ap (λ u. cond u (unstages 8 (s .args .work .now)) (stages 8 (s .args .work .now))) (c .before .before .before .if1 .left))
 
 pub in-room-8-spec : {M : Type 1} → statement M
-in-room-8-spec =
-    tie.close
-    (tie.spec
-    of-4-requires
-    of-4-requires-2
-    of-4-requires-3
-    of-4-requires-4
-    of-4-requires-5
-    of-4-requires-6
-    slice-aggregate-either-way
-    slice-aggregate-either-way-2
-    slice-aggregate-either-way-3
-    slice-aggregate-either-way-4
-    slice-aggregate-either-way-5
-    slice-aggregate-either-way-6
-    either-way-requires
-    same-length
-    returns)
+in-room-8-spec = tie.close (tie.spec unframed-8-requires same-length returns framed-8-requires same-length-2 returns-2)
