@@ -1,13 +1,6 @@
 pub mod MoveLaws
-pub mod ArrangedLaws
-pub mod CosineOrder
 pub mod SecantRows
-pub mod SumLaws
-pub mod WindowLaws
-pub mod WordLaws
 pub mod EightLaws
-pub mod FourLaws
-pub mod RaisedLaws
 pub mod StageLaws
 pub mod StageSizes
 pub mod TableSizes

@@ -17,7 +17,8 @@ use Rattle.tables.specs.Widths.{byWidth, halfWidth}
 use Rattle.tables.proofs.ByWidth.{at-each}
 use Rattle.steps.specs.Steps.{rootLog, cosine, secant, alternate, amount1, amount2, amount3, tangent, stage1, stage2, stage3, stage4, stage5, unstage1, unstage2, unstage3, unstage4, unstage5}
 use Rattle.stages.specs.Moves.{moved, flipped}
-use Rattle.stages.specs.Expanded.{cosineSums, secantSums, third, thirdAmounts, sineLift, tangentLift}
+use Rattle.rows.specs.Sums.{cosineSums, secantSums}
+use Rattle.stages.specs.Expanded.{third, thirdAmounts, sineLift, tangentLift}
 
 -- what `lift` and `alternate` give
 abbrev pub lifted : Bool → ℕ → List ℤ → List ℤ → List ℤ

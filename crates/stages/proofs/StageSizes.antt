@@ -20,7 +20,7 @@ use Rattle.tables.proofs.ByWidth.{at-each, half-width-le}
 use Rattle.tables.proofs.Quadrants.{signed-size}
 use Rattle.steps.specs.Steps.{rootLog, cosine, secant, alternate, amount1, amount2, amount3, sineAmount, tangentAmount, sine, tangent, stage1, stage2, stage3, stage4, stage5, unstage1, unstage2, unstage3, unstage4, unstage5}
 use Rattle.stages.specs.Moves.{moved, flipped, Moves}
-use Rattle.stages.specs.Expanded.{cosineSums, secantSums}
+use Rattle.rows.specs.Sums.{cosineSums, secantSums}
 use Rattle.stages.proofs.StageLaws.{lifted, altered, amounts3, amounts3-at}
 use Rattle.stages.proofs.SecantRows.{cosine-entry-size, secant-row, tangent-size, sine-size}
 

@@ -1,13 +1,12 @@
 -- What the code does at one place.
-use mathlib.Core.Path.{_≡_}
 use mathlib.Core.Bool.{Bool, true, false, cond}
 use mathlib.Core.List.{List}
-use Prim.Native.Nat.{ℕ, _/_, _%_, _^_, _≤_, _<_}
+use Prim.Native.Nat.{ℕ, _/_, _%_, _^_, _≤_}
 use lib.Dec.{eqb}
 use lib.IntN.{ℤ, pos, negℤ, natAbs, _+ℤ_, _-ℤ_, _*ℤ_}
-use lib.ListN.{length, getD}
+use lib.ListN.{getD}
 use Rattle.integers.specs.Floor.{round}
-use Rattle.integers.specs.Places.{at, Within}
+use Rattle.integers.specs.Places.{at}
 use Rattle.steps.specs.Steps.{alternate}
 
 -- a step, or the step undone
@@ -26,17 +25,3 @@ wovenAt top bottom i = cond (eqb (i % 2) 0) (at top (i / 2)) (at bottom (i / 2))
 -- what a lift by these amounts adds is small enough for 64 bits
 pub record Moves (k : ℕ) (amounts : List ℤ) : Type 0 where
   pub small : (i : ℕ) → natAbs (round k (getD amounts i (pos 0))) ≤ 2 ^ 61
-
--- each place is one of a list of n numbers
-pub record Below (n : ℕ) (xs : List ℕ) : Type 0 where
-  pub below : (i : ℕ) → i < length xs → getD xs i 0 < n
-
--- n places of a list of n numbers, each with a sign
-pub record Order (n : ℕ) (places : List ℕ) (signs : List ℤ) : Type 0 where
-  pub places-long : length places ≡ n
-  pub signs-long : length signs ≡ n
-  pub below : Below n places
-  pub within : Within 1 signs
-
-abbrev pub gathered : List ℕ → List ℤ → List ℤ → ℕ → ℤ
-gathered places signs x k = at signs k *ℤ at x (getD places k 0)

@@ -1,4 +1,4 @@
-// The five stages on the two halves of a frame, each with its way back. a, b, c and row are room to work in.
+// The five stages on the two halves of a frame at widths 32 and 128, each with its way back. a, b, c and row are room to work in.
 ghost use mathlib.Core.Bool.{cond};
 ghost use mathlib.Core.Path.{_≡_};
 ghost use Prim.Native.Nat.{_^_, _<_};
@@ -8,8 +8,8 @@ ghost use Rattle.tables.specs.Widths.{halfWidth};
 ghost use Rattle.steps.specs.Steps.{rootLog, stage1, stage2, stage3, stage4, stage5, unstage1, unstage2, unstage3, unstage4, unstage5};
 ghost use Rattle.stages.specs.Expanded.{Halves, Room, top4, bottom5, untop2, unbottom1};
 use crate::lifts;
-use crate::sums;
 use crate::vectors;
+use rows::sums;
 
 // Stage 1: bottom gains top and the rounded sums of C·d·top.
 fn first(
@@ -23,7 +23,7 @@ fn first(
     c: &mut [i64],
     row: &mut [i64],
 )
-    requires { ⌜ (root ≡ rootLog width) × (0 < halfWidth width) ⌝ }
+    requires { ⌜ (root ≡ rootLog width) × (0 < halfWidth width) × (8 < width) ⌝ }
     requires { ⌜ Halves width (now top) (now bottom) ⌝ }
     requires { ⌜ Room width (now a) (now b) (now c) (now row) ⌝ }
     requires { ⌜ Within 500000000 (now top) ⌝ }
@@ -53,7 +53,7 @@ fn second(
     c: &mut [i64],
     row: &mut [i64],
 )
-    requires { ⌜ (root ≡ rootLog width) × (0 < halfWidth width) ⌝ }
+    requires { ⌜ (root ≡ rootLog width) × (0 < halfWidth width) × (8 < width) ⌝ }
     requires { ⌜ Halves width (now top) (now bottom) ⌝ }
     requires { ⌜ (length (now a) ≡ halfWidth width) × (length (now c) ≡ halfWidth width) × (length (now row) ≡ halfWidth width) ⌝ }
     requires { ⌜ Within 500000000 (now bottom) ⌝ }
@@ -82,7 +82,7 @@ fn third(
     c: &mut [i64],
     row: &mut [i64],
 )
-    requires { ⌜ (root ≡ rootLog width) × (0 < halfWidth width) ⌝ }
+    requires { ⌜ (root ≡ rootLog width) × (0 < halfWidth width) × (8 < width) ⌝ }
     requires { ⌜ Halves width (now top) (now bottom) ⌝ }
     requires { ⌜ Room width (now a) (now b) (now c) (now row) ⌝ }
     requires { ⌜ Within 7500000 (now top) ⌝ }
@@ -127,7 +127,7 @@ fn forward(
     c: &mut [i64],
     row: &mut [i64],
 )
-    requires { ⌜ (root ≡ rootLog width) × (0 < halfWidth width) ⌝ }
+    requires { ⌜ (root ≡ rootLog width) × (0 < halfWidth width) × (8 < width) ⌝ }
     requires { ⌜ Halves width (now top) (now bottom) ⌝ }
     requires { ⌜ Room width (now a) (now b) (now c) (now row) ⌝ }
     requires { ⌜ Within 50000 (now top) ⌝ }
@@ -151,7 +151,7 @@ fn backward(
     c: &mut [i64],
     row: &mut [i64],
 )
-    requires { ⌜ (root ≡ rootLog width) × (0 < halfWidth width) ⌝ }
+    requires { ⌜ (root ≡ rootLog width) × (0 < halfWidth width) × (8 < width) ⌝ }
     requires { ⌜ Halves width (now top) (now bottom) ⌝ }
     requires { ⌜ Room width (now a) (now b) (now c) (now row) ⌝ }
     requires { ⌜ Within 1048576 (now top) ⌝ }
@@ -177,7 +177,7 @@ pub fn all(
     c: &mut [i64],
     row: &mut [i64],
 )
-    requires { ⌜ (root ≡ rootLog width) × (0 < halfWidth width) ⌝ }
+    requires { ⌜ (root ≡ rootLog width) × (0 < halfWidth width) × (8 < width) ⌝ }
     requires { ⌜ Halves width (now top) (now bottom) ⌝ }
     requires { ⌜ Room width (now a) (now b) (now c) (now row) ⌝ }
     requires { ⌜ Within (cond undo 1048576 50000) (now top) ⌝ }

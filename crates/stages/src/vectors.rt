@@ -4,9 +4,8 @@ ghost use Prim.Native.Nat.{_+_, _-_, _*_, _/_, _%_, _^_, _≤_, _<_};
 ghost use lib.IntN.{natAbs, _*ℤ_};
 ghost use lib.ListN.{length, getD};
 ghost use Rattle.integers.specs.Floor.{round};
-ghost use Rattle.integers.specs.Places;
 ghost use Rattle.integers.specs.Places.{places, at, Within};
-ghost use Rattle.stages.specs.Moves.{moved, flipped, wovenAt, Moves, Below};
+ghost use Rattle.stages.specs.Moves.{moved, flipped, wovenAt, Moves};
 
 // Each number to its own place.
 pub fn copy(x: &[i64], out: &mut [i64])
@@ -29,22 +28,6 @@ pub fn reverse(x: &[i64], out: &mut [i64])
     while i < out.len() {
         out[i] = x[out.len() - 1 - i];
         i += 1;
-    }
-}
-
-// The numbers at these places of x, each with a sign.
-pub fn signed_gather(places: &[usize], signs: &[i64], x: &[i64], out: &mut [i64])
-    requires { ⌜ (length (now places) ≡ length (now out)) × (length (now signs) ≡ length (now out)) ⌝ }
-    requires { ⌜ Below (length (now x)) (now places) ⌝ }
-    requires { ⌜ Within 1 (now signs) ⌝ }
-    requires { ⌜ Within (2 ^ 63 - 1) (now x) ⌝ }
-    ensures { λ _. ⌜ now (out .exit) ≡ Places.places (length (now (out .entry))) (λ k. at (now (signs .entry)) k *ℤ at (now (x .entry)) (getD (now (places .entry)) k 0)) ⌝ }
-{
-    let mut k = 0;
-    while k < out.len() {
-        let from = places[k];
-        out[k] = signs[k] * x[from];
-        k += 1;
     }
 }
 

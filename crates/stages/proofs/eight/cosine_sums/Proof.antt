@@ -10,7 +10,7 @@ use Rattle.tables.specs.Widths.{byWidth, halfWidth}
 use Rattle.tables.specs.Angles.{halfTurn, reflected, minus, signed}
 use Rattle.tables.specs.Numbers.{sines, cosineOf}
 use Rattle.steps.specs.Steps.{cosine}
-use Rattle.stages.specs.Expanded.{cosineSums}
+use Rattle.rows.specs.Sums.{cosineSums}
 use Rattle.stages.specs.Eight.{listed}
 use Rattle.stages.proofs.EightLaws.{four-terms, four-places}
 use Rattle.stages.proofs.eight.cosine_sums.Statement.{statement}

@@ -10,7 +10,7 @@ use Rattle.tables.specs.Widths.{byWidth, halfWidth}
 use Rattle.tables.specs.Angles.{halfTurn, reflected, minus, signed}
 use Rattle.tables.specs.Numbers.{secants, secants8, secants32, secants128, secantOf}
 use Rattle.steps.specs.Steps.{secant, oddOf}
-use Rattle.stages.specs.Expanded.{secantSums}
+use Rattle.rows.specs.Sums.{secantSums}
 use Rattle.stages.specs.Eight.{listed}
 use Rattle.stages.proofs.EightLaws.{four-terms, four-places}
 use Rattle.stages.proofs.eight.secant_sums.Statement.{statement}

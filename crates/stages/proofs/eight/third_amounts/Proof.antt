@@ -11,7 +11,8 @@ use Rattle.integers.proofs.Order.{natAbs-negℤ}
 use Rattle.integers.proofs.PlaceLaws.{at-places, places-ext, within-places, within-up}
 use Rattle.tables.specs.Widths.{byWidth, halfWidth}
 use Rattle.steps.specs.Steps.{tangent}
-use Rattle.stages.specs.Expanded.{third, cosineSums, secantSums}
+use Rattle.rows.specs.Sums.{cosineSums, secantSums}
+use Rattle.stages.specs.Expanded.{third}
 use Rattle.stages.specs.Eight.{listed}
 use Rattle.stages.proofs.SecantRows.{tangent-size}
 use Rattle.stages.proofs.StageSizes.{cosine-sums-size, secant-sums-size}

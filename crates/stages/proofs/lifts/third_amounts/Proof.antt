@@ -3,7 +3,7 @@ use borrow.Author.Needs.{needs}
 use mathlib.Core.Path.{sym, ap, _∙_}
 use Rattle.tables.specs.Widths.{halfWidth}
 use Rattle.stages.specs.Expanded.{thirdAmounts}
-use Rattle.stages.proofs.ArrangedLaws.{no-width}
+use Rattle.rows.proofs.ArrangedLaws.{no-width}
 use Rattle.stages.proofs.lifts.third_amounts.Statement.{statement}
 use Rattle.stages.proofs.lifts.third_amounts.Tie as tie
 

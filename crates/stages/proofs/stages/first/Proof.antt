@@ -11,7 +11,7 @@ use Rattle.tables.specs.Widths.{halfWidth}
 use Rattle.stages.specs.Moves.{Moves}
 use Rattle.stages.proofs.StageSizes.{moves-wide, moves-whole}
 use Rattle.steps.specs.Steps.{rootLog, stage1, unstage1}
-use Rattle.stages.specs.Expanded.{cosineSums}
+use Rattle.rows.specs.Sums.{cosineSums}
 use Rattle.stages.proofs.StageLaws.{lifted, altered, stage1-is, unstage1-is}
 use Rattle.stages.proofs.StageSizes.{root-le, altered-within, lifted-wide, lifted-whole, cosine-sums-wide}
 use Rattle.stages.proofs.stages.first.Statement.{statement}
@@ -60,7 +60,7 @@ cosine-sums-requires : tie.Need-cosine-sums-requires
 cosine-sums-requires c κs =
     let a = c .before .before .before .before .before in
     let s = a .before .before .before .before .before in
-    (s .pre .0 .1, ((ap length (signed a) ∙ length-places _ _ ∙ s .pre .1 .0 .top-long, s .pre .1 .1 .0 .row-long, s .pre .1 .1 .0 .c-long, s .pre .1 .1 .0 .b-long), subst (Within 500000000) (sym (signed a)) (altered-within false 500000000 (s .args .top .now) (s .pre .1 .1 .1 .0))))
+    ((s .pre .0 .1, s .pre .0 .2), ((ap length (signed a) ∙ length-places _ _ ∙ s .pre .1 .0 .top-long, s .pre .1 .1 .0 .row-long, s .pre .1 .1 .0 .c-long, s .pre .1 .1 .0 .b-long), subst (Within 500000000) (sym (signed a)) (altered-within false 500000000 (s .args .top .now) (s .pre .1 .1 .1 .0))))
 
 add-lift : tie.Need-add-lift
 add-lift c = record { fits = omega (arith, root-small (start (sums c))) }

@@ -11,7 +11,7 @@ use Rattle.tables.specs.Widths.{halfWidth}
 use Rattle.stages.specs.Moves.{Moves}
 use Rattle.stages.proofs.StageSizes.{moves-wide}
 use Rattle.steps.specs.Steps.{rootLog, stage2, unstage2}
-use Rattle.stages.specs.Expanded.{cosineSums}
+use Rattle.rows.specs.Sums.{cosineSums}
 use Rattle.stages.proofs.StageLaws.{lifted, altered, stage2-is, unstage2-is}
 use Rattle.stages.proofs.StageSizes.{root-le, altered-within, lifted-wide, cosine-sums-wide}
 use Rattle.stages.proofs.stages.second.Statement.{statement}
@@ -42,7 +42,7 @@ module _ (c : tie.After-cosine-sums) where
   sums-move = moves-wide (28 + s .args .root) _ (omega arith) sums-within
 
 cosine-sums-requires : tie.Need-cosine-sums-requires
-cosine-sums-requires c κs = let s = c .before .before .before in (s .pre .0 .1, ((s .pre .1 .0 .bottom-long, s .pre .1 .1 .0 .2, s .pre .1 .1 .0 .1, s .pre .1 .1 .0 .0), s .pre .1 .1 .1 .0))
+cosine-sums-requires c κs = let s = c .before .before .before in ((s .pre .0 .1, s .pre .0 .2), ((s .pre .1 .0 .bottom-long, s .pre .1 .1 .0 .2, s .pre .1 .1 .0 .1, s .pre .1 .1 .0 .0), s .pre .1 .1 .1 .0))
 
 add-lift : tie.Need-add-lift
 add-lift c = record { fits = omega (arith, root-small (start (c .before .before .before .before))) }

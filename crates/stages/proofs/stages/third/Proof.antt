@@ -12,7 +12,8 @@ use Rattle.tables.specs.Widths.{halfWidth}
 use Rattle.tables.proofs.ByWidth.{half-width-le}
 use Rattle.stages.specs.Moves.{Moves}
 use Rattle.steps.specs.Steps.{rootLog}
-use Rattle.stages.specs.Expanded.{cosineSums, secantSums, thirdAmounts}
+use Rattle.rows.specs.Sums.{cosineSums, secantSums}
+use Rattle.stages.specs.Expanded.{thirdAmounts}
 use Rattle.stages.proofs.StageLaws.{lifted, amounts3, stage3-is}
 use Rattle.stages.proofs.StageSizes.{root-le, cosine-sums-size, secant-sums-size, amounts3-move}
 use Rattle.stages.proofs.stages.third.Statement.{statement}
@@ -105,12 +106,12 @@ module _ (r : tie.After-third-amounts) where
 secant-sums-requires : tie.Need-secant-sums-requires
 secant-sums-requires c κs =
     let s = c .before .before .before in
-    (s .pre .0 .1, ((top-long s, row-long s, c-long s, a-long s), within-up (top-small s) (omega arith)))
+    ((s .pre .0 .1, s .pre .0 .2), ((top-long s, row-long s, c-long s, a-long s), within-up (top-small s) (omega arith)))
 
 cosine-sums-requires : tie.Need-cosine-sums-requires
 cosine-sums-requires c κs =
     let s = c .before .before .before .before .before .before .before .before .before .before in
-    (s .pre .0 .1, ((top-long s, c .before .before .before .before .before .row .given ∙ row-long s, c .before .before .before .before .c .given ∙ c-long s, b-long s), within-up (top-small s) (omega arith)))
+    ((s .pre .0 .1, s .pre .0 .2), ((top-long s, c .before .before .before .before .before .row .given ∙ row-long s, c .before .before .before .before .c .given ∙ c-long s, b-long s), within-up (top-small s) (omega arith)))
 
 third-amounts-requires : tie.Need-third-amounts-requires
 third-amounts-requires c κs =

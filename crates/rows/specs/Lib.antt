@@ -1,0 +1,4 @@
+pub mod Orders
+pub mod Sums
+pub mod Words
+pub mod Arranged
