@@ -37,7 +37,7 @@ fn framed(
     c: &mut [i64],
     row: &mut [i64],
 )
-    requires { ⌜ (root ≡ rootLog width) × (0 < halfWidth width) ⌝ }
+    requires { ⌜ (root ≡ rootLog width) × (0 < halfWidth width) × (8 < width) ⌝ }
     requires { ⌜ Halves width (now top) (now bottom) ⌝ }
     requires { ⌜ Room width (now a) (now b) (now c) (now row) ⌝ }
     requires { ⌜ length (now work) ≡ width ⌝ }
@@ -64,7 +64,7 @@ fn unframed(
     c: &mut [i64],
     row: &mut [i64],
 )
-    requires { ⌜ (root ≡ rootLog width) × (0 < halfWidth width) ⌝ }
+    requires { ⌜ (root ≡ rootLog width) × (0 < halfWidth width) × (8 < width) ⌝ }
     requires { ⌜ Halves width (now top) (now bottom) ⌝ }
     requires { ⌜ Room width (now a) (now b) (now c) (now row) ⌝ }
     requires { ⌜ length (now work) ≡ width ⌝ }
@@ -90,7 +90,7 @@ fn either_way(
     c: &mut [i64],
     row: &mut [i64],
 )
-    requires { ⌜ 0 < halfWidth width ⌝ }
+    requires { ⌜ (0 < halfWidth width) × (8 < width) ⌝ }
     requires { ⌜ Halves width (now top) (now bottom) ⌝ }
     requires { ⌜ Room width (now a) (now b) (now c) (now row) ⌝ }
     requires { ⌜ length (now work) ≡ width ⌝ }

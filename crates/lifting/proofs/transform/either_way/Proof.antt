@@ -16,7 +16,7 @@ unframed-requires c κs =
     let t = c .before .before .before .before .before .before .before in
     let s = t .before .before in
     let e = ap (λ u. cond {A = ℕ} u 1048576 50000) (t .if1 .taken) in
-    ((t .before .root-log .ensures, s .pre .0), (s .pre .1 .0, (s .pre .1 .1 .0, (s .pre .1 .1 .1 .0, subst (λ k. Within k (s .args .work .now)) e (s .pre .1 .1 .1 .1)))))
+    ((t .before .root-log .ensures, s .pre .0 .0, s .pre .0 .1), (s .pre .1 .0, (s .pre .1 .1 .0, (s .pre .1 .1 .1 .0, subst (λ k. Within k (s .args .work .now)) e (s .pre .1 .1 .1 .1)))))
 
 same-length : tie.Need-same-length
 same-length c = search needs
@@ -51,7 +51,7 @@ framed-requires c κs =
     let t = c .before .before .before .before .before .before .before in
     let s = t .before .before in
     let e = ap (λ u. cond {A = ℕ} u 1048576 50000) (t .if1 .left) in
-    ((t .before .root-log .ensures, s .pre .0), (s .pre .1 .0, (s .pre .1 .1 .0, (s .pre .1 .1 .1 .0, subst (λ k. Within k (s .args .work .now)) e (s .pre .1 .1 .1 .1)))))
+    ((t .before .root-log .ensures, s .pre .0 .0, s .pre .0 .1), (s .pre .1 .0, (s .pre .1 .1 .0, (s .pre .1 .1 .1 .0, subst (λ k. Within k (s .args .work .now)) e (s .pre .1 .1 .1 .1)))))
 
 same-length-8 : tie.Need-same-length-8
 same-length-8 c = search needs

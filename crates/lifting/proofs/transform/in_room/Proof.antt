@@ -3,7 +3,7 @@ use borrow.Author.Needs.{needs}
 use mathlib.Core.Path.{sym, ap, _∙_}
 use mathlib.Core.Bool.{cond}
 use Rattle.steps.specs.Steps.{stages, unstages}
-use Rattle.stages.proofs.ArrangedLaws.{no-width}
+use Rattle.rows.proofs.ArrangedLaws.{no-width}
 use Rattle.lifting.proofs.transform.in_room.Statement.{statement}
 use Rattle.lifting.proofs.transform.in_room.Tie as tie
 

@@ -44,7 +44,7 @@ slice-aggregate-either-way-6 c = search needs
 either-way-requires : tie.Need-either-way-requires
 either-way-requires c κs =
     let r = c .before .before .before .before .before .before .before in
-    room-for half-128 (omega arith) (r .before .before .before .before .before .of-64 .ensures) (r .before .before .before .before .of-642 .ensures) (r .before .before .before .of-643 .ensures) (r .before .before .of-644 .ensures) (r .before .of-645 .ensures) (r .of-646 .ensures) (r .before .before .before .before .before .before .pre)
+    room-for half-128 (omega arith) (omega arith) (r .before .before .before .before .before .of-64 .ensures) (r .before .before .before .before .of-642 .ensures) (r .before .before .before .of-643 .ensures) (r .before .before .of-644 .ensures) (r .before .of-645 .ensures) (r .of-646 .ensures) (r .before .before .before .before .before .before .pre)
 
 same-length : tie.Need-same-length
 same-length c = search needs

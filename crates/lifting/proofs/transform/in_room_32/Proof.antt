@@ -44,7 +44,7 @@ slice-aggregate-either-way-6 c = search needs
 either-way-requires : tie.Need-either-way-requires
 either-way-requires c κs =
     let r = c .before .before .before .before .before .before .before in
-    room-for half-32 (omega arith) (r .before .before .before .before .before .of-16 .ensures) (r .before .before .before .before .of-162 .ensures) (r .before .before .before .of-163 .ensures) (r .before .before .of-164 .ensures) (r .before .of-165 .ensures) (r .of-166 .ensures) (r .before .before .before .before .before .before .pre)
+    room-for half-32 (omega arith) (omega arith) (r .before .before .before .before .before .of-16 .ensures) (r .before .before .before .before .of-162 .ensures) (r .before .before .before .of-163 .ensures) (r .before .before .of-164 .ensures) (r .before .of-165 .ensures) (r .of-166 .ensures) (r .before .before .before .before .before .before .pre)
 
 same-length : tie.Need-same-length
 same-length c = search needs
