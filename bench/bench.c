@@ -14,7 +14,7 @@
 #include <time.h>
 
 /* a round is some milliseconds, and the passes lie apart, so that each figure has rounds that nothing disturbed */
-enum { PEERS = 3, PASSES = 8, ROUNDS = 3, READINGS = 1 << 15, LENGTHS = 9, LONGEST = 1 << 20, ROWS = 12 + 6 * LENGTHS };
+enum { PEERS = 3, PASSES = 8, ROUNDS = 3, READINGS = 1 << 15, LENGTHS = 9, LONGEST = 1 << 20, ROWS = 15 + 6 * LENGTHS };
 
 static const struct peer *const peers[PEERS] = {&plain_O2, &plain_O3, &plain_native};
 static const size_t widths[3] = {8, 32, 128};
@@ -161,7 +161,7 @@ static void check(struct work *w, going *go, int back)
 struct row {
     size_t width, blocks;
     going *go;
-    int back, with_peers;
+    int back, with_peers, wide; /* wide: the output holds numbers of more than 16 bits beforehand */
     double best[PEERS + 1]; /* nanoseconds a reading: the archive's, then the peers' */
 };
 
@@ -175,8 +175,11 @@ static void measure(struct row *row)
     check(&w, row->go, row->back);
     for (round = 0; round < rounds; round++)
         for (i = 0; i <= (row->with_peers ? PEERS : 0); i++) {
-            double from = now(), took;
+            double from, took;
 
+            if (row->wide)
+                memset(w.out, 1, (n + w.width) * sizeof *w.out);
+            from = now();
             for (k = 0; k < times; k++)
                 row->go(&w, i == 0 ? NULL : peers[i - 1]);
             took = (now() - from) / (double)(times * n);
@@ -218,6 +221,15 @@ static void print_compared(const char *title, struct row *const *of)
     }
 }
 
+static void print_wide(struct row *const *wide, struct row *const *whole)
+{
+    size_t w;
+
+    printf("\nback into an output that holds numbers of more than 16 bits: nanoseconds a reading, and over the whole run back\n");
+    for (w = 0; w < 3; w++)
+        printf("%4zu %19.2f (%6.2f)\n", wide[w]->width, wide[w]->best[0], wide[w]->best[0] / whole[2 * w + 1]->best[0]);
+}
+
 static void print_by_width(struct row *const *of)
 {
     int way, i, w;
@@ -250,7 +262,7 @@ static void print_by_length(struct row *const (*of)[6])
 
 int main(void)
 {
-    struct row *whole[6], *blocks[6], *length[LENGTHS][6];
+    struct row *whole[6], *blocks[6], *wide[3], *length[LENGTHS][6];
     size_t r, b, pass;
 
     for (r = 0; r < 6; r++) {
@@ -262,11 +274,16 @@ int main(void)
         for (b = 0; b < LENGTHS; b++)
             length[b][r] = N << 2 * b > LONGEST ? NULL : add(N, (size_t)1 << 2 * b, back ? whole_back : whole_forward, back, 0);
     }
+    for (r = 0; r < 3; r++) {
+        wide[r] = add(widths[r], READINGS / widths[r], whole_back, 1, 0);
+        wide[r]->wide = 1;
+    }
     for (pass = 0; pass < PASSES; pass++)
         for (r = 0; r < count; r++)
             measure(&rows[r]);
     print_compared("whole runs", whole);
     print_compared("block by block", blocks);
+    print_wide(wide, whole);
     print_by_width(whole);
     print_by_length(length);
     return 0;
