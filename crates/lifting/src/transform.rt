@@ -47,7 +47,7 @@ fn framed(
     let half = top.len();
     every_second(work, 0, top);
     every_second(work, 1, bottom);
-    stages::stages::all(false, width, root, top, bottom, a, b, c, row);
+    stages::stages::forward(width, root, top, bottom, a, b, c, row);
     vectors::copy(top, &mut work[..half]);
     vectors::copy(bottom, &mut work[half..]);
 }
@@ -74,7 +74,7 @@ fn unframed(
     let half = top.len();
     vectors::copy(&work[..half], top);
     vectors::copy(&work[half..], bottom);
-    stages::stages::all(true, width, root, top, bottom, a, b, c, row);
+    stages::stages::backward(width, root, top, bottom, a, b, c, row);
     vectors::interleave(top, bottom, work);
 }
 

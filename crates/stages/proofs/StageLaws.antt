@@ -42,6 +42,9 @@ twice-root l = rw add-one (pow-succ' 2 l)
 minus-inside : (s c p t x : ℤ) → negℤ s -ℤ c +ℤ p *ℤ (negℤ t *ℤ x) ≡ negℤ s -ℤ c -ℤ p *ℤ (t *ℤ x)
 minus-inside s c p t x = simp ring
 
+either-first : (x y z : ℤ) → x -ℤ y -ℤ z ≡ x -ℤ z -ℤ y
+either-first x y z = simp ring
+
 -- ---- the amounts of stage 3 before rounding, as the code makes them
 abbrev pub amounts3 : ℕ → List ℤ → List ℤ
 amounts3 N top = thirdAmounts N (rootLog N) top (secantSums N top) (cosineSums N top)
@@ -61,12 +64,18 @@ module _ (N : ℕ) (top bottom : List ℤ) (ht : length top ≡ halfWidth N) (hb
       respoken M (lifted false 0 top bottom) _ _ (length-places _ _ ∙ hb)
       (λ m l. ap₂ _+ℤ_ (at-places (length bottom) _ m (omega arith) ∙ ap (λ z. at bottom m +ℤ z) (round-whole (at top m))) (ap (round (27 + rootLog N)) (sums1 m l)))
 
-  pub unstage1-is : lifted true 0 top (lifted true (27 + rootLog N) (cosineSums N (altered false top)) bottom) ≡ unstage1 N top bottom
+  pub unstage1-is : lifted true (27 + rootLog N) (cosineSums N (altered false top)) (lifted true 0 top bottom) ≡ unstage1 N top bottom
   unfolding unstage1 amount1 moved
   unstage1-is =
-      let y = lifted true (27 + rootLog N) (cosineSums N (altered false top)) bottom in
-      respoken M y _ _ (length-places _ _ ∙ hb)
-      (λ m l. ap₂ _-ℤ_ (at-places (length bottom) _ m (omega arith) ∙ ap (λ z. at bottom m -ℤ round (27 + rootLog N) z) (sums1 m l)) (round-whole (at top m)))
+      respoken M (lifted true 0 top bottom) _ _ (length-places _ _ ∙ hb)
+      (λ m l.
+      ap₂ _-ℤ_ (at-places (length bottom) _ m (omega arith) ∙ ap (λ z. at bottom m -ℤ z) (round-whole (at top m))) (ap (round (27 + rootLog N)) (sums1 m l))
+      ∙ either-first (at bottom m) (at top m) (amount1 N top m))
+
+  -- the step or the step undone
+  pub either1-is : (undo : Bool) → lifted undo (27 + rootLog N) (cosineSums N (altered false top)) (lifted undo 0 top bottom) ≡ cond undo (unstage1 N top bottom) (stage1 N top bottom)
+  either1-is true = unstage1-is
+  either1-is false = stage1-is
 
   sums2 : (m : ℕ) → m < M → round (28 + rootLog N) (at (cosineSums N bottom) m) ≡ amount2 N bottom m
   unfolding cosineSums amount2

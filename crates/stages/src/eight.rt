@@ -193,10 +193,7 @@ fn first(undo: bool, top: Half, bottom: Half) -> Half
     ensures { λ r. ⌜ listed r ≡ cond undo (unstage1 8 (listed top) (listed bottom)) (stage1 8 (listed top) (listed bottom)) ⌝ }
 {
     let sums = cosine_sums(alternate(false, top));
-    if undo {
-        return lift(true, 0, top, lift(true, 28, sums, bottom));
-    }
-    lift(false, 28, sums, lift(false, 0, top, bottom))
+    lift(undo, 28, sums, lift(undo, 0, top, bottom))
 }
 
 // Stage 2: top becomes −d·top and gains the rounded sums of C·bottom.

@@ -33,13 +33,8 @@ fn first(
     vectors::copy(top, a);
     vectors::alternate(false, a);
     sums::cosine_sums(width, a, row, c, b);
-    if undo {
-        vectors::lift(true, 27 + root, b, bottom);
-        vectors::lift(true, 0, top, bottom);
-        return;
-    }
-    vectors::lift(false, 0, top, bottom);
-    vectors::lift(false, 27 + root, b, bottom);
+    vectors::lift(undo, 0, top, bottom);
+    vectors::lift(undo, 27 + root, b, bottom);
 }
 
 // Stage 2: top becomes −d·top and gains the rounded sums of C·bottom.
@@ -117,7 +112,8 @@ fn fifth(undo: bool, width: usize, top: &[i64], bottom: &mut [i64])
     lifts::by_tangents(undo, true, width, top, bottom);
 }
 
-fn forward(
+// All five stages.
+pub fn forward(
     width: usize,
     root: u32,
     top: &mut [i64],
@@ -141,7 +137,8 @@ fn forward(
     fifth(false, width, top, bottom);
 }
 
-fn backward(
+// All five undone.
+pub fn backward(
     width: usize,
     root: u32,
     top: &mut [i64],
@@ -163,30 +160,4 @@ fn backward(
     third(true, width, root, top, bottom, a, b, c, row);
     second(true, width, root, top, bottom, a, c, row);
     first(true, width, root, top, bottom, a, b, c, row);
-}
-
-// All five stages on the halves of a frame, or all undone.
-pub fn all(
-    undo: bool,
-    width: usize,
-    root: u32,
-    top: &mut [i64],
-    bottom: &mut [i64],
-    a: &mut [i64],
-    b: &mut [i64],
-    c: &mut [i64],
-    row: &mut [i64],
-)
-    requires { ⌜ (root ≡ rootLog width) × (0 < halfWidth width) × (8 < width) ⌝ }
-    requires { ⌜ Halves width (now top) (now bottom) ⌝ }
-    requires { ⌜ Room width (now a) (now b) (now c) (now row) ⌝ }
-    requires { ⌜ Within (cond undo 1048576 50000) (now top) ⌝ }
-    requires { ⌜ Within (cond undo 1048576 50000) (now bottom) ⌝ }
-    ensures { λ _. ⌜ (now (top .exit) ≡ cond undo (untop2 width (now (top .entry)) (now (bottom .entry))) (top4 width (now (top .entry)) (now (bottom .entry)))) × (now (bottom .exit) ≡ cond undo (unbottom1 width (now (top .entry)) (now (bottom .entry))) (bottom5 width (now (top .entry)) (now (bottom .entry)))) ⌝ }
-{
-    if undo {
-        backward(width, root, top, bottom, a, b, c, row);
-        return;
-    }
-    forward(width, root, top, bottom, a, b, c, row);
 }

@@ -56,8 +56,8 @@ every-second-requires c κs = let s = c .before .before in (omega arith, omega (
 every-second-requires-2 : tie.Need-every-second-requires-2
 every-second-requires-2 c κs = let s = c .before .before .before .before .before .before in (omega arith, omega (arith, twice s, long s, s .pre .1 .0 .bottom-long))
 
-all-requires : tie.Need-all-requires
-all-requires c κs =
+forward-requires : tie.Need-forward-requires
+forward-requires c κs =
     let q = c .before .before .before .before .before .before .before in
     let p = q .before .before .before .before in
     let s = p .before .before .before in (
@@ -69,24 +69,24 @@ all-requires c κs =
     )
 
 -- the halves of the frame, and where they are put
-module _ (g : tie.After-all) where
+module _ (g : tie.After-forward) where
   abbrev from : tie.Start
   from = g .before .before .before .before .before .before .before .before .before .before .before .before .before .before .before
 
   abbrev top-of : List ℤ
-  top-of = g .all .last .1 .1 .1 .0
+  top-of = g .forward .last .1 .1 .0
 
   abbrev bottom-of : List ℤ
-  bottom-of = g .all .last .1 .1 .1 .1 .0
+  bottom-of = g .forward .last .1 .1 .1 .0
 
   top-of-long : length top-of ≡ M from
-  top-of-long = ap length (g .all .ensures .0) ∙ long4 (N from) _ _
+  top-of-long = ap length (g .forward .ensures .0) ∙ long4 (N from) _ _
 
   bottom-of-long : length bottom-of ≡ M from
-  bottom-of-long = ap length (g .all .ensures .1) ∙ long5 (N from) _ _
+  bottom-of-long = ap length (g .forward .ensures .1) ∙ long5 (N from) _ _
 
 module _ (k : tie.After-copy) where
-  abbrev made : tie.After-all
+  abbrev made : tie.After-forward
   made = k .before .before .before .before .before .before .before .before .before
 
   abbrev half : ℕ
@@ -162,7 +162,7 @@ returns c =
     let p = q .before .before .before .before in
     let s = from g in
     rest-put (half k) (front-of k) (behind k) (front-is k) _
-    ∙ ap₂ _++_ (k .copy .ensures ∙ g .all .ensures .0 ∙ ap₂ (top4 (N s)) (top1 p) (bottom1 q)) (c .before .copy2 .ensures ∙ g .all .ensures .1 ∙ ap₂ (bottom5 (N s)) (top1 p) (bottom1 q))
+    ∙ ap₂ _++_ (k .copy .ensures ∙ g .forward .ensures .0 ∙ ap₂ (top4 (N s)) (top1 p) (bottom1 q)) (c .before .copy2 .ensures ∙ g .forward .ensures .1 ∙ ap₂ (bottom5 (N s)) (top1 p) (bottom1 q))
     ∙ stages-halves (N s) (work s)
 
 pub framed-spec : {M : Type 1} → statement M
@@ -171,7 +171,7 @@ framed-spec =
     (tie.spec
     every-second-requires
     every-second-requires-2
-    all-requires
+    forward-requires
     slice-relend-prefix-copy
     slice-aggregate-copy
     copy-requires

@@ -76,8 +76,8 @@ part-copy-end c = search needs
 copy-requires-2 : tie.Need-copy-requires-2
 copy-requires-2 c κs = let s = c .before .before .before .before .before .before .before in ap length (back-is s) ∙ omega (arith, length-drop (M s) (work s), twice s, long s, s .pre .1 .0 .bottom-long)
 
-all-requires : tie.Need-all-requires
-all-requires c κs =
+backward-requires : tie.Need-backward-requires
+backward-requires c κs =
     let q = c .before .before .before .before .before .before .before in
     let p = q .before .before .before .before .before in
     let s = p .before .before .before in (
@@ -95,8 +95,8 @@ interleave-requires : tie.Need-interleave-requires
 interleave-requires c κs =
     let g = c .before .before .before .before .before .before .before .before .before in
     let s = g .before .before .before .before .before .before .before .before .before .before .before .before .before .before .before .before in
-    let x = ap length (g .all .ensures .0) ∙ unlong2 (N s) _ _ in
-    let y = ap length (g .all .ensures .1) ∙ unlong1 (N s) _ _ in
+    let x = ap length (g .backward .ensures .0) ∙ unlong2 (N s) _ _ in
+    let y = ap length (g .backward .ensures .1) ∙ unlong1 (N s) _ _ in
     (x ∙ sym y, omega (arith, twice s, long s))
 
 same-length : tie.Need-same-length
@@ -128,7 +128,7 @@ returns c =
     let p = q .before .before .before .before .before in
     let s = p .before .before .before in
     j .interleave .ensures
-    ∙ ap₂ (λ t u. places (length (work s)) (wovenAt t u)) (g .all .ensures .0 ∙ ap₂ (untop2 (N s)) (top1 p) (bottom1 q)) (g .all .ensures .1 ∙ ap₂ (unbottom1 (N s)) (top1 p) (bottom1 q))
+    ∙ ap₂ (λ t u. places (length (work s)) (wovenAt t u)) (g .backward .ensures .0 ∙ ap₂ (untop2 (N s)) (top1 p) (bottom1 q)) (g .backward .ensures .1 ∙ ap₂ (unbottom1 (N s)) (top1 p) (bottom1 q))
     ∙ unstages-halves (N s) (work s) (long s)
 
 pub unframed-spec : {M : Type 1} → statement M
@@ -143,7 +143,7 @@ unframed-spec =
     part-copy-start
     part-copy-end
     copy-requires-2
-    all-requires
+    backward-requires
     interleave-requires
     same-length
     same-length-2
