@@ -40,19 +40,19 @@ module _ (N : ℕ) (c x y : List ℤ) (h : Halves N x y) where
     pub sines-asked : Sines N c → Asked c x y
     sines-asked s = asked (sines-long N c s) (sines-within N c s)
 
-  module _ (undo back : Bool) where
-    lifted-by : (f : ℕ → ℤ) → c ≡ places M f → mirrorLifted undo back c x y ≡ places M (λ i. moved undo (at y i) (round 28 (f (cond back (M - 1 - i) i) *ℤ at x (M - 1 - i))))
-    lifted-by f t =
+  module _ (undo : Bool) where
+    lifted-by : (back : Bool) (f : ℕ → ℤ) → c ≡ places M f → mirrorLifted undo back c x y ≡ places M (λ i. moved undo (at y i) (round 28 (f (cond back (M - 1 - i) i) *ℤ at x (M - 1 - i))))
+    lifted-by back f t =
         ap (λ n. places n (λ i. moved undo (at y i) (round 28 (at c (cond back (n - 1 - i) i) *ℤ at x (n - 1 - i))))) (h .bottom-long)
         ∙ places-ext M _ _ (λ i l. ap (λ z. moved undo (at y i) (round 28 (z *ℤ at x (M - 1 - i)))) (ap (λ xs. at xs (cond back (M - 1 - i) i)) t ∙ at-places M f _ (mirror-in back M i l)))
 
-    pub lifted-by-tangents : Tangents N c → mirrorLifted undo back c x y ≡ tangentLift N undo back x y
+    pub lifted-by-tangents : Tangents N c → mirrorLifted undo true c x y ≡ tangentLift N undo x y
     unfolding tangentAmount
-    lifted-by-tangents t = lifted-by (λ m. negℤ (tangent N m)) (t .is)
+    lifted-by-tangents t = lifted-by true (λ m. negℤ (tangent N m)) (t .is)
 
-    pub lifted-by-sines : Sines N c → mirrorLifted undo back c x y ≡ sineLift N undo back x y
+    pub lifted-by-sines : Sines N c → mirrorLifted undo false c x y ≡ sineLift N undo x y
     unfolding sineAmount
-    lifted-by-sines s = lifted-by (sine N) (s .is)
+    lifted-by-sines s = lifted-by false (sine N) (s .is)
 
 -- ---- what stage 3 adds, before rounding
 pub third-amounts-are : (N l : ℕ) (c x a b : List ℤ) → length a ≡ halfWidth N → Tangents N c

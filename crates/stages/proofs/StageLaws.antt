@@ -108,12 +108,12 @@ module _ (N : ℕ) (top bottom : List ℤ) (ht : length top ≡ halfWidth N) (hb
   stage3-is false = respoken M bottom _ _ hb (λ m l. ap (λ z. at bottom m +ℤ z) (amounts3-at m l))
 
 module _ (N : ℕ) (top bottom : List ℤ) where
-  pub stage4-is : (undo : Bool) → sineLift N undo false bottom top ≡ cond undo (unstage4 N top bottom) (stage4 N top bottom)
+  pub stage4-is : (undo : Bool) → sineLift N undo bottom top ≡ cond undo (unstage4 N top bottom) (stage4 N top bottom)
   unfolding stage4 unstage4 moved
   stage4-is true = refl
   stage4-is false = refl
 
-  pub stage5-is : (undo : Bool) → tangentLift N undo true top bottom ≡ cond undo (unstage5 N top bottom) (stage5 N top bottom)
+  pub stage5-is : (undo : Bool) → tangentLift N undo top bottom ≡ cond undo (unstage5 N top bottom) (stage5 N top bottom)
   unfolding stage5 unstage5 moved
   stage5-is true = refl
   stage5-is false = refl

@@ -1,6 +1,6 @@
 -- The tables of a width as lists, what the code computes from them, and the halves of a frame through the stages.
 use mathlib.Core.Path.{_≡_}
-use mathlib.Core.Bool.{Bool, cond}
+use mathlib.Core.Bool.{Bool}
 use mathlib.Core.List.{List}
 use Prim.Native.Nat.{ℕ, _+_, _-_, _*_, _^_, _<_}
 use lib.IntN.{ℤ, pos, negℤ, _+ℤ_, _-ℤ_, _*ℤ_}
@@ -31,12 +31,12 @@ thirdAmounts N l top secants cosines =
     let M = halfWidth N in
     places M (λ i. third l (at secants i) (at cosines i) (negℤ (tangent N (M - 1 - i)) *ℤ at top (M - 1 - i)))
 
--- y moved by −t or s times x, x from its end; −t or s from its end too where `back`
-abbrev pub tangentLift : ℕ → Bool → Bool → List ℤ → List ℤ → List ℤ
-tangentLift N undo back x y = let M = halfWidth N in places M (λ i. moved undo (at y i) (tangentAmount N (cond back (M - 1 - i) i) (at x (M - 1 - i))))
+-- y moved by −t times x, both from their end, or by s times x from its end
+abbrev pub tangentLift : ℕ → Bool → List ℤ → List ℤ → List ℤ
+tangentLift N undo x y = let M = halfWidth N in places M (λ i. moved undo (at y i) (tangentAmount N (M - 1 - i) (at x (M - 1 - i))))
 
-abbrev pub sineLift : ℕ → Bool → Bool → List ℤ → List ℤ → List ℤ
-sineLift N undo back x y = let M = halfWidth N in places M (λ i. moved undo (at y i) (sineAmount N (cond back (M - 1 - i) i) (at x (M - 1 - i))))
+abbrev pub sineLift : ℕ → Bool → List ℤ → List ℤ → List ℤ
+sineLift N undo x y = let M = halfWidth N in places M (λ i. moved undo (at y i) (sineAmount N i (at x (M - 1 - i))))
 
 -- room to work in
 pub record Room (N : ℕ) (a b c row : List ℤ) : Type 0 where

@@ -102,38 +102,22 @@ fn mirrored(c: Half, x: Half) -> Half
     }
 }
 
-// −t(m), or from the end.
-fn tangents(back: bool) -> Half
-    ensures { λ r. ⌜ listed r ≡ places 4 (λ i. negℤ (tangent 8 (cond back (3 - i) i))) ⌝ }
+// −t(m), from the end.
+fn tangents() -> Half
+    ensures { λ r. ⌜ listed r ≡ places 4 (λ i. negℤ (tangent 8 (3 - i))) ⌝ }
 {
-    if back {
-        return Half {
-            a: -96047742,
-            b: -67239581,
-            c: -39818638,
-            d: -13187388,
-        };
-    }
     Half {
-        a: -13187388,
-        b: -39818638,
-        c: -67239581,
-        d: -96047742,
+        a: -96047742,
+        b: -67239581,
+        c: -39818638,
+        d: -13187388,
     }
 }
 
-// s(m), or from the end.
-fn sines(back: bool) -> Half
-    ensures { λ r. ⌜ listed r ≡ places 4 (λ i. sine 8 (cond back (3 - i) i)) ⌝ }
+// s(m).
+fn sines() -> Half
+    ensures { λ r. ⌜ listed r ≡ places 4 (sine 8) ⌝ }
 {
-    if back {
-        return Half {
-            a: 170293651,
-            b: 126539598,
-            c: 77922700,
-            d: 26311276,
-        };
-    }
     Half {
         a: 26311276,
         b: 77922700,
@@ -142,22 +126,22 @@ fn sines(back: bool) -> Half
     }
 }
 
-// y takes the rounded −t·x, x from its end, and t too where `back`; or y gives it back.
-pub fn by_tangents(undo: bool, back: bool, x: Half, y: Half) -> Half
+// y takes the rounded −t·x, both from their end; or y gives it back.
+fn by_tangents(undo: bool, x: Half, y: Half) -> Half
     requires { ⌜ Within (2 ^ 34) (listed x) ⌝ }
     requires { ⌜ Within (2 ^ 61) (listed y) ⌝ }
-    ensures { λ r. ⌜ listed r ≡ tangentLift 8 undo back (listed x) (listed y) ⌝ }
+    ensures { λ r. ⌜ listed r ≡ tangentLift 8 undo (listed x) (listed y) ⌝ }
 {
-    lift(undo, 28, mirrored(tangents(back), x), y)
+    lift(undo, 28, mirrored(tangents(), x), y)
 }
 
-// The same by s·x.
-pub fn by_sines(undo: bool, back: bool, x: Half, y: Half) -> Half
+// The same by s·x, x from its end.
+fn by_sines(undo: bool, x: Half, y: Half) -> Half
     requires { ⌜ Within (2 ^ 34) (listed x) ⌝ }
     requires { ⌜ Within (2 ^ 61) (listed y) ⌝ }
-    ensures { λ r. ⌜ listed r ≡ sineLift 8 undo back (listed x) (listed y) ⌝ }
+    ensures { λ r. ⌜ listed r ≡ sineLift 8 undo (listed x) (listed y) ⌝ }
 {
-    lift(undo, 28, mirrored(sines(back), x), y)
+    lift(undo, 28, mirrored(sines(), x), y)
 }
 
 fn third_sums(secants: Half, cosines: Half, t: Half) -> Half
@@ -182,7 +166,7 @@ fn third_amounts(top: Half) -> Half
     third_sums(
         secant_sums(top),
         cosine_sums(top),
-        mirrored(tangents(true), top),
+        mirrored(tangents(), top),
     )
 }
 
@@ -227,8 +211,8 @@ pub fn forward(top: Half, bottom: Half) -> Halves
     let b1 = first(false, top, bottom);
     let t2 = second(false, top, b1);
     let b3 = third(false, t2, b1);
-    let t4 = by_sines(false, false, b3, t2);
-    let b5 = by_tangents(false, true, t4, b3);
+    let t4 = by_sines(false, b3, t2);
+    let b5 = by_tangents(false, t4, b3);
     Halves {
         top: t4,
         bottom: b5,
@@ -241,8 +225,8 @@ pub fn backward(top: Half, bottom: Half) -> Halves
     requires { ⌜ Within 1048576 (listed bottom) ⌝ }
     ensures { λ r. ⌜ (listed (r .top) ≡ untop2 8 (listed top) (listed bottom)) × (listed (r .bottom) ≡ unbottom1 8 (listed top) (listed bottom)) ⌝ }
 {
-    let b5 = by_tangents(true, true, top, bottom);
-    let t4 = by_sines(true, false, b5, top);
+    let b5 = by_tangents(true, top, bottom);
+    let t4 = by_sines(true, b5, top);
     let b3 = third(true, t4, b5);
     let t2 = second(true, t4, b3);
     let b1 = first(true, t2, b3);

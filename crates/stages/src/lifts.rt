@@ -1,4 +1,4 @@
-// Lifts by the tangents and sines of a width, which are constants: one half of a frame moves by the other, taken from its end.
+// Lifts by the tangents and sines of widths 32 and 128, which are constants: one half of a frame moves by the other, taken from its end.
 ghost use mathlib.Core.Bool.{cond};
 ghost use mathlib.Core.Path.{_≡_};
 ghost use Prim.Native.Nat.{_-_, _^_, _<_, _≤_};
@@ -216,88 +216,68 @@ fn lift_mirrored(undo: bool, back: bool, c: &[i64], x: &[i64], y: &mut [i64])
 }
 
 // A constant is written out by the function that names it, so each table has its own.
-fn by_tangents_8(undo: bool, back: bool, x: &[i64], y: &mut [i64])
-    requires { ⌜ Halves 8 (now x) (now y) ⌝ }
-    requires { ⌜ Within (2 ^ 34) (now x) ⌝ }
-    requires { ⌜ Within (2 ^ 61) (now y) ⌝ }
-    ensures { λ _. ⌜ now (y .exit) ≡ tangentLift 8 undo back (now (x .entry)) (now (y .entry)) ⌝ }
-{
-    lift_mirrored(undo, back, &TANGENTS_8, x, y);
-}
-
-fn by_tangents_32(undo: bool, back: bool, x: &[i64], y: &mut [i64])
+fn by_tangents_32(undo: bool, x: &[i64], y: &mut [i64])
     requires { ⌜ Halves 32 (now x) (now y) ⌝ }
     requires { ⌜ Within (2 ^ 34) (now x) ⌝ }
     requires { ⌜ Within (2 ^ 61) (now y) ⌝ }
-    ensures { λ _. ⌜ now (y .exit) ≡ tangentLift 32 undo back (now (x .entry)) (now (y .entry)) ⌝ }
+    ensures { λ _. ⌜ now (y .exit) ≡ tangentLift 32 undo (now (x .entry)) (now (y .entry)) ⌝ }
 {
-    lift_mirrored(undo, back, &TANGENTS_32, x, y);
+    lift_mirrored(undo, true, &TANGENTS_32, x, y);
 }
 
-fn by_tangents_128(undo: bool, back: bool, x: &[i64], y: &mut [i64])
+fn by_tangents_128(undo: bool, x: &[i64], y: &mut [i64])
     requires { ⌜ Halves 128 (now x) (now y) ⌝ }
     requires { ⌜ Within (2 ^ 34) (now x) ⌝ }
     requires { ⌜ Within (2 ^ 61) (now y) ⌝ }
-    ensures { λ _. ⌜ now (y .exit) ≡ tangentLift 128 undo back (now (x .entry)) (now (y .entry)) ⌝ }
+    ensures { λ _. ⌜ now (y .exit) ≡ tangentLift 128 undo (now (x .entry)) (now (y .entry)) ⌝ }
 {
-    lift_mirrored(undo, back, &TANGENTS_128, x, y);
+    lift_mirrored(undo, true, &TANGENTS_128, x, y);
 }
 
-// y takes the rounded −t·x, t from its end where `back`.
-pub fn by_tangents(undo: bool, back: bool, width: usize, x: &[i64], y: &mut [i64])
-    requires { ⌜ 0 < halfWidth width ⌝ }
+// y takes the rounded −t·x, both from their end.
+pub fn by_tangents(undo: bool, width: usize, x: &[i64], y: &mut [i64])
+    requires { ⌜ (0 < halfWidth width) × (8 < width) ⌝ }
     requires { ⌜ Halves width (now x) (now y) ⌝ }
     requires { ⌜ Within (2 ^ 34) (now x) ⌝ }
     requires { ⌜ Within (2 ^ 61) (now y) ⌝ }
-    ensures { λ _. ⌜ now (y .exit) ≡ tangentLift width undo back (now (x .entry)) (now (y .entry)) ⌝ }
+    ensures { λ _. ⌜ now (y .exit) ≡ tangentLift width undo (now (x .entry)) (now (y .entry)) ⌝ }
 {
     match width {
-        8 => by_tangents_8(undo, back, x, y),
-        32 => by_tangents_32(undo, back, x, y),
-        128 => by_tangents_128(undo, back, x, y),
+        32 => by_tangents_32(undo, x, y),
+        128 => by_tangents_128(undo, x, y),
         _ => {}
     }
 }
 
-fn by_sines_8(undo: bool, back: bool, x: &[i64], y: &mut [i64])
-    requires { ⌜ Halves 8 (now x) (now y) ⌝ }
-    requires { ⌜ Within (2 ^ 34) (now x) ⌝ }
-    requires { ⌜ Within (2 ^ 61) (now y) ⌝ }
-    ensures { λ _. ⌜ now (y .exit) ≡ sineLift 8 undo back (now (x .entry)) (now (y .entry)) ⌝ }
-{
-    lift_mirrored(undo, back, &SINES_8, x, y);
-}
-
-fn by_sines_32(undo: bool, back: bool, x: &[i64], y: &mut [i64])
+fn by_sines_32(undo: bool, x: &[i64], y: &mut [i64])
     requires { ⌜ Halves 32 (now x) (now y) ⌝ }
     requires { ⌜ Within (2 ^ 34) (now x) ⌝ }
     requires { ⌜ Within (2 ^ 61) (now y) ⌝ }
-    ensures { λ _. ⌜ now (y .exit) ≡ sineLift 32 undo back (now (x .entry)) (now (y .entry)) ⌝ }
+    ensures { λ _. ⌜ now (y .exit) ≡ sineLift 32 undo (now (x .entry)) (now (y .entry)) ⌝ }
 {
-    lift_mirrored(undo, back, &SINES_32, x, y);
+    lift_mirrored(undo, false, &SINES_32, x, y);
 }
 
-fn by_sines_128(undo: bool, back: bool, x: &[i64], y: &mut [i64])
+fn by_sines_128(undo: bool, x: &[i64], y: &mut [i64])
     requires { ⌜ Halves 128 (now x) (now y) ⌝ }
     requires { ⌜ Within (2 ^ 34) (now x) ⌝ }
     requires { ⌜ Within (2 ^ 61) (now y) ⌝ }
-    ensures { λ _. ⌜ now (y .exit) ≡ sineLift 128 undo back (now (x .entry)) (now (y .entry)) ⌝ }
+    ensures { λ _. ⌜ now (y .exit) ≡ sineLift 128 undo (now (x .entry)) (now (y .entry)) ⌝ }
 {
-    lift_mirrored(undo, back, &SINES_128, x, y);
+    lift_mirrored(undo, false, &SINES_128, x, y);
 }
 
-// y takes the rounded s·x, s from its end where `back`.
-pub fn by_sines(undo: bool, back: bool, width: usize, x: &[i64], y: &mut [i64])
-    requires { ⌜ 0 < halfWidth width ⌝ }
+// y takes the rounded s·x, x from its end.
+pub fn by_sines(undo: bool, width: usize, x: &[i64], y: &mut [i64])
+    requires { ⌜ (0 < halfWidth width) × (8 < width) ⌝ }
     requires { ⌜ Halves width (now x) (now y) ⌝ }
     requires { ⌜ Within (2 ^ 34) (now x) ⌝ }
     requires { ⌜ Within (2 ^ 61) (now y) ⌝ }
-    ensures { λ _. ⌜ now (y .exit) ≡ sineLift width undo back (now (x .entry)) (now (y .entry)) ⌝ }
+    ensures { λ _. ⌜ now (y .exit) ≡ sineLift width undo (now (x .entry)) (now (y .entry)) ⌝ }
 {
     match width {
-        8 => by_sines_8(undo, back, x, y),
-        32 => by_sines_32(undo, back, x, y),
-        128 => by_sines_128(undo, back, x, y),
+        32 => by_sines_32(undo, x, y),
+        128 => by_sines_128(undo, x, y),
         _ => {}
     }
 }
@@ -325,17 +305,6 @@ fn third_amounts_with(root: u32, tangents: &[i64], top: &[i64], a: &mut [i64], b
     }
 }
 
-fn third_amounts_8(root: u32, top: &[i64], a: &mut [i64], b: &[i64])
-    requires { ⌜ root ≤ 3 ⌝ }
-    requires { ⌜ (length (now top) ≡ halfWidth 8) × (length (now a) ≡ halfWidth 8) × (length (now b) ≡ halfWidth 8) ⌝ }
-    requires { ⌜ Within 7500000 (now top) ⌝ }
-    requires { ⌜ Within (2 ^ 60) (now a) ⌝ }
-    requires { ⌜ Within (2 ^ 57) (now b) ⌝ }
-    ensures { λ _. ⌜ now (a .exit) ≡ thirdAmounts 8 root (now (top .entry)) (now (a .entry)) (now (b .entry)) ⌝ }
-{
-    third_amounts_with(root, &TANGENTS_8, top, a, b);
-}
-
 fn third_amounts_32(root: u32, top: &[i64], a: &mut [i64], b: &[i64])
     requires { ⌜ root ≤ 3 ⌝ }
     requires { ⌜ (length (now top) ≡ halfWidth 32) × (length (now a) ≡ halfWidth 32) × (length (now b) ≡ halfWidth 32) ⌝ }
@@ -360,7 +329,7 @@ fn third_amounts_128(root: u32, top: &[i64], a: &mut [i64], b: &[i64])
 
 // What stage 3 adds, before rounding: a has the secant sums, and b the cosine sums.
 pub fn third_amounts(width: usize, root: u32, top: &[i64], a: &mut [i64], b: &[i64])
-    requires { ⌜ (root ≤ 3) × (0 < halfWidth width) ⌝ }
+    requires { ⌜ (root ≤ 3) × (0 < halfWidth width) × (8 < width) ⌝ }
     requires { ⌜ (length (now top) ≡ halfWidth width) × (length (now a) ≡ halfWidth width) × (length (now b) ≡ halfWidth width) ⌝ }
     requires { ⌜ Within 7500000 (now top) ⌝ }
     requires { ⌜ Within (2 ^ 60) (now a) ⌝ }
@@ -368,7 +337,6 @@ pub fn third_amounts(width: usize, root: u32, top: &[i64], a: &mut [i64], b: &[i
     ensures { λ _. ⌜ now (a .exit) ≡ thirdAmounts width root (now (top .entry)) (now (a .entry)) (now (b .entry)) ⌝ }
 {
     match width {
-        8 => third_amounts_8(root, top, a, b),
         32 => third_amounts_32(root, top, a, b),
         128 => third_amounts_128(root, top, a, b),
         _ => {}

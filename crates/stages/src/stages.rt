@@ -92,24 +92,24 @@ fn third(
 
 // Stage 4: top gains the rounded s·bottom, bottom from its end.
 fn fourth(undo: bool, width: usize, top: &mut [i64], bottom: &[i64])
-    requires { ⌜ 0 < halfWidth width ⌝ }
+    requires { ⌜ (0 < halfWidth width) × (8 < width) ⌝ }
     requires { ⌜ Halves width (now top) (now bottom) ⌝ }
     requires { ⌜ Within (2 ^ 34) (now bottom) ⌝ }
     requires { ⌜ Within (2 ^ 60) (now top) ⌝ }
     ensures { λ _. ⌜ now (top .exit) ≡ cond undo (unstage4 width (now (top .entry)) (now (bottom .entry))) (stage4 width (now (top .entry)) (now (bottom .entry))) ⌝ }
 {
-    lifts::by_sines(undo, false, width, bottom, top);
+    lifts::by_sines(undo, width, bottom, top);
 }
 
 // Stage 5: bottom, from its end, gains the rounded −t·top.
 fn fifth(undo: bool, width: usize, top: &[i64], bottom: &mut [i64])
-    requires { ⌜ 0 < halfWidth width ⌝ }
+    requires { ⌜ (0 < halfWidth width) × (8 < width) ⌝ }
     requires { ⌜ Halves width (now top) (now bottom) ⌝ }
     requires { ⌜ Within (2 ^ 34) (now top) ⌝ }
     requires { ⌜ Within (2 ^ 60) (now bottom) ⌝ }
     ensures { λ _. ⌜ now (bottom .exit) ≡ cond undo (unstage5 width (now (top .entry)) (now (bottom .entry))) (stage5 width (now (top .entry)) (now (bottom .entry))) ⌝ }
 {
-    lifts::by_tangents(undo, true, width, top, bottom);
+    lifts::by_tangents(undo, width, top, bottom);
 }
 
 // All five stages.

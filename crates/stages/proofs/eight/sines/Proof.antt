@@ -9,11 +9,7 @@ use Rattle.stages.proofs.eight.sines.Tie as tie
 
 returns : tie.Need-returns
 unfolding tab sine sineOf sines halfTurn reflected minus signed cosineOf
-returns c = rw (c .if1 .taken) refl
-
-returns-2 : tie.Need-returns-2
-unfolding tab sine sineOf sines halfTurn reflected minus signed cosineOf
-returns-2 c = rw (c .if1 .left) refl
+returns c = refl
 
 pub sines-spec : {M : Type 1} → statement M
-sines-spec = tie.close (tie.spec returns returns-2)
+sines-spec = tie.close (tie.spec returns)

@@ -9,11 +9,7 @@ use Rattle.stages.proofs.eight.tangents.Tie as tie
 
 returns : tie.Need-returns
 unfolding tab tangent halfTangentOf halfTangents halfTangents8 byWidth
-returns c = rw (c .if1 .taken) refl
-
-returns-2 : tie.Need-returns-2
-unfolding tab tangent halfTangentOf halfTangents halfTangents8 byWidth
-returns-2 c = rw (c .if1 .left) refl
+returns c = refl
 
 pub tangents-spec : {M : Type 1} → statement M
-tangents-spec = tie.close (tie.spec returns returns-2)
+tangents-spec = tie.close (tie.spec returns)

@@ -7,30 +7,15 @@ use mathlib.Core.List.{[]}
 use Prim.Native.Nat.{ℕ, _-_, _^_, _≤_}
 use lib.IntN.{ℤ, natAbs, negℤ, _*ℤ_}
 use Rattle.integers.specs.Places.{places, at, Within}
-use Rattle.integers.proofs.Order.{natAbs-negℤ}
 use Rattle.integers.proofs.PlaceLaws.{at-places, places-ext, within-places, within-up}
 use Rattle.tables.specs.Widths.{byWidth, halfWidth}
-use Rattle.steps.specs.Steps.{tangent}
 use Rattle.rows.specs.Sums.{cosineSums, secantSums}
 use Rattle.stages.specs.Expanded.{third}
 use Rattle.stages.specs.Eight.{listed}
-use Rattle.stages.proofs.SecantRows.{tangent-size}
 use Rattle.stages.proofs.StageSizes.{cosine-sums-size, secant-sums-size}
-use Rattle.stages.proofs.EightLaws.{mirrored-is, mirrored-within, third-same}
+use Rattle.stages.proofs.EightLaws.{tangentAt, tangent-at-size, mirrored-is, mirrored-within, third-same}
 use Rattle.stages.proofs.eight.third_amounts.Statement.{statement}
 use Rattle.stages.proofs.eight.third_amounts.Tie as tie
-
--- −t(m), from the end
-factor : ℕ → ℤ
-factor i = negℤ (tangent 8 (3 - i))
-
-factor-size : (i : ℕ) → natAbs (factor i) ≤ 2 ^ 28
-unfolding factor
-factor-size i = rw (natAbs-negℤ (tangent 8 (3 - i))) (omega (arith, tangent-size 8 (3 - i)))
-
-factors : (c : tie.After-tangents) → listed (c .tangents .result) ≡ places 4 factor
-unfolding factor
-factors c = c .tangents .ensures
 
 secant-sums-requires : tie.Need-secant-sums-requires
 secant-sums-requires c κs = within-up (c .pre) (omega arith)
@@ -42,7 +27,7 @@ tangents-requires : tie.Need-tangents-requires
 tangents-requires c κs = search needs
 
 mirrored-requires : tie.Need-mirrored-requires
-mirrored-requires c κs = (subst (Within (2 ^ 28)) (sym (factors c)) (within-places 4 _ _ (λ i h. factor-size i)), within-up (c .before .before .before .pre) (omega arith))
+mirrored-requires c κs = (subst (Within (2 ^ 28)) (sym (c .tangents .ensures)) (within-places 4 _ _ (λ i h. tangent-at-size i)), within-up (c .before .before .before .pre) (omega arith))
 
 third-sums-requires : tie.Need-third-sums-requires
 unfolding halfWidth byWidth
@@ -52,19 +37,19 @@ third-sums-requires c κs =
       subst (Within (2 ^ 60)) (sym (c .before .before .before .secant-sums .ensures)) (within-up (secant-sums-size 8 7500000 top (s .pre)) (omega arith)),
       (
         subst (Within (2 ^ 57)) (sym (c .before .before .cosine-sums .ensures)) (within-up (cosine-sums-size 8 7500000 top (s .pre)) (omega arith)),
-        within-up (mirrored-within factor false _ top [] _ (factors (c .before)) (c .mirrored .ensures) (2 ^ 28) 7500000 factor-size (s .pre)) (omega arith),
+        within-up (mirrored-within tangentAt false _ top [] _ (c .before .tangents .ensures) (c .mirrored .ensures) (2 ^ 28) 7500000 tangent-at-size (s .pre)) (omega arith),
       ),
     )
 
 returns : tie.Need-returns
-unfolding halfWidth byWidth factor
+unfolding halfWidth byWidth
 returns c =
     let s = c .before .before .before .before .before in
     let top = listed (s .args .top) in
     c .third-sums .ensures
     ∙ places-ext 4 _ _ (λ i h.
     third-same 1 (ap (λ l. at l i) (c .before .before .before .before .secant-sums .ensures)) (ap (λ l. at l i) (c .before .before .before .cosine-sums .ensures))
-    (ap (λ l. at l i) (mirrored-is factor false _ top [] _ (factors (c .before .before)) (c .before .mirrored .ensures)) ∙ at-places 4 (λ i. factor i *ℤ at top (3 - i)) i h))
+    (ap (λ l. at l i) (mirrored-is tangentAt false _ top [] _ (c .before .before .tangents .ensures) (c .before .mirrored .ensures)) ∙ at-places 4 (λ i. tangentAt i *ℤ at top (3 - i)) i h))
 
 pub third-amounts-spec : {M : Type 1} → statement M
 third-amounts-spec = tie.close (tie.spec secant-sums-requires cosine-sums-requires tangents-requires mirrored-requires third-sums-requires returns)

@@ -22,7 +22,7 @@ same-length c = search needs
 
 returns : tie.Need-returns
 unfolding tab sine sineOf cosineOf sines halfWidth byWidth halfTurn reflected minus signed
-returns c = let s = c .before .before .before .before in c .before .lift-mirrored .ensures ∙ lifted-by-sines 32 _ (s .args .x .now) (s .args .y .now) (s .pre .0) (s .args .undo) (s .args .back) (record { is = refl })
+returns c = let s = c .before .before .before .before in c .before .lift-mirrored .ensures ∙ lifted-by-sines 32 _ (s .args .x .now) (s .args .y .now) (s .pre .0) (s .args .undo) (record { is = refl })
 
 pub by-sines-32-spec : {M : Type 1} → statement M
 by-sines-32-spec = tie.close (tie.spec slice-aggregate-lift-mirrored lift-mirrored-requires same-length returns)

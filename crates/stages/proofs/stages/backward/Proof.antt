@@ -54,13 +54,13 @@ T2 c = let h = h2 c in c .second .ensures ∙ ap₂ (unstage2 (N (s5 (f4 (g3 h))
 fifth-requires : tie.Need-fifth-requires
 fifth-requires c κs =
     let s = c .before .before in
-    (s .pre .0 .1, (s .pre .1 .0, (within-up (s .pre .1 .1 .1 .0) (omega arith), within-up (s .pre .1 .1 .1 .1) (omega arith))))
+    ((s .pre .0 .1, s .pre .0 .2), (s .pre .1 .0, (within-up (s .pre .1 .1 .1 .0) (omega arith), within-up (s .pre .1 .1 .1 .1) (omega arith))))
 
 fourth-requires : tie.Need-fourth-requires
 fourth-requires c κs =
     let f = c .before .before .before in
     let s = s5 f in (
-      s .pre .0 .1,
+      (s .pre .0 .1, s .pre .0 .2),
       (
         record { top-long = s .pre .1 .0 .top-long; bottom-long = ap length (B5 f) ∙ unlong5 (N s) (top s) (bottom s) },
         (within-up (subst (Within 1572864) (sym (B5 f)) (unwithin5 (N s) (top s) (bottom s) (s .pre .1 .1 .1 .0) (s .pre .1 .1 .1 .1))) (omega arith), within-up (s .pre .1 .1 .1 .0) (omega arith)),

@@ -95,7 +95,7 @@ fourth-requires c κs =
     let h = c .before .before .before .before .before .before .before in
     let g = g3 h in
     let s = s1 (f2 g) in (
-      s .pre .0 .1,
+      (s .pre .0 .1, s .pre .0 .2),
       (
         record { top-long = ap length (T2 g) ∙ long2 (N s) (top s) (bottom s); bottom-long = ap length (B3 h) ∙ long3 (N s) (top s) (bottom s) },
         (
@@ -110,7 +110,7 @@ fifth-requires c κs =
     let k = c .before .before .before in
     let h = h4 k in
     let s = s1 (f2 (g3 h)) in (
-      s .pre .0 .1,
+      (s .pre .0 .1, s .pre .0 .2),
       (
         record { top-long = ap length (T4 k) ∙ long4 (N s) (top s) (bottom s); bottom-long = ap length (B3 h) ∙ long3 (N s) (top s) (bottom s) },
         (

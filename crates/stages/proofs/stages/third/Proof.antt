@@ -117,7 +117,7 @@ third-amounts-requires : tie.Need-third-amounts-requires
 third-amounts-requires c κs =
     let q = c .before .before .before .before .before in
     let s = from q in
-    ((root-small s, s .pre .0 .1), ((top-long s, secants-long q, cosines-long q), (top-small s, (secants-small q, cosines-small q))))
+    ((root-small s, s .pre .0 .1, s .pre .0 .2), ((top-long s, secants-long q, cosines-long q), (top-small s, (secants-small q, cosines-small q))))
 
 mul-lift : tie.Need-mul-lift
 mul-lift c = record { fits = omega (arith, root-small (start (c .before))) }
