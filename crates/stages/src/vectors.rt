@@ -20,18 +20,6 @@ pub fn copy(x: &[i64], out: &mut [i64])
     }
 }
 
-// The numbers from the last to the first.
-pub fn reverse(x: &[i64], out: &mut [i64])
-    requires { ⌜ length (now x) ≡ length (now out) ⌝ }
-    ensures { λ _. ⌜ now (out .exit) ≡ places (length (now (out .entry))) (λ i. at (now (x .entry)) (length (now (out .entry)) - 1 - i)) ⌝ }
-{
-    let mut i = 0;
-    while i < out.len() {
-        out[i] = x[out.len() - 1 - i];
-        i += 1;
-    }
-}
-
 // The numbers at these places of x, each with a sign.
 pub fn signed_gather(places: &[usize], signs: &[i64], x: &[i64], out: &mut [i64])
     requires { ⌜ (length (now places) ≡ length (now out)) × (length (now signs) ≡ length (now out)) ⌝ }
@@ -148,18 +136,6 @@ pub fn widen(x: &[i32], out: &mut [i64])
     let mut i = 0;
     while i < x.len() {
         out[i] = x[i] as i64;
-        i += 1;
-    }
-}
-
-// The numbers from the place last on towards the first, each as an i64.
-pub fn widen_back(x: &[i32], last: usize, out: &mut [i64])
-    requires { ⌜ (last < length (now x)) × (length (now out) ≤ last + 1) ⌝ }
-    ensures { λ _. ⌜ now (out .exit) ≡ places (length (now (out .entry))) (λ i. at (now (x .entry)) (last - i)) ⌝ }
-{
-    let mut i = 0;
-    while i < out.len() {
-        out[i] = x[last - i] as i64;
         i += 1;
     }
 }
