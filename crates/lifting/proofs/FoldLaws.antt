@@ -5,7 +5,7 @@ use mathlib.Core.List.{List}
 use Prim.Native.Nat.{ℕ, _+_, _-_, _^_, _≤_, _<_}
 use native.Mathlib.Omega.{arith}
 use borrow.Author.Tests.{ltb-true, ltb-false, eqb-true, eqb-false, lt-ltb, le-ltb}
-use lib.Dec.{eqb, ltb}
+use lib.Dec.{T, eqb, ltb}
 use lib.IntN.{ℤ, pos, negℤ, natAbs, _*ℤ_}
 use lib.ListN.{length, set, length-set}
 use lib.Signed.{mag}
@@ -13,7 +13,7 @@ use lib.Seq.{getD-set-same, getD-set-other}
 use mir.Syntax.{w64}
 use mir.Val.{toZ, ofZ}
 use Rattle.integers.specs.Floor.{round}
-use Rattle.integers.specs.Places.{places, at}
+use Rattle.integers.specs.Places.{places, at, Within}
 use Rattle.integers.proofs.Order.{natAbs-*ℤ-le}
 use Rattle.integers.proofs.Num.{Num, num, num-call}
 use Rattle.integers.proofs.Rounding.{round-within}
@@ -31,6 +31,9 @@ lifted undo c x y = moved undo y (round 28 (c *ℤ x))
 
 pub bits-size : {m x : ℕ} {a : ℤ} → Num w64 m x a → natAbs (toZ w64 x) ≤ m
 bits-size p = rw (p .holds .is) (p .size)
+
+pub entry-size : {m : ℕ} {xs : List ℤ} → Within m xs → T (ltb m (2 ^ 63)) → (i : ℕ) → natAbs (toZ w64 (ofZ w64 (at xs i))) ≤ m
+entry-size {xs = xs} h t i = bits-size (num w64 (at xs i) (h .size i) t)
 
 pub num-lifted : (undo : Bool) {B C i j k : ℕ} {c x y : ℤ} → Num w64 (2 ^ 28) i c → Num w64 B j x → Num w64 C k y
     → (r : ℤ) → mag r < 2 ^ 63 → r ≡ lifted undo (toZ w64 i) (toZ w64 j) (toZ w64 k) → Num w64 (C + B) (ofZ w64 r) (lifted undo c x y)

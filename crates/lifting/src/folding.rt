@@ -39,7 +39,15 @@ fn rotated(undo: bool, t: i64, s: i64, a: i64, b: i64) -> Pair
     }
 }
 
-fn fold_with(width: usize, tangents: &[i64], sines: &[i64], block: &[i32], lower: &mut [i64], held: &mut [i64])
+// Pair n is reading n and reading N−1−n, rotated: a goes to lower place M−1−n, b is held at n.
+fn fold_with(
+    width: usize,
+    tangents: &[i64],
+    sines: &[i64],
+    block: &[i32],
+    lower: &mut [i64],
+    held: &mut [i64],
+)
     requires { ⌜ Tangents width (now tangents) ⌝ }
     requires { ⌜ Sines width (now sines) ⌝ }
     requires { ⌜ length (now block) ≡ width ⌝ }
@@ -51,7 +59,13 @@ fn fold_with(width: usize, tangents: &[i64], sines: &[i64], block: &[i32], lower
     let mut n = 0;
     while n < half {
         let mirrored = half - 1 - n;
-        let pair = rotated(false, tangents[n], sines[n], block[n] as i64, block[width - 1 - n] as i64);
+        let pair = rotated(
+            false,
+            tangents[n],
+            sines[n],
+            block[n] as i64,
+            block[width - 1 - n] as i64,
+        );
         let folded = pair.a;
         let kept = pair.b;
         lower[mirrored] = folded;
@@ -60,7 +74,15 @@ fn fold_with(width: usize, tangents: &[i64], sines: &[i64], block: &[i32], lower
     }
 }
 
-fn unfold_with(width: usize, tangents: &[i64], sines: &[i64], lower: &[i64], held: &[i64], block: &mut [i64])
+// Pair n is lower place M−1−n and held place n, rotated back: a is reading n, b is reading N−1−n.
+fn unfold_with(
+    width: usize,
+    tangents: &[i64],
+    sines: &[i64],
+    lower: &[i64],
+    held: &[i64],
+    block: &mut [i64],
+)
     requires { ⌜ 0 < halfWidth width ⌝ }
     requires { ⌜ Tangents width (now tangents) ⌝ }
     requires { ⌜ Sines width (now sines) ⌝ }
@@ -99,7 +121,14 @@ fn fold_32(block: &[i32], lower: &mut [i64], held: &mut [i64])
     requires { ⌜ Within 50000 (now block) ⌝ }
     ensures { λ _. ⌜ (now (lower .exit) ≡ Rattle.steps.specs.Steps.lower 32 (now (block .entry))) × (now (held .exit) ≡ Rattle.steps.specs.Steps.held 32 (now (block .entry))) ⌝ }
 {
-    fold_with(32, &lifts::TANGENTS_32, &lifts::SINES_32, block, lower, held);
+    fold_with(
+        32,
+        &lifts::TANGENTS_32,
+        &lifts::SINES_32,
+        block,
+        lower,
+        held,
+    );
 }
 
 fn fold_128(block: &[i32], lower: &mut [i64], held: &mut [i64])
@@ -108,7 +137,14 @@ fn fold_128(block: &[i32], lower: &mut [i64], held: &mut [i64])
     requires { ⌜ Within 50000 (now block) ⌝ }
     ensures { λ _. ⌜ (now (lower .exit) ≡ Rattle.steps.specs.Steps.lower 128 (now (block .entry))) × (now (held .exit) ≡ Rattle.steps.specs.Steps.held 128 (now (block .entry))) ⌝ }
 {
-    fold_with(128, &lifts::TANGENTS_128, &lifts::SINES_128, block, lower, held);
+    fold_with(
+        128,
+        &lifts::TANGENTS_128,
+        &lifts::SINES_128,
+        block,
+        lower,
+        held,
+    );
 }
 
 // A block to its lower folded places, and to the upper ones of the next frame.
@@ -144,7 +180,14 @@ fn unfold_32(lower: &[i64], held: &[i64], block: &mut [i64])
     requires { ⌜ Within 50000 (now held) ⌝ }
     ensures { λ _. ⌜ now (block .exit) ≡ Rattle.steps.specs.Steps.unfolded 32 (now (lower .entry)) (now (held .entry)) ⌝ }
 {
-    unfold_with(32, &lifts::TANGENTS_32, &lifts::SINES_32, lower, held, block);
+    unfold_with(
+        32,
+        &lifts::TANGENTS_32,
+        &lifts::SINES_32,
+        lower,
+        held,
+        block,
+    );
 }
 
 fn unfold_128(lower: &[i64], held: &[i64], block: &mut [i64])
@@ -154,7 +197,14 @@ fn unfold_128(lower: &[i64], held: &[i64], block: &mut [i64])
     requires { ⌜ Within 50000 (now held) ⌝ }
     ensures { λ _. ⌜ now (block .exit) ≡ Rattle.steps.specs.Steps.unfolded 128 (now (lower .entry)) (now (held .entry)) ⌝ }
 {
-    unfold_with(128, &lifts::TANGENTS_128, &lifts::SINES_128, lower, held, block);
+    unfold_with(
+        128,
+        &lifts::TANGENTS_128,
+        &lifts::SINES_128,
+        lower,
+        held,
+        block,
+    );
 }
 
 // The block of these folded places.

@@ -16,8 +16,8 @@ use Rattle.tables.specs.Widths.{halfWidth}
 use Rattle.tables.proofs.ByWidth.{half-width-le}
 use Rattle.steps.specs.Steps.{tangent, sine, lower, held, rotatedA}
 use Rattle.steps.proofs.Undo.{width-half}
-use Rattle.stages.proofs.TableSizes.{tangents-long, sines-long}
-use Rattle.lifting.proofs.FoldLaws.{bits-size, Ends, ends-none, ends-front, ends-back, ends-all, a-rotated, b-rotated, tangent-num, sine-num, lowerAt, heldAt, lower-at}
+use Rattle.stages.proofs.TableSizes.{tangents-long, tangents-within, sines-long, sines-within}
+use Rattle.lifting.proofs.FoldLaws.{bits-size, entry-size, Ends, ends-none, ends-front, ends-back, ends-all, a-rotated, b-rotated, tangent-num, sine-num, lowerAt, heldAt, lower-at}
 use Rattle.lifting.proofs.folding.fold_with.Statement.{statement}
 use Rattle.lifting.proofs.folding.fold_with.Tie as tie
 
@@ -136,7 +136,9 @@ cast-rotated-2 : tie.Need-cast-rotated-2 Inv-loop μ-loop
 cast-rotated-2 c = let t = c .before .before .before .before in asks-wide (at (x t) (N t - 1 - n t)) (c .rotated-arg4 .given)
 
 rotated-requires : tie.Need-rotated-requires Inv-loop μ-loop
-rotated-requires c κs = let t = c .before .before .before .before in (bits-size (T t), bits-size (S t), bits-size (A (c .before)), bits-size (B c))
+rotated-requires c κs =
+    let p = s (c .before .before .before .before) .pre in
+    (entry-size (tangents-within _ _ (p .0)) tt _, entry-size (sines-within _ _ (p .1 .0)) tt _, bits-size (A (c .before)), bits-size (B c))
 
 mul-folded : tie.Need-mul-folded Inv-loop μ-loop
 mul-folded c = search needs

@@ -3,7 +3,7 @@ use native.Mathlib.Omega.{arith}
 use mathlib.Core.Path.{_≡_, sym, ap, _∙_}
 use mathlib.Core.Bool.{Bool}
 use Prim.Native.Nat.{_+_, _^_, _≤_}
-use lib.IntN.{ℤ}
+use lib.IntN.{ℤ, natAbs}
 use mir.Syntax.{w64}
 use mir.Val.{toZ, ofZ}
 use Rattle.integers.proofs.Num.{Num, num}
@@ -24,6 +24,9 @@ module _ (s : tie.Start) where
   B : Num w64 50000 (ofZ w64 (s .args .b)) (s .args .b)
   B = num w64 _ (s .pre .3) tt
 
+  sizes : (natAbs (toZ w64 (ofZ w64 (s .args .t))) ≤ 2 ^ 28) × (natAbs (toZ w64 (ofZ w64 (s .args .s))) ≤ 2 ^ 28) × (natAbs (toZ w64 (ofZ w64 (s .args .a))) ≤ 50000) × (natAbs (toZ w64 (ofZ w64 (s .args .b))) ≤ 50000)
+  sizes = (bits-size T, bits-size S, bits-size A, bits-size B)
+
   abbrev undo : Bool
   undo = s .args .undo
 
@@ -41,13 +44,13 @@ A₁ : (c : tie.After-lift2) → Num w64 (50000 + (50000 + 50000)) (ofZ w64 (c .
 A₁ c = let s = c .before .before in num-lifted (undo s) (S s) (B₁ (c .before)) (A s) _ (c .lift2 .ok) (c .lift2 .ensures)
 
 lift-requires : tie.Need-lift-requires
-lift-requires c κs = (bits-size (T c), omega (arith, bits-size (A c)), omega (arith, bits-size (B c)))
+lift-requires c κs = let g = sizes c in (omega (arith, g), omega (arith, g), omega (arith, g))
 
 lift-requires-2 : tie.Need-lift-requires-2
-lift-requires-2 c κs = let s = c .before in (bits-size (S s), omega (arith, bits-size (B₁ c)), omega (arith, bits-size (A s)))
+lift-requires-2 c κs = let g = sizes (c .before) in (omega (arith, g), omega (arith, bits-size (B₁ c)), omega (arith, g))
 
 lift-requires-3 : tie.Need-lift-requires-3
-lift-requires-3 c κs = (bits-size (T (c .before .before)), omega (arith, bits-size (A₁ c)), omega (arith, bits-size (B₁ (c .before))))
+lift-requires-3 c κs = (omega (arith, sizes (c .before .before)), omega (arith, bits-size (A₁ c)), omega (arith, bits-size (B₁ (c .before))))
 
 returns : tie.Need-returns
 returns c =

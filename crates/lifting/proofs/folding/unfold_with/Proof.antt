@@ -16,8 +16,8 @@ use Rattle.tables.specs.Widths.{halfWidth}
 use Rattle.tables.proofs.ByWidth.{half-width-le}
 use Rattle.steps.specs.Steps.{tangent, sine, unrotatedA, unrotatedB, unfolded}
 use Rattle.steps.proofs.Undo.{width-half}
-use Rattle.stages.proofs.TableSizes.{tangents-long, sines-long}
-use Rattle.lifting.proofs.FoldLaws.{bits-size, Ends, ends-none, ends-front, ends-back, ends-all, a-rotated, b-rotated, tangent-num, sine-num, blockAt, front-at, back-at}
+use Rattle.stages.proofs.TableSizes.{tangents-long, tangents-within, sines-long, sines-within}
+use Rattle.lifting.proofs.FoldLaws.{entry-size, Ends, ends-none, ends-front, ends-back, ends-all, a-rotated, b-rotated, tangent-num, sine-num, blockAt, front-at, back-at}
 use Rattle.lifting.proofs.folding.unfold_with.Statement.{statement}
 use Rattle.lifting.proofs.folding.unfold_with.Tie as tie
 
@@ -40,14 +40,11 @@ module _ (s : tie.Start Inv-loop μ-loop) where
   abbrev high : List ℤ
   high = s .args .held .now
 
-  half-is : length (s .args .tangents .now) ≡ M
-  half-is = tangents-long _ _ (s .pre .1 .0)
-
   twice : M + M ≡ N
   twice = width-half N (s .pre .0)
 
-  lengths : (length (s .args .sines .now) ≡ M) × (length low ≡ M) × (length high ≡ M) × (M ≤ 64)
-  lengths = let h = s .pre .1 .1 .1 .0 in (sines-long N _ (s .pre .1 .1 .0), h .top-long, h .bottom-long, half-width-le N)
+  lengths : (length (s .args .tangents .now) ≡ M) × (length (s .args .sines .now) ≡ M) × (length low ≡ M) × (length high ≡ M) × (M ≤ 64)
+  lengths = let h = s .pre .1 .1 .1 .0 in (tangents-long N _ (s .pre .1 .0), sines-long N _ (s .pre .1 .1 .0), h .top-long, h .bottom-long, half-width-le N)
 
 -- a turn
 module _ (c : tie.In-loop Inv-loop μ-loop) where
@@ -58,13 +55,13 @@ module _ (c : tie.In-loop Inv-loop μ-loop) where
   n = c .before .loop .n
 
   below : n < M s
-  below = omega (arith, half-is s)
+  below = omega (arith, lengths s)
 
   abbrev mirrored : ℕ
   mirrored = length (s .args .tangents .now) - 1 - n
 
   mirrored-is : mirrored ≡ M s - 1 - n
-  mirrored-is = omega (arith, half-is s)
+  mirrored-is = omega (arith, lengths s)
 
   T : Num w64 (2 ^ 28) (ofZ w64 (at (s .args .tangents .now) n)) (negℤ (tangent (N s) n))
   T = tangent-num (N s) _ n below (s .pre .1 .0)
@@ -111,16 +108,16 @@ shared-slice-copy-out-rotated : tie.Need-shared-slice-copy-out-rotated Inv-loop 
 shared-slice-copy-out-rotated c = omega arith
 
 mul-rotated-2 : tie.Need-mul-rotated-2 Inv-loop μ-loop
-mul-rotated-2 c = search needs
+mul-rotated-2 c = let t = c .before in record { fits = omega (arith, below t, lengths (s t)) }
 
 shared-slice-copy-out-rotated-2 : tie.Need-shared-slice-copy-out-rotated-2 Inv-loop μ-loop
 shared-slice-copy-out-rotated-2 c = let t = c .before in omega (arith, below t, lengths (s t))
 
 mul-rotated-3 : tie.Need-mul-rotated-3 Inv-loop μ-loop
-mul-rotated-3 c = let t = c .before .before in record { fits = omega (arith, half-is (s t), lengths (s t)) }
+mul-rotated-3 c = let t = c .before .before in record { fits = omega (arith, lengths (s t)) }
 
 shared-slice-copy-out-rotated-3 : tie.Need-shared-slice-copy-out-rotated-3 Inv-loop μ-loop
-shared-slice-copy-out-rotated-3 c = let t = c .before .before in omega (arith, half-is (s t), below t, lengths (s t))
+shared-slice-copy-out-rotated-3 c = let t = c .before .before in omega (arith, below t, lengths (s t))
 
 mul-rotated-4 : tie.Need-mul-rotated-4 Inv-loop μ-loop
 mul-rotated-4 c = search needs
@@ -129,7 +126,7 @@ shared-slice-copy-out-rotated-4 : tie.Need-shared-slice-copy-out-rotated-4 Inv-l
 shared-slice-copy-out-rotated-4 c = let t = c .before .before .before in omega (arith, below t, lengths (s t))
 
 rotated-requires : tie.Need-rotated-requires Inv-loop μ-loop
-rotated-requires c κs = let t = c .before .before .before .before in (bits-size (T t), bits-size (S t), bits-size (A t), bits-size (B t))
+rotated-requires c κs = let p = s (c .before .before .before .before) .pre .1 in (entry-size (tangents-within _ _ (p .0)) tt _, entry-size (sines-within _ _ (p .1 .0)) tt _, entry-size (p .1 .1 .1 .1 .0) tt _, entry-size (p .1 .1 .1 .1 .1) tt _)
 
 mul-a : tie.Need-mul-a Inv-loop μ-loop
 mul-a c = search needs
@@ -170,7 +167,7 @@ same-length c = omega (arith, c .before .before .pre .1 .1 .1 .1 .0)
 
 returns : tie.Need-returns Inv-loop μ-loop
 unfolding unfolded
-returns c = let l = c .before in ends-all (l .loop .inv .1) (omega (arith, half-is (l .before), twice (l .before)))
+returns c = let l = c .before in ends-all (l .loop .inv .1) (omega (arith, lengths (l .before), twice (l .before)))
 
 pub unfold-with-spec : {M : Type 1} → statement M
 unfold-with-spec =
