@@ -1,126 +1,151 @@
--- What the lifts of a fold come to: its rotations, and their sizes.
-use mathlib.Core.Path.{_≡_, refl, ap, ap₂, _∙_}
-use mathlib.Core.Bool.{Bool, true, false, not, cond}
-use mathlib.Core.List.{List, _++_}
-use Prim.Native.Nat.{ℕ, _+_, _-_, _*_, _<_}
+-- What a fold's rotations come to, and a list that is stored from both ends.
+use mathlib.Core.Path.{_≡_, refl, ap, ap₂, subst, _∙_}
+use mathlib.Core.Bool.{Bool, true, false, cond}
+use mathlib.Core.List.{List}
+use Prim.Native.Nat.{ℕ, _+_, _-_, _^_, _≤_, _<_}
 use native.Mathlib.Omega.{arith}
-use borrow.Author.Tests.{ltb-true, ltb-false}
-use lib.Dec.{ltb}
-use lib.IntN.{ℤ}
-use lib.ListN.{length-append}
+use borrow.Author.Tests.{ltb-true, ltb-false, eqb-true, eqb-false, lt-ltb, le-ltb}
+use lib.Dec.{T, eqb, ltb}
+use lib.IntN.{ℤ, pos, negℤ, natAbs, _*ℤ_}
+use lib.ListN.{length, set, length-set}
+use lib.Signed.{mag}
+use lib.Seq.{getD-set-same, getD-set-other}
+use mir.Syntax.{w64}
+use mir.Val.{toZ, ofZ}
+use Rattle.integers.specs.Floor.{round}
 use Rattle.integers.specs.Places.{places, at, Within}
-use Rattle.integers.proofs.PlaceLaws.{length-places, at-places, by-places, places-ext, within-places}
+use Rattle.integers.proofs.Order.{natAbs-*ℤ-le}
+use Rattle.integers.proofs.Num.{Num, num, num-call}
+use Rattle.integers.proofs.Rounding.{round-within}
+use Rattle.integers.proofs.PlaceLaws.{at-places, by-places}
 use Rattle.tables.specs.Widths.{halfWidth}
-use Rattle.steps.specs.Steps.{sineAmount, tangentAmount, rotatedA, rotatedB, unrotatedA, unrotatedB, lower, held, unfolded}
-use Rattle.steps.proofs.ListPlaces.{at-append}
+use Rattle.steps.specs.Steps.{tangent, sine, tangentAmount, sineAmount, rotatedA, rotatedB, unrotatedA, unrotatedB}
 use Rattle.stages.specs.Moves.{moved}
-use Rattle.stages.specs.Expanded.{tangentLift, sineLift}
-use Rattle.stages.proofs.StageSizes.{moved-size, tangentAmount-size, sineAmount-size}
+use Rattle.stages.specs.Expanded.{Tangents, Sines}
+use Rattle.stages.proofs.StageSizes.{moved-size}
+use Rattle.stages.proofs.TableSizes.{tangents-within, sines-within}
 
--- ---- one lift of a rotation
-module _ (N B C : ℕ) (undo back : Bool) (x y : List ℤ) (hy : Within C y) where
-  pub tangentLift-within : Within (2 * B) x → Within (C + B) (tangentLift N undo back x y)
-  tangentLift-within hx =
-      let M = halfWidth N in
-      within-places M (C + B) _ (λ i l. moved-size undo (at y i) _ (hy .size i) (tangentAmount-size N B (cond back (M - 1 - i) i) (at x (M - 1 - i)) (hx .size (M - 1 - i))))
+-- ---- one lift
+abbrev pub lifted : Bool → ℤ → ℤ → ℤ → ℤ
+lifted undo c x y = moved undo y (round 28 (c *ℤ x))
 
-  pub sineLift-within : Within B x → Within (C + B) (sineLift N undo back x y)
-  sineLift-within hx =
-      let M = halfWidth N in
-      within-places M (C + B) _ (λ i l. moved-size undo (at y i) _ (hy .size i) (sineAmount-size N B (cond back (M - 1 - i) i) (at x (M - 1 - i)) (hx .size (M - 1 - i))))
+pub bits-size : {m x : ℕ} {a : ℤ} → Num w64 m x a → natAbs (toZ w64 x) ≤ m
+bits-size p = rw (p .holds .is) (p .size)
+
+pub entry-size : {m : ℕ} {xs : List ℤ} → Within m xs → T (ltb m (2 ^ 63)) → (i : ℕ) → natAbs (toZ w64 (ofZ w64 (at xs i))) ≤ m
+entry-size {xs = xs} h t i = bits-size (num w64 (at xs i) (h .size i) t)
+
+pub num-lifted : (undo : Bool) {B C i j k : ℕ} {c x y : ℤ} → Num w64 (2 ^ 28) i c → Num w64 B j x → Num w64 C k y
+    → (r : ℤ) → mag r < 2 ^ 63 → r ≡ lifted undo (toZ w64 i) (toZ w64 j) (toZ w64 k) → Num w64 (C + B) (ofZ w64 r) (lifted undo c x y)
+num-lifted undo {B = B} {j = j} {k = k} {c = c} {x = x} {y = y} p q n r ok e =
+    num-call w64 r ok
+    (e ∙ ap₂ (λ u v. lifted undo u v (toZ w64 k)) (p .holds .is) (q .holds .is) ∙ ap (lifted undo c x) (n .holds .is))
+    (moved-size undo y _ (n .size) (round-within 28 B (c *ℤ x) (natAbs-*ℤ-le c x (p .size) (q .size))))
+
+-- ---- a list whose places below i and from j on are final
+pub record Ends (f : ℕ → ℤ) (n i j : ℕ) (d : List ℤ) : Type 0 where
+  pub long : length d ≡ n
+  front : (k : ℕ) → k < i → at d k ≡ f k
+  back : (k : ℕ) → j ≤ k → k < n → at d k ≡ f k
+
+pub ends-none : (f : ℕ → ℤ) (n j : ℕ) (d : List ℤ) → n ≤ j → length d ≡ n → Ends f n 0 j d
+ends-none f n j d g l = record { long = l; front = λ k h. absurd (omega arith); back = λ k h b. absurd (omega arith) }
+
+-- a store of what is final keeps what is
+stored : (f : ℕ → ℤ) (d : List ℤ) (p k : ℕ) (v : ℤ) → p < length d → v ≡ f p → ((k ≡ p → ⊥) → at d k ≡ f k) → at (set d p v) k ≡ f k
+stored f d p k v l e h = by (eqb k p) refl
+  where
+    by : (b : Bool) → eqb k p ≡ b → at (set d p v) k ≡ f k
+    by true t = let q = eqb-true k p t in rw q (getD-set-same d p v (pos 0) l ∙ e)
+    by false t = let q = eqb-false k p t in getD-set-other d p k v (pos 0) q ∙ h q
+
+module _ {f : ℕ → ℤ} {n i j : ℕ} {d : List ℤ} {v : ℤ} (s : Ends f n i j d) where
+  pub ends-front : i < n → v ≡ f i → Ends f n (i + 1) j (set d i v)
+  ends-front l e =
+      let p : i < length d = omega (arith, s .long) in
+      record { long = length-set d i v ∙ s .long; front = λ k h. stored f d i k v p e (λ q. s .front k (omega (arith, q))); back = λ k h b. stored f d i k v p e (λ q. s .back k h b) }
+
+  pub ends-back : (m j′ : ℕ) → m < n → j ≤ m + 1 → m ≤ j′ → v ≡ f m → Ends f n i j′ (set d m v)
+  ends-back m j′ l g r e =
+      let p : m < length d = omega (arith, s .long) in
+      record { long = length-set d m v ∙ s .long; front = λ k h. stored f d m k v p e (λ q. s .front k h); back = λ k h b. stored f d m k v p e (λ q. s .back k (omega (arith, q)) b) }
+
+pub ends-all : {f : ℕ → ℤ} {n i j : ℕ} {d : List ℤ} → Ends f n i j d → j ≤ i → d ≡ places n f
+ends-all {f = f} {n = n} {i = i} {d = d} s l = by-places n d f (s .long) (λ k h. by k h (ltb k i) refl)
+  where
+    by : (k : ℕ) → k < n → (b : Bool) → ltb k i ≡ b → at d k ≡ f k
+    by k h true t = s .front k (ltb-true k i t)
+    by k h false t = s .back k (omega (arith, ltb-false k i t)) h
 
 -- ---- the three lifts are the rotation
-there-again : (M i : ℕ) → i < M → M - 1 - (M - 1 - i) ≡ i
-there-again M i l = omega arith
+abbrev turnedA : Bool → ℤ → ℤ → ℤ → ℤ → ℤ
+turnedA undo t s a b = lifted undo s (lifted undo t a b) a
 
-module _ (N : ℕ) (undo : Bool) (a b : List ℤ) where
+abbrev turnedB : Bool → ℤ → ℤ → ℤ → ℤ → ℤ
+turnedB undo t s a b = lifted undo t (turnedA undo t s a b) (lifted undo t a b)
+
+module _ (N m : ℕ) (a b : ℤ) where
+  abbrev pub rotationA : Bool → ℤ
+  rotationA undo = cond undo (unrotatedA N m a b) (rotatedA N m a b)
+
+  abbrev pub rotationB : Bool → ℤ
+  rotationB undo = cond undo (unrotatedB N m a b) (rotatedB N m a b)
+
+  turnedA-is : (undo : Bool) → turnedA undo (negℤ (tangent N m)) (sine N m) a b ≡ rotationA undo
+  unfolding rotatedA unrotatedA tangentAmount sineAmount moved
+  turnedA-is true = refl
+  turnedA-is false = refl
+
+  turnedB-is : (undo : Bool) → turnedB undo (negℤ (tangent N m)) (sine N m) a b ≡ rotationB undo
+  unfolding rotatedA rotatedB unrotatedA unrotatedB tangentAmount sineAmount moved
+  turnedB-is true = refl
+  turnedB-is false = refl
+
+-- the pair that comes of numbers as their bits hold them
+module _ (N m : ℕ) (undo : Bool) {i j k l : ℕ} {x y : ℤ} (t : Num w64 (2 ^ 28) i (negℤ (tangent N m))) (s : Num w64 (2 ^ 28) j (sine N m)) (hx : Num w64 50000 k x) (hy : Num w64 50000 l y) where
+  carried : (f : ℤ → ℤ → ℤ → ℤ → ℤ) → f (toZ w64 i) (toZ w64 j) (toZ w64 k) (toZ w64 l) ≡ f (negℤ (tangent N m)) (sine N m) x y
+  carried f = ap₂ (λ u v. f u v (toZ w64 k) (toZ w64 l)) (t .holds .is) (s .holds .is) ∙ ap₂ (f (negℤ (tangent N m)) (sine N m)) (hx .holds .is) (hy .holds .is)
+
+  module _ {p : ℤ} (hp : p ≡ turnedA undo (toZ w64 i) (toZ w64 j) (toZ w64 k) (toZ w64 l)) where
+    pub a-rotated : p ≡ rotationA N m x y undo
+    a-rotated = hp ∙ carried (turnedA undo) ∙ turnedA-is N m x y undo
+
+    pub b-rotated : {q : ℤ} → q ≡ lifted undo (toZ w64 i) p (lifted undo (toZ w64 i) (toZ w64 k) (toZ w64 l)) → q ≡ rotationB N m x y undo
+    b-rotated hq = hq ∙ ap (λ z. lifted undo (toZ w64 i) z (lifted undo (toZ w64 i) (toZ w64 k) (toZ w64 l))) hp ∙ carried (turnedB undo) ∙ turnedB-is N m x y undo
+
+-- ---- the entries of a width's tables
+module _ (N : ℕ) (xs : List ℤ) (n : ℕ) (l : n < halfWidth N) where
+  pub tangent-num : Tangents N xs → Num w64 (2 ^ 28) (ofZ w64 (at xs n)) (negℤ (tangent N n))
+  tangent-num t = subst (Num w64 (2 ^ 28) (ofZ w64 (at xs n))) (ap (λ ys. at ys n) (t .is) ∙ at-places (halfWidth N) _ n l) (num w64 _ (tangents-within N xs t .size n) tt)
+
+  pub sine-num : Sines N xs → Num w64 (2 ^ 28) (ofZ w64 (at xs n)) (sine N n)
+  sine-num s = subst (Num w64 (2 ^ 28) (ofZ w64 (at xs n))) (ap (λ ys. at ys n) (s .is) ∙ at-places (halfWidth N) _ n l) (num w64 _ (sines-within N xs s .size n) tt)
+
+-- ---- what goes to each place
+abbrev pub lowerAt : ℕ → List ℤ → ℕ → ℤ
+lowerAt N x i = let n = halfWidth N - 1 - i in rotatedA N n (at x n) (at x (N - 1 - n))
+
+abbrev pub heldAt : ℕ → List ℤ → ℕ → ℤ
+heldAt N x n = rotatedB N n (at x n) (at x (N - 1 - n))
+
+abbrev pub blockAt : ℕ → List ℤ → List ℤ → ℕ → ℤ
+blockAt N low high j =
+    cond (ltb j (halfWidth N))
+    (unrotatedA N j (at low (halfWidth N - 1 - j)) (at high j))
+    (let n = N - 1 - j in unrotatedB N n (at low (halfWidth N - 1 - n)) (at high n))
+
+module _ (N n : ℕ) (l : n < halfWidth N) where
   abbrev M : ℕ
   M = halfWidth N
 
-  abbrev pub b₁ : List ℤ
-  b₁ = tangentLift N undo undo a b
+  pub lower-at : (x : List ℤ) (m : ℕ) → m ≡ M - 1 - n → lowerAt N x m ≡ rotatedA N n (at x n) (at x (N - 1 - n))
+  lower-at x m e = let h : M - 1 - m ≡ n = omega arith in ap (λ k. rotatedA N k (at x k) (at x (N - 1 - k))) h
 
-  abbrev pub a₂ : List ℤ
-  a₂ = sineLift N undo (not undo) b₁ a
+  module _ (low high : List ℤ) where
+    pub front-at : blockAt N low high n ≡ unrotatedA N n (at low (M - 1 - n)) (at high n)
+    front-at = rw (lt-ltb n M l)
 
-  abbrev pub b₃ : List ℤ
-  b₃ = tangentLift N undo undo a₂ b₁
-
-  -- what is at place k of a after two lifts, where its partner is at place i of b
-  abbrev second : ℕ → ℕ → ℤ
-  second k i = moved undo (at a k) (sineAmount N (cond (not undo) i k) (moved undo (at b i) (tangentAmount N (cond undo k i) (at a k))))
-
-  a₂-entry : (k : ℕ) → k < M → moved undo (at a k) (sineAmount N (cond (not undo) (M - 1 - k) k) (at b₁ (M - 1 - k))) ≡ second k (M - 1 - k)
-  a₂-entry k l =
-      ap (λ z. moved undo (at a k) (sineAmount N (cond (not undo) (M - 1 - k) k) z))
-      (at-places M _ (M - 1 - k) (omega arith) ∙ ap (λ j. moved undo (at b (M - 1 - k)) (tangentAmount N (cond undo j (M - 1 - k)) (at a j))) (there-again M k l))
-
-  b₃-entry : (i : ℕ) → i < M → moved undo (at b₁ i) (tangentAmount N (cond undo (M - 1 - i) i) (at a₂ (M - 1 - i)))
-      ≡ moved undo (moved undo (at b i) (tangentAmount N (cond undo (M - 1 - i) i) (at a (M - 1 - i)))) (tangentAmount N (cond undo (M - 1 - i) i) (second (M - 1 - i) i))
-  b₃-entry i l =
-      let k : M - 1 - i < M = omega arith in
-      ap₂ (λ y z. moved undo y (tangentAmount N (cond undo (M - 1 - i) i) z)) (at-places M _ i l)
-      (at-places M _ (M - 1 - i) k ∙ a₂-entry (M - 1 - i) k ∙ ap (second (M - 1 - i)) (there-again M i l))
-
-module _ (N : ℕ) where
-  abbrev pub turnedA : Bool → List ℤ → List ℤ → List ℤ
-  turnedA undo a b = places (halfWidth N) (λ i. let j = halfWidth N - 1 - i in cond undo (unrotatedA N i (at a i) (at b j)) (rotatedA N j (at a i) (at b j)))
-
-  abbrev pub turnedB : Bool → List ℤ → List ℤ → List ℤ
-  turnedB undo a b = places (halfWidth N) (λ i. let j = halfWidth N - 1 - i in cond undo (unrotatedB N j (at a j) (at b i)) (rotatedB N i (at a j) (at b i)))
-
-  pub a-turned : (undo : Bool) (a b : List ℤ) → a₂ N undo a b ≡ turnedA undo a b
-  unfolding rotatedA unrotatedA moved
-  a-turned true a b = places-ext (halfWidth N) _ _ (a₂-entry N true a b)
-  a-turned false a b = places-ext (halfWidth N) _ _ (a₂-entry N false a b)
-
-  pub b-turned : (undo : Bool) (a b : List ℤ) → b₃ N undo a b ≡ turnedB undo a b
-  unfolding rotatedA rotatedB unrotatedA unrotatedB moved
-  b-turned true a b = places-ext (halfWidth N) _ _ (b₃-entry N true a b)
-  b-turned false a b = places-ext (halfWidth N) _ _ (b₃-entry N false a b)
-
--- ---- the fold: a block's halves, each from its end
-abbrev pub reversed : ℕ → List ℤ → List ℤ
-reversed M x = places M (λ i. at x (M - 1 - i))
-
-abbrev pub ends : ℕ → List ℤ → List ℤ
-ends N x = places (halfWidth N) (λ i. at x (N - 1 - i))
-
-module _ (N : ℕ) (x : List ℤ) where
-  pub lower-is : turnedA N false (reversed (halfWidth N) x) (ends N x) ≡ lower N x
-  unfolding lower
-  lower-is = let M = halfWidth N in places-ext M _ _ (λ i l. ap₂ (rotatedA N (M - 1 - i)) (at-places M _ i l) (at-places M _ (M - 1 - i) (omega arith)))
-
-  pub held-is : turnedB N false (reversed (halfWidth N) x) (ends N x) ≡ held N x
-  unfolding held
-  held-is = let M = halfWidth N in places-ext M _ _ (λ n l. ap₂ (rotatedB N n) (at-places M _ (M - 1 - n) (omega arith) ∙ ap (at x) (there-again M n l)) (at-places M _ n l))
-
--- ---- and back
-module _ (N : ℕ) (low high : List ℤ) (half : halfWidth N + halfWidth N ≡ N) where
-  abbrev front : List ℤ
-  front = turnedA N true (reversed (halfWidth N) low) (reversed (halfWidth N) high)
-
-  abbrev rest : List ℤ
-  rest = turnedB N true (reversed (halfWidth N) low) (reversed (halfWidth N) high)
-
-  pub block-is : front ++ rest ≡ unfolded N low high
-  unfolding unfolded
-  block-is =
-      by-places N (front ++ rest) _
-      (length-append front rest ∙ ap₂ _+_ (length-places (halfWidth N) _) (length-places (halfWidth N) _) ∙ half)
-      (λ j l. at-append front rest (halfWidth N) j (length-places (halfWidth N) _) ∙ by j l (ltb j (halfWidth N)) refl)
-    where
-      by : (j : ℕ) → j < N → (t : Bool) → ltb j (halfWidth N) ≡ t
-          → cond t (at front j) (at rest (j - halfWidth N))
-          ≡ cond t (unrotatedA N j (at low (halfWidth N - 1 - j)) (at high j)) (let n = N - 1 - j in unrotatedB N n (at low (halfWidth N - 1 - n)) (at high n))
-      by j l true e =
-          let M = halfWidth N in
-          let k = ltb-true j M e in
-          at-places M _ j k ∙ ap₂ (unrotatedA N j) (at-places M _ j k) (at-places M _ (M - 1 - j) (omega arith) ∙ ap (at high) (there-again M j k))
-      by j l false e =
-          let M = halfWidth N in
-          let g = ltb-false j M e in
-          let i = j - M in
-          let k : i < M = omega arith in
-          let n : M - 1 - i ≡ N - 1 - j = omega arith in
-          at-places M _ i k ∙ ap₂ (unrotatedB N (M - 1 - i)) (at-places M _ (M - 1 - i) (omega arith)) (at-places M _ i k) ∙ ap (λ m. unrotatedB N m (at low (M - 1 - m)) (at high m)) n
+    pub back-at : M + M ≡ N → blockAt N low high (N - 1 - n) ≡ unrotatedB N n (at low (M - 1 - n)) (at high n)
+    back-at w =
+        let h : N - 1 - (N - 1 - n) ≡ n = omega arith in
+        rw (le-ltb (N - 1 - n) M (omega arith)) (ap (λ k. unrotatedB N k (at low (M - 1 - k)) (at high k)) h)

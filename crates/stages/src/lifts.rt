@@ -12,9 +12,9 @@ ghost use Rattle.stages.specs.Expanded.{third, Halves, tangentLift, sine
 use crate::vectors;
 
 // −t(m) and s(m)
-const TANGENTS_8: [i64; 4] = [-13187388, -39818638, -67239581, -96047742];
+pub const TANGENTS_8: [i64; 4] = [-13187388, -39818638, -67239581, -96047742];
 
-const TANGENTS_32: [i64; 16] = [
+pub const TANGENTS_32: [i64; 16] = [
     -3294364,
     -9887063,
     -16491695,
@@ -33,7 +33,7 @@ const TANGENTS_32: [i64; 16] = [
     -107349540,
 ];
 
-const TANGENTS_128: [i64; 64] = [
+pub const TANGENTS_128: [i64; 64] = [
     -823552,
     -2470719,
     -4118071,
@@ -100,9 +100,9 @@ const TANGENTS_128: [i64; 64] = [
     -110225980,
 ];
 
-const SINES_8: [i64; 4] = [26311276, 77922700, 126539598, 170293651];
+pub const SINES_8: [i64; 4] = [26311276, 77922700, 126539598, 170293651];
 
-const SINES_32: [i64; 16] = [
+pub const SINES_32: [i64; 16] = [
     6587736,
     19747337,
     32859365,
@@ -121,7 +121,7 @@ const SINES_32: [i64; 16] = [
     185097131,
 ];
 
-const SINES_128: [i64; 64] = [
+pub const SINES_128: [i64; 64] = [
     1647089,
     4941019,
     8234205,

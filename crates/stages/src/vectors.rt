@@ -1,8 +1,8 @@
 // Work on lists of 64-bit numbers, place by place.
 ghost use mathlib.Core.Path.{_≡_};
-ghost use Prim.Native.Nat.{_+_, _-_, _*_, _/_, _%_, _^_, _≤_, _<_};
-ghost use lib.IntN.{natAbs, _*ℤ_};
-ghost use lib.ListN.{length, getD};
+ghost use Prim.Native.Nat.{_+_, _^_, _≤_, _<_};
+ghost use lib.IntN.{natAbs};
+ghost use lib.ListN.{length};
 ghost use Rattle.integers.specs.Floor.{round};
 ghost use Rattle.integers.specs.Places.{places, at, Within};
 ghost use Rattle.stages.specs.Moves.{moved, flipped, wovenAt, Moves};
@@ -15,18 +15,6 @@ pub fn copy(x: &[i64], out: &mut [i64])
     let mut i = 0;
     while i < out.len() {
         out[i] = x[i];
-        i += 1;
-    }
-}
-
-// The numbers from the last to the first.
-pub fn reverse(x: &[i64], out: &mut [i64])
-    requires { ⌜ length (now x) ≡ length (now out) ⌝ }
-    ensures { λ _. ⌜ now (out .exit) ≡ places (length (now (out .entry))) (λ i. at (now (x .entry)) (length (now (out .entry)) - 1 - i)) ⌝ }
-{
-    let mut i = 0;
-    while i < out.len() {
-        out[i] = x[out.len() - 1 - i];
         i += 1;
     }
 }
@@ -63,7 +51,6 @@ pub fn lift(undo: bool, k: u32, amounts: &[i64], y: &mut [i64])
 {
     match k {
         0 => lift_by(undo, 0, amounts, y),
-        28 => lift_by(undo, 28, amounts, y),
         29 => lift_by(undo, 29, amounts, y),
         30 => lift_by(undo, 30, amounts, y),
         31 => lift_by(undo, 31, amounts, y),
@@ -131,18 +118,6 @@ pub fn widen(x: &[i32], out: &mut [i64])
     let mut i = 0;
     while i < x.len() {
         out[i] = x[i] as i64;
-        i += 1;
-    }
-}
-
-// The numbers from the place last on towards the first, each as an i64.
-pub fn widen_back(x: &[i32], last: usize, out: &mut [i64])
-    requires { ⌜ (last < length (now x)) × (length (now out) ≤ last + 1) ⌝ }
-    ensures { λ _. ⌜ now (out .exit) ≡ places (length (now (out .entry))) (λ i. at (now (x .entry)) (last - i)) ⌝ }
-{
-    let mut i = 0;
-    while i < out.len() {
-        out[i] = x[last - i] as i64;
         i += 1;
     }
 }

@@ -1,83 +1,39 @@
 -- `lifting::folding::fold` meets its contract.
 use borrow.Author.Needs.{needs}
-use native.Mathlib.Omega.{arith}
-use mathlib.Core.Path.{_≡_, sym, ap, ap₂, subst, _∙_}
-use mathlib.Core.Bool.{false}
+use mathlib.Core.Path.{_≡_, sym, ap, _∙_}
 use mathlib.Core.List.{List}
-use Prim.Native.Nat.{ℕ, _+_, _-_}
+use Prim.Native.Nat.{ℕ}
 use lib.IntN.{ℤ}
 use lib.ListN.{length}
-use Rattle.integers.specs.Places.{places, at, Within}
-use Rattle.integers.proofs.PlaceLaws.{length-places, within-places}
+use Rattle.integers.specs.Places.{Within}
 use Rattle.tables.specs.Widths.{halfWidth}
-use Rattle.steps.proofs.Undo.{width-half}
-use Rattle.lifting.proofs.FoldLaws.{turnedA, turnedB, reversed, ends, lower-is, held-is}
+use Rattle.steps.specs.Steps.{lower, held}
+use Rattle.stages.specs.Expanded.{Halves}
+use Rattle.stages.proofs.ArrangedLaws.{no-width}
 use Rattle.lifting.proofs.folding.fold.Statement.{statement}
 use Rattle.lifting.proofs.folding.fold.Tie as tie
 
-module _ (s : tie.Start) where
-  abbrev N : ℕ
-  N = s .args .width
+-- what holds at a width that is k, and what comes of it
+module _ (s : tie.Start) (k : ℕ) (w : s .args .width ≡ k) where
+  abbrev x : List ℤ
+  x = s .args .block .now
 
-  abbrev M : ℕ
-  M = halfWidth N
+  asked : (length x ≡ k) × (Halves k (s .args .lower .now) (s .args .held .now) × Within 50000 x)
+  asked =
+      let l = s .pre .1 .1 .0 in
+      (s .pre .1 .0 ∙ w, (record { top-long = l .0 ∙ ap halfWidth w; bottom-long = l .1 ∙ ap halfWidth w }, s .pre .1 .1 .1))
 
-  abbrev block : List ℤ
-  block = s .args .block .now
+  gives : {y z : List ℤ} → (y ≡ lower k x) × (z ≡ held k x) → (y ≡ lower (s .args .width) x) × (z ≡ held (s .args .width) x)
+  gives e = (e .0 ∙ ap (λ n. lower n x) (sym w), e .1 ∙ ap (λ n. held n x) (sym w))
 
-  twice : M + M ≡ N
-  twice = width-half N (s .pre .0 .wide)
+fold-8-requires : tie.Need-fold-8-requires
+fold-8-requires c κs = asked (c .before .before .before) 8 (c .before .before .match .keys1)
 
-  low-within : Within 50000 (reversed M block)
-  low-within = within-places M 50000 _ (λ i l. s .pre .1 .1 .1 .size (M - 1 - i))
+fold-32-requires : tie.Need-fold-32-requires
+fold-32-requires c κs = asked (c .before .before .before) 32 (c .before .before .match .keys2)
 
-  ends-within : Within 50000 (ends N block)
-  ends-within = within-places M 50000 _ (λ i l. s .pre .1 .1 .1 .size (N - 1 - i))
-
--- the halves after each call
-low : (c : tie.After-widen-back) → c .widen-back .last .1 .1 .0 ≡ reversed (M (c .before .before)) (block (c .before .before))
-low c =
-    let s = c .before .before in
-    c .widen-back .ensures ∙ ap₂ (λ n h. places n (λ i. at (block s) (h - 1 - i))) (s .pre .1 .1 .0 .0) (s .pre .0 .half-is)
-
-abbrev first : tie.After-widen-back2 → tie.After-widen-back
-first c = c .before .before .before
-
-abbrev start : tie.After-widen-back2 → tie.Start
-start c = first c .before .before
-
-high : (c : tie.After-widen-back2) → c .widen-back2 .last .1 .1 .0 ≡ ends (N (start c)) (block (start c))
-high c =
-    let s = start c in
-    c .widen-back2 .ensures ∙ ap (λ n. places n (λ i. at (block s) (N s - 1 - i))) (s .pre .1 .1 .0 .1)
-
-sub-widen-back : tie.Need-sub-widen-back
-sub-widen-back c = omega (arith, c .pre .0 .half-is, c .pre .0 .wide)
-
-widen-back-requires : tie.Need-widen-back-requires
-widen-back-requires c κs =
-    let s = c .before in
-    (omega (arith, twice s, s .pre .0 .half-is, s .pre .0 .wide, s .pre .1 .0), omega (arith, s .pre .0 .half-is, s .pre .1 .1 .0 .0))
-
-sub-widen-back-2 : tie.Need-sub-widen-back-2
-sub-widen-back-2 c = let s = c .before .before .before in omega (arith, twice s, s .pre .0 .wide)
-
-widen-back-requires-2 : tie.Need-widen-back-requires-2
-widen-back-requires-2 c κs =
-    let s = c .before .before .before .before in
-    (omega (arith, twice s, s .pre .0 .wide, s .pre .1 .0), omega (arith, twice s, s .pre .1 .1 .0 .1))
-
-rotate-requires : tie.Need-rotate-requires
-rotate-requires c κs =
-    let h = c .before .before .before in
-    let l = first h in
-    let s = start h in (
-      s .pre .0 .wide,
-      (
-        record { top-long = ap length (low l) ∙ length-places _ _; bottom-long = ap length (high h) ∙ length-places _ _ },
-        (subst (Within 50000) (sym (low l)) (low-within s), subst (Within 50000) (sym (high h)) (ends-within s)),
-      ),
-    )
+fold-128-requires : tie.Need-fold-128-requires
+fold-128-requires c κs = asked (c .before .before .before) 128 (c .before .before .match .keys3)
 
 same-length : tie.Need-same-length
 same-length c = search needs
@@ -86,23 +42,45 @@ same-length-2 : tie.Need-same-length-2
 same-length-2 c = search needs
 
 returns : tie.Need-returns
-returns c =
-    let r = c .before .before in
-    let h = r .before .before .before .before in
-    let s = start h in (
-      r .rotate .ensures .0 ∙ ap₂ (turnedA (N s) false) (low (first h)) (high h) ∙ lower-is (N s) (block s),
-      r .rotate .ensures .1 ∙ ap₂ (turnedB (N s) false) (low (first h)) (high h) ∙ held-is (N s) (block s),
-    )
+returns c = gives (c .before .before .before .before .before .before) 8 (c .before .before .before .before .before .match .keys1) (c .before .before .fold-8 .ensures)
+
+same-length-3 : tie.Need-same-length-3
+same-length-3 c = search needs
+
+same-length-4 : tie.Need-same-length-4
+same-length-4 c = search needs
+
+returns-2 : tie.Need-returns-2
+returns-2 c = gives (c .before .before .before .before .before .before) 32 (c .before .before .before .before .before .match .keys2) (c .before .before .fold-32 .ensures)
+
+same-length-5 : tie.Need-same-length-5
+same-length-5 c = search needs
+
+same-length-6 : tie.Need-same-length-6
+same-length-6 c = search needs
+
+returns-3 : tie.Need-returns-3
+returns-3 c = gives (c .before .before .before .before .before .before) 128 (c .before .before .before .before .before .match .keys3) (c .before .before .fold-128 .ensures)
+
+returns-4 : tie.Need-returns-4
+returns-4 c =
+    let r = c .match .rest in
+    absurd (no-width (c .before .args .width) (r .0 .0 .1) (r .0 .1) (r .1) (c .before .pre .0 .wide))
 
 pub fold-spec : {M : Type 1} → statement M
 fold-spec =
     tie.close
     (tie.spec
-    sub-widen-back
-    widen-back-requires
-    sub-widen-back-2
-    widen-back-requires-2
-    rotate-requires
+    fold-8-requires
+    fold-32-requires
+    fold-128-requires
     same-length
     same-length-2
-    returns)
+    returns
+    same-length-3
+    same-length-4
+    returns-2
+    same-length-5
+    same-length-6
+    returns-3
+    returns-4)

@@ -1,124 +1,74 @@
 -- `lifting::folding::unfold` meets its contract.
 use borrow.Author.Needs.{needs}
-use native.Mathlib.Omega.{arith}
-use mathlib.Core.Path.{_≡_, sym, ap, _∙_}
-use mathlib.Core.List.{List, _++_}
-use Prim.Native.Nat.{ℕ, _+_, _≤_}
+use mathlib.Core.Path.{_≡_, sym, ap, subst, _∙_}
+use mathlib.Core.List.{List}
+use Prim.Native.Nat.{ℕ}
 use lib.IntN.{ℤ}
-use lib.ListN.{length, take, drop, length-drop}
-use Rattle.tables.proofs.ByWidth.{half-width-le}
-use Rattle.steps.proofs.Undo.{width-half}
-use Rattle.lifting.proofs.Parts.{part-long, front, front-long, front-le, rest-long, rest-put}
+use lib.ListN.{length}
+use Rattle.integers.specs.Places.{Within}
+use Rattle.steps.specs.Steps.{unfolded}
+use Rattle.stages.specs.Expanded.{Halves}
+use Rattle.stages.proofs.ArrangedLaws.{no-width}
 use Rattle.lifting.proofs.folding.unfold.Statement.{statement}
 use Rattle.lifting.proofs.folding.unfold.Tie as tie
 
-module _ (s : tie.Start) where
-  half-le : s .args .half ≤ 64
-  half-le = rw (s .pre .0 .half-is) (half-width-le (s .args .width))
+-- what holds at a width that is k, and what comes of it
+module _ (s : tie.Start) (k : ℕ) (w : s .args .width ≡ k) where
+  abbrev low : List ℤ
+  low = s .args .lower .now
 
-  twice : s .args .half + s .args .half ≡ length (s .args .block .now)
-  twice = rw (s .pre .0 .half-is) (width-half (s .args .width) (s .pre .0 .wide) ∙ sym (s .pre .1 .1 .0))
+  abbrev high : List ℤ
+  high = s .args .held .now
 
-  block-part : s .args .half ≡ length (take (s .args .half) (s .args .block .now))
-  block-part = part-long _ _ (omega (arith, twice))
+  asked : Halves k low high × ((length (s .args .block .now) ≡ k) × (Within 50000 low × Within 50000 high))
+  asked = (subst (λ n. Halves n low high) w (s .pre .1 .0), (s .pre .1 .1 .0 ∙ w, s .pre .1 .1 .1))
 
-room-part : (r : tie.After-of-64) → r .before .args .half ≡ length (take (r .before .args .half) (r .of-64 .result))
-room-part r = part-long _ _ (omega (arith, r .of-64 .ensures, half-le (r .before)))
+  gives : {z : List ℤ} → z ≡ unfolded k low high → z ≡ unfolded (s .args .width) low high
+  gives e = e ∙ ap (λ n. unfolded n low high) (sym w)
 
--- the halves of the block, each where it is after the call
-module _ (u : tie.After-rest2) where
-  abbrev s : tie.Start
-  s = u .before .before .before .before .before .before
+unfold-8-requires : tie.Need-unfold-8-requires
+unfold-8-requires c κs = asked (c .before .before) 8 (c .before .match .keys1)
 
-  abbrev half : ℕ
-  half = s .args .half
+unfold-32-requires : tie.Need-unfold-32-requires
+unfold-32-requires c κs = asked (c .before .before) 32 (c .before .match .keys2)
 
-  abbrev front-of : List ℤ
-  front-of = u .before .before .unfolded .last .1 .1 .1 .0
-
-  abbrev behind : List ℤ
-  behind = drop half (s .args .block .now)
-
-  abbrev rest-of : List ℤ
-  rest-of = u .before .before .unfolded .last .1 .1 .1 .1 .0
-
-  abbrev room-rest : List ℤ
-  room-rest = drop half (u .before .before .before .before .before .of-64 .result)
-
-  front-is : length front-of ≡ half
-  front-is = u .before .block .given .0 ∙ sym (block-part s)
-
-  rest-is : length rest-of ≡ half
-  rest-is = u .rest2 .given ∙ sym (room-part (u .before .before .before .before .before))
-
-of-64-requires : tie.Need-of-64-requires
-of-64-requires c κs = search needs
-
-slice-relend-prefix-unfolded : tie.Need-slice-relend-prefix-unfolded
-slice-relend-prefix-unfolded c = omega (arith, twice (c .before))
-
-slice-aggregate-unfolded : tie.Need-slice-aggregate-unfolded
-slice-aggregate-unfolded c = block-part (c .before .before)
-
-array-borrow-prefix-rest : tie.Need-array-borrow-prefix-rest
-array-borrow-prefix-rest c = omega (arith, c .before .of-64 .ensures, half-le (c .before .before))
-
-slice-aggregate-unfolded-2 : tie.Need-slice-aggregate-unfolded-2
-slice-aggregate-unfolded-2 c = room-part (c .before .before)
-
-unfolded-requires : tie.Need-unfolded-requires
-unfolded-requires c κs =
-    let z = c .before .before .before in
-    let w = z .pre .0 in
-    (w .wide, (z .pre .1 .0, (record { top-long = sym (block-part z) ∙ w .half-is; bottom-long = sym (room-part (c .before .before)) ∙ w .half-is }, z .pre .1 .1 .1)))
-
-array-share-prefix-rest : tie.Need-array-share-prefix-rest
-array-share-prefix-rest c = front-le _ (rest-of c) (room-rest c) (rest-is c)
-
-slice-aggregate-copy : tie.Need-slice-aggregate-copy
-slice-aggregate-copy c = let u = c .before in front-long _ (rest-of u) (room-rest u) (rest-is u)
-
-mul-copy : tie.Need-mul-copy
-mul-copy c = search needs
-
-sub-copy : tie.Need-sub-copy
-sub-copy c = let u = c .before in front-le _ (front-of u) (behind u) (front-is u)
-
-part-copy-start : tie.Need-part-copy-start
-part-copy-start c = let u = c .before in front-le _ (front-of u) (behind u) (front-is u)
-
-part-copy-end : tie.Need-part-copy-end
-part-copy-end c = search needs
-
-copy-requires : tie.Need-copy-requires
-copy-requires c κs =
-    let u = c .before .before in
-    sym (front-long _ (rest-of u) (room-rest u) (rest-is u)) ∙ omega (arith, twice (s u), length-drop (half u) (s u .args .block .now)) ∙ sym (rest-long (half u) (front-of u) (behind u) (front-is u))
+unfold-128-requires : tie.Need-unfold-128-requires
+unfold-128-requires c κs = asked (c .before .before) 128 (c .before .match .keys3)
 
 same-length : tie.Need-same-length
 same-length c = search needs
 
 returns : tie.Need-returns
-returns c =
-    let u = c .before .before .before .before in
-    rest-put (half u) (front-of u) (behind u) (front-is u) _ ∙ ap (λ ys. front-of u ++ ys) (c .before .copy .ensures ∙ front _ (rest-of u) (room-rest u) (rest-is u)) ∙ u .before .before .unfolded .ensures
+returns c = gives (c .before .before .before .before) 8 (c .before .before .before .match .keys1) (c .before .unfold-8 .ensures)
+
+same-length-2 : tie.Need-same-length-2
+same-length-2 c = search needs
+
+returns-2 : tie.Need-returns-2
+returns-2 c = gives (c .before .before .before .before) 32 (c .before .before .before .match .keys2) (c .before .unfold-32 .ensures)
+
+same-length-3 : tie.Need-same-length-3
+same-length-3 c = search needs
+
+returns-3 : tie.Need-returns-3
+returns-3 c = gives (c .before .before .before .before) 128 (c .before .before .before .match .keys3) (c .before .unfold-128 .ensures)
+
+returns-4 : tie.Need-returns-4
+returns-4 c =
+    let r = c .match .rest in
+    absurd (no-width (c .before .args .width) (r .0 .0 .1) (r .0 .1) (r .1) (c .before .pre .0 .wide))
 
 pub unfold-spec : {M : Type 1} → statement M
 unfold-spec =
     tie.close
     (tie.spec
-    of-64-requires
-    slice-relend-prefix-unfolded
-    slice-aggregate-unfolded
-    array-borrow-prefix-rest
-    slice-aggregate-unfolded-2
-    unfolded-requires
-    array-share-prefix-rest
-    slice-aggregate-copy
-    mul-copy
-    sub-copy
-    part-copy-start
-    part-copy-end
-    copy-requires
+    unfold-8-requires
+    unfold-32-requires
+    unfold-128-requires
     same-length
-    returns)
+    returns
+    same-length-2
+    returns-2
+    same-length-3
+    returns-3
+    returns-4)

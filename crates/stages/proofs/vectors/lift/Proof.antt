@@ -35,10 +35,7 @@ lift-by-requires-6 : tie.Need-lift-by-requires-6
 lift-by-requires-6 c κs = asked (c .before .before) (c .before .match .keys6)
 
 lift-by-requires-7 : tie.Need-lift-by-requires-7
-lift-by-requires-7 c κs = asked (c .before .before) (c .before .match .keys7)
-
-lift-by-requires-8 : tie.Need-lift-by-requires-8
-lift-by-requires-8 c κs = search needs
+lift-by-requires-7 c κs = search needs
 
 same-length : tie.Need-same-length
 same-length c = search needs
@@ -80,13 +77,7 @@ same-length-7 : tie.Need-same-length-7
 same-length-7 c = search needs
 
 returns-7 : tie.Need-returns-7
-returns-7 c = c .before .lift-by7 .ensures ∙ told (c .before .before .before .before) (c .before .before .before .match .keys7)
-
-same-length-8 : tie.Need-same-length-8
-same-length-8 c = search needs
-
-returns-8 : tie.Need-returns-8
-returns-8 c = search needs
+returns-7 c = search needs
 
 pub lift-spec : {M : Type 1} → statement M
 lift-spec =
@@ -99,7 +90,6 @@ lift-spec =
     lift-by-requires-5
     lift-by-requires-6
     lift-by-requires-7
-    lift-by-requires-8
     same-length
     returns
     same-length-2
@@ -113,6 +103,4 @@ lift-spec =
     same-length-6
     returns-6
     same-length-7
-    returns-7
-    same-length-8
-    returns-8)
+    returns-7)
