@@ -1,29 +1,37 @@
 -- What the calls give: a call that works had the numbers of a record and leaves a record whose numbers fit, and what is handed back then.
 use mathlib.Core.Path.{_≡_, refl, sym, ap, ap₂, subst, _∙_}
 use mathlib.Core.Bool.{Bool, true, false, cond}
-use mathlib.Core.List.{List, []}
-use Prim.Native.Nat.{ℕ, suc, _≤_, _<_}
+use mathlib.Core.List.{List, [], _++_}
+use Prim.Native.Nat.{ℕ, suc, _-_, _^_, _≤_, _<_}
 use native.Mathlib.Omega.{arith}
-use borrow.Author.Tests.{ltb-true, leb-true, eqb-false, eq-eqb, ne-eqb}
+use borrow.Author.Tests.{ltb-true, leb-true, eqb-true, eqb-false, eq-eqb, ne-eqb}
+use borrow.Rule.Slice.PartMut.{putMid}
 use lib.Dec.{eqb}
-use lib.IntN.{ℤ}
-use lib.ListN.{length}
+use lib.IntN.{ℤ, pos}
+use lib.ListN.{length, take, set}
+use mir.Syntax.{w64}
+use mir.Val.{toZ}
 use Rattle.tables.specs.Widths.{byWidth, halfWidth}
-use Rattle.steps.specs.Steps.{unstages}
+use Rattle.lifting.specs.Gate.{told}
+use Rattle.lifting.specs.declared.gate.Answer.the-variants.{Record}
 use Rattle.lifting.specs.declared.gate.Found.{Found}
 use Rattle.lifting.specs.declared.gate.Found.the-variants.{At, Nothing}
 use Rattle.run.specs.declared.record.Run.{Run}
-use Rattle.run.specs.Record.{blockLimit, frameLimit, zeros, opened, advanced, closed}
+use Rattle.run.specs.Record.{blockLimit, frameLimit, zeros, recordOf, nextCount, opened, closed}
 use Rattle.run.specs.Gate as Gate
 use Rattle.run.specs.Gate.{ask, askEach, admitted, sound}
-use Rattle.run.specs.Forward.{started, takenIn, taken, ended}
+use Rattle.run.specs.Forward.{started, ended}
+use Rattle.run.proofs.AskLaws.{record-refused}
 use Rattle.run.proofs.CallLaws.{every-answer}
 use Rattle.run.proofs.FaultLaws.{width-le}
-use Rattle.run_back.specs.Back.{framed, firstFrame, laterFrame, unfoldedIn, undoneIn, takenBack, endedBack}
+use Rattle.run.proofs.GateLaws.{no-width}
+use Rattle.run.proofs.PartLaws.{written-end}
+use Rattle.run.proofs.Refusals.{Same}
+use Rattle.run_back.specs.Back.{endedBack}
 use Rattle.lapped.specs.Record.{runLength, isRecord, packed, unpacked}
 use Rattle.lapped.specs.Ready.{Packable}
 use Rattle.lapped.specs.Calls.{Given, kept, handed, lappedStart}
-use Rattle.lapped.proofs.RecordLaws.{has-room, no-record}
+use Rattle.lapped.proofs.RecordLaws.{has-room, no-record, number, packed-unpacked}
 
 -- ---- a sound record is one of 67 numbers, and its own fit
 module _ (numbers : List ℤ) (top : ℕ) (s : sound top (unpacked numbers) ≡ true) where
@@ -40,7 +48,7 @@ module _ (numbers : List ℤ) (top : ℕ) (s : sound top (unpacked numbers) ≡ 
   room true e = has-room numbers e
   room false e = absurd (let h : 0 < halfWidth 0 = subst (λ r. 0 < halfWidth (r .width)) (sym (no-record numbers (zeros 64) refl e)) wide in omega (arith, h))
 
-  fits : top ≤ frameLimit → (run : Run) → run .width ≡ unpacked numbers .width → run .count ≤ suc (unpacked numbers .count) → Packable run numbers
+  fits : top ≤ frameLimit → (run : Run) → run .width ≡ unpacked numbers .width → run .count ≤ unpacked numbers .count → Packable run numbers
   fits t run w c =
       record { narrow = omega (arith, width-le (unpacked numbers .width) wide); few = omega (arith, few); room = room (isRecord numbers) refl }
 
@@ -59,47 +67,19 @@ module _ {numbers : List ℤ} (n : ℕ) where
   asked-each (At place) run out next h = record { packable = λ e. absurd (omega (arith, e)) }
   asked-each Nothing run out next h = h
 
--- 2, 3, 4, 6 and 7
-admits : (numbers : List ℤ) (top : ℕ) (given out : List ℤ) (next : Gate.Given) → (sound top (unpacked numbers) ≡ true → Works numbers next)
-    → Works numbers (admitted top (unpacked numbers) given out next)
-unfolding admitted
-admits numbers top given out next h =
-    asked _ _ _ _ _ (λ s. asked _ _ _ _ _ (λ _. asked _ _ _ _ _ (λ _. asked _ _ _ _ _ (λ _. asked _ _ _ _ _ (λ _. h s)))))
-
 module _ (numbers : List ℤ) where
   abbrev run : Run
   run = unpacked numbers
 
   module _ (top : ℕ) (t : top ≤ frameLimit) (s : sound top run ≡ true) where
-    advances : (block out : List ℤ) → Works numbers ((0, 0), advanced run block, out)
-    unfolding advanced opened
-    advances block out = record { packable = λ _. fits numbers top s t (advanced run block) refl (omega arith) }
-
-    frames : (folded out : List ℤ) → Works numbers ((0, 0), framed run folded, out)
-    unfolding framed opened
-    frames folded out = record { packable = λ _. fits numbers top s t (framed run folded) refl (omega arith) }
-
     closes : (out : List ℤ) → Works numbers ((0, 0), closed run, out)
     unfolding closed
     closes out = record { packable = λ _. fits numbers top s t (closed run) refl (omega arith) }
 
-  -- ---- the four calls that are given a record
-  pub take-works : (block out : List ℤ) → taken run block out .0 .0 ≡ 0 → Packable (taken run block out .1) numbers
-  unfolding taken takenIn
-  take-works block out = admits numbers blockLimit block out _ (λ s. asked-each _ _ _ _ _ (asked-each _ _ _ _ _ (advances blockLimit (omega arith) s block _))) .packable
-
+  -- ---- the two finishes
   pub finish-works : (out : List ℤ) → ended run out .0 .0 ≡ 0 → Packable (ended run out .1) numbers
   unfolding ended
   finish-works out = asked _ _ _ _ _ (λ s. asked _ _ _ _ _ (λ _. asked _ _ _ _ _ (λ _. closes blockLimit (omega arith) s _))) .packable
-
-  unfolds : sound frameLimit run ≡ true → (first : Bool) (folded out : List ℤ) → Works numbers (cond first (firstFrame run folded out) (laterFrame run folded out))
-  unfolding firstFrame laterFrame
-  unfolds s true folded out = asked-each _ _ _ _ _ (frames frameLimit (omega arith) s folded _)
-  unfolds s false folded out = asked-each _ _ _ _ _ (frames frameLimit (omega arith) s folded _)
-
-  pub back-take-works : (frame out : List ℤ) → takenBack run frame out .0 .0 ≡ 0 → Packable (takenBack run frame out .1) numbers
-  unfolding takenBack undoneIn unfoldedIn
-  back-take-works frame out = admits numbers frameLimit frame out _ (λ s. asked-each _ _ _ _ _ (asked-each _ _ _ _ _ (unfolds s (eqb (run .count) 0) (unstages (run .width) frame) out))) .packable
 
   pub back-finish-works : endedBack run .0 .0 ≡ 0 → Packable (endedBack run .1) numbers
   unfolding endedBack
@@ -123,6 +103,54 @@ pub handed-is : (numbers after out : List ℤ) (a answer : ℕ × ℕ) (run : Ru
     → (answer, run, out) ≡ given → (a, after, out) ≡ handed numbers given
 unfolding handed
 handed-is numbers after out a answer run given p q e = ap₂ (λ (x : ℕ × ℕ) (y : List ℤ). (x, y, out)) p q ∙ ap (handed numbers) e
+
+-- ---- a call in place
+-- numbers that are no record
+pub no-call : (numbers : List ℤ) (top : ℕ) (given out : List ℤ) (next : Gate.Given) (a : ℕ × ℕ) → isRecord numbers ≡ false → a ≡ told Record
+    → (a, numbers, out) ≡ handed numbers (admitted top (unpacked numbers) given out next)
+unfolding admitted told halfWidth byWidth
+no-call numbers top given out next a e p =
+    let run = unpacked numbers in
+    let none : halfWidth (run .width) ≡ 0 = ap (λ (r : Run). halfWidth (r .width)) (sym (no-record numbers (zeros 64) refl e)) in
+    handed-is numbers numbers out a (told Record) run _ p (kept-refused numbers 2 run (λ z. omega arith)) (record-refused top run out _ (sym (no-width top run none)))
+
+pub next-fits : (number count : ℕ) → (number ≡ 0 → count < frameLimit) → count < 2 ^ 63 → nextCount number count < 2 ^ 63
+unfolding nextCount
+next-fits number count h l = by (eqb number 0) refl
+  where
+    by : (b : Bool) → eqb number 0 ≡ b → cond b (suc count) count < 2 ^ 63
+    by true e = let k = h (eqb-true number 0 e) in omega arith
+    by false e = l
+
+module _ (numbers : List ℤ) (r : isRecord numbers ≡ true) (answer a : ℕ × ℕ) (held out : List ℤ) (p : a ≡ answer) where
+  -- the record that a call on `run` hands back
+  abbrev after : Run → Run
+  after run = recordOf (run .width) (nextCount (answer .0) (run .count)) held (run .finished)
+
+  -- the count is stored before the held values
+  stored : set (putMid 3 (length numbers - 3) numbers held) 1 (pos (after (unpacked numbers) .count)) ≡ packed (after (unpacked numbers))
+  unfolding packed
+  stored =
+      let run = unpacked numbers in
+      ap (λ (l : List ℤ). set l 1 (pos (after run .count))) (written-end 3 numbers held (omega (arith, has-room numbers r)) ∙ ap (λ (l : List ℤ). take 3 l ++ held) (sym (packed-unpacked numbers r)))
+
+  kept-is : (given : Gate.Given) → Same (unpacked numbers) given → (answer, after (unpacked numbers), out) ≡ given → packed (after (unpacked numbers)) ≡ kept (answer .0) (after (unpacked numbers)) numbers
+  kept-is given s e = by (eqb (answer .0) 0) refl
+    where
+      by : (b : Bool) → eqb (answer .0) 0 ≡ b → packed (after (unpacked numbers)) ≡ kept (answer .0) (after (unpacked numbers)) numbers
+      by true z = kept-worked numbers _ _ (eqb-true _ 0 z)
+      by false z =
+          let n = eqb-false (answer .0) 0 z in
+          ap packed (ap (λ (g : Gate.Given). g .1) e ∙ s .same (λ d. n (ap (λ (g : Gate.Given). g .0 .0) e ∙ d))) ∙ packed-unpacked numbers r ∙ kept-refused numbers _ _ n
+
+  module _ (call : Run → Gate.Given) (s : Same (unpacked numbers) (call (unpacked numbers))) (run : Run) (is : run ≡ unpacked numbers) (e : (answer, after run, out) ≡ call run) where
+    pub called : (n : ℕ) → n ≡ after run .count → n < 2 ^ 63 → (a, set (putMid 3 (length numbers - 3) numbers held) 1 (toZ w64 n), out) ≡ handed numbers (call (unpacked numbers))
+    called n c f =
+        let count = ap (λ (r : Run). nextCount (answer .0) (r .count)) is in
+        let given = ap (λ (r : Run). (answer, after r, out)) (sym is) ∙ e ∙ ap call is in
+        handed-is numbers _ out a answer (after (unpacked numbers)) _ p
+        (ap (λ (v : ℤ). set (putMid 3 (length numbers - 3) numbers held) 1 v) (number n f ∙ ap pos (c ∙ count)) ∙ stored ∙ kept-is _ s given)
+        given
 
 -- ---- a fresh start
 module _ (N : ℕ) (numbers : List ℤ) where

@@ -9,7 +9,7 @@ use lib.Dec.{T, eqb, ltb, leb}
 use lib.IntN.{ℤ, pos, negsuc, natAbs}
 use lib.ListN.{length, getD, take, drop, set, length-set, length-drop}
 use lib.Seq.{take-all}
-use lib.Signed.{ltZ, nonNeg}
+use lib.Signed.{mag, ltZ, nonNeg}
 use mir.Syntax.{w64}
 use mir.Val.{toZ, ofZ, boolByte}
 use borrow.Rule.Slice.PartMut.{putMid}
@@ -105,8 +105,28 @@ module _ (numbers : List ℤ) where
   unfolding unpacked
   some-record w c held p q h e = rw (e, p, q, h, rest numbers (has-room numbers e), finished (at numbers 2) (flag numbers e))
 
+-- the record as the code reads it
+abbrev pub asRead : List ℤ → Run
+asRead numbers = record {
+  width = natAbs (toZ w64 (ofZ w64 (at numbers 0)));
+  count = natAbs (toZ w64 (ofZ w64 (at numbers 1)));
+  held = take (length numbers - 3) (drop 3 numbers);
+  finished = eqb (ofZ w64 (at numbers 2)) 1;
+}
+
+small : (x : ℤ) → T (nonNeg x) → mag x < 2 ^ 63 → natAbs x < 2 ^ 63
+small (pos n) e h = h
+small (negsuc n) e h = absurd e
+
+module _ (numbers : List ℤ) (r : isRecord numbers ≡ true) (w : mag (at numbers 0) < 2 ^ 63) (c : mag (at numbers 1) < 2 ^ 63) where
+  pub read-is : asRead numbers ≡ unpacked numbers
+  read-is = some-record numbers _ _ _ (held-ok w64 _ w .is) (held-ok w64 _ c .is) refl r
+
+  pub count-small : asRead numbers .count < 2 ^ 63
+  count-small = rw (held-ok w64 _ c .is) (small (at numbers 1) (has-count numbers r) c)
+
 -- ---- packing
-number : (n : ℕ) → n < 2 ^ 63 → toZ w64 n ≡ pos n
+pub number : (n : ℕ) → n < 2 ^ 63 → toZ w64 n ≡ pos n
 number n h = held-ok w64 (pos n) h .is
 
 bit : (b : Bool) → toZ w64 (boolByte b) ≡ pos (cond b 1 0)

@@ -7,6 +7,7 @@ use crate::record;
 use lifting::gate;
 use lifting::gate::Answer;
 use run::forward;
+use run::in_place;
 use run_back::back;
 
 // A fresh run of a width, either way.
@@ -37,8 +38,20 @@ pub extern "C" fn lapped_take(
 ) -> u32
     ensures { λ r. ⌜ ((r, now (place .exit)), now (run .exit), now (frame .exit)) ≡ lappedTake (now (run .entry)) (now (block .entry)) (now (frame .entry)) ⌝ }
 {
-    let outcome = forward::take(record::unpack(run), block, frame);
-    answer::hand_back(outcome, run, place)
+    if !record::is_record(run) {
+        return answer::tell(Answer::Record, place);
+    }
+    let count = run[1] as usize;
+    let answer = in_place::take(
+        run[0] as usize,
+        count,
+        run[2] == 1,
+        &mut run[3..],
+        block,
+        frame,
+    );
+    run[1] = in_place::next_count(count, answer) as i64;
+    answer::tell(answer, place)
 }
 
 // Finish: the frame of the last block's held half.
@@ -60,8 +73,20 @@ pub extern "C" fn lapped_back_take(
 ) -> u32
     ensures { λ r. ⌜ ((r, now (place .exit)), now (run .exit), now (block .exit)) ≡ lappedBackTake (now (run .entry)) (now (frame .entry)) (now (block .entry)) ⌝ }
 {
-    let outcome = back::take(record::unpack(run), frame, block);
-    answer::hand_back(outcome, run, place)
+    if !record::is_record(run) {
+        return answer::tell(Answer::Record, place);
+    }
+    let count = run[1] as usize;
+    let answer = run_back::in_place::take(
+        run[0] as usize,
+        count,
+        run[2] == 1,
+        &mut run[3..],
+        frame,
+        block,
+    );
+    run[1] = in_place::next_count(count, answer) as i64;
+    answer::tell(answer, place)
 }
 
 // Finish back: the run is closed.

@@ -17,7 +17,7 @@ fn copy(x: &[i64], out: &mut [i64])
     }
 }
 
-fn is_record(numbers: &[i64]) -> bool
+pub fn is_record(numbers: &[i64]) -> bool
     ensures { λ r. ⌜ r ≡ isRecord (now (numbers .entry)) ⌝ }
 {
     if numbers.len() != 67 {

@@ -5,11 +5,13 @@ use mathlib.Core.List.{List, [], _∷_, _++_}
 use Prim.Native.Nat.{ℕ, zero, suc, _+_, _-_, _*_, _≤_, _<_}
 use native.Mathlib.Nat.{mul-le-mul-right}
 use native.Mathlib.Omega.{arith}
+use lib.Dec.{lit≤}
 use lib.IntN.{ℤ}
 use lib.ListN.{length, take, drop, length-append, length-drop}
 use lib.Seq.{length-take-le, drop-drop}
-use Rattle.tables.specs.Widths.{halfWidth}
+use Rattle.tables.specs.Widths.{byWidth, halfWidth}
 use Rattle.tables.proofs.ByWidth.{half-width-le}
+use Rattle.stages.specs.Expanded.{Width}
 use Rattle.lifting.specs.Gate.{first, beyond, firstBeyond}
 use Rattle.lifting.specs.declared.gate.Found.{Found}
 use Rattle.lifting.specs.declared.gate.Found.the-variants.{At, Nothing}
@@ -62,6 +64,10 @@ width-le N w = omega (arith, width-half N w, half-width-le N)
 
 pub width-pos : (N : ℕ) → 0 < halfWidth N → 0 < N
 width-pos N w = omega (arith, width-half N w)
+
+pub width-8 : Width 8 4
+unfolding halfWidth byWidth
+width-8 = record { half-is = refl; wide = lit≤ tt }
 
 -- room for a width, and for half of it
 pub width-room : (N : ℕ) (xs : List ℤ) → 0 < halfWidth N → 128 ≡ length xs → N ≤ length xs

@@ -8,6 +8,7 @@ pub mod FirstRefusal
 pub mod WholeLaws
 pub mod Cases
 pub mod ReadyLaws
+pub mod Refusals
 pub mod AskLaws
 pub mod FaultLaws
 pub mod PartLaws

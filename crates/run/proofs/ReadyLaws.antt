@@ -2,7 +2,7 @@
 use mathlib.Core.Path.{_≡_, refl, sym, ap, ap₂, _∙_}
 use mathlib.Core.Bool.{Bool, true, false}
 use mathlib.Core.List.{List, [], _∷_, _++_}
-use Prim.Native.Nat.{ℕ, zero, suc, _+_, _-_, _≤_, _<_}
+use Prim.Native.Nat.{ℕ, zero, suc, _-_, _≤_, _<_}
 use native.Mathlib.Omega.{arith}
 use borrow.Author.Tests.{ltb-true, leb-true}
 use lib.IntN.{ℤ, pos}
@@ -19,7 +19,7 @@ use Rattle.steps.specs.Steps.{held, frame}
 use Rattle.steps.proofs.Undo.{length-held}
 use Rattle.distance.proofs.ZeroBlock.{zero-block}
 use Rattle.run.specs.declared.record.Run.{Run}
-use Rattle.run.specs.Record.{frameLimit, zeros, filled, opened, advanced}
+use Rattle.run.specs.Record.{frameLimit, zeros, recordOf, filled, opened, advanced}
 use Rattle.run.specs.Gate.{inside, sound}
 use Rattle.run.specs.Forward.{frameOn}
 use Rattle.run.specs.Ready.{Ready}
@@ -79,11 +79,9 @@ module _ (run : Run) (half : ℕ) (ready : Ready run half) where
       ∙ stored-opened N half (run .count) (run .held) (take half (run .held)) rest-zero (length-take-le half (run .held) l ∙ ready .good .half-is) (run .held) (sym (take-append-drop half (run .held)))
 
   module _ (block : List ℤ) where
-    pub advanced-is : (xs : List ℤ) → xs ≡ held N block ++ drop half (run .held) → record { width = N; count = run .count + 1; held = xs; finished = false } ≡ advanced run block
+    pub advanced-is : run .finished ≡ false → (xs : List ℤ) → xs ≡ held N block ++ drop half (run .held) → recordOf N (suc (run .count)) xs (run .finished) ≡ advanced run block
     unfolding advanced
-    advanced-is xs e =
-        let c : run .count + 1 ≡ suc (run .count) = omega arith in
-        ap (λ (n : ℕ). record { width = N; count = n; held = xs; finished = false }) c ∙ stored-opened N half (suc (run .count)) (run .held) (held N block) rest-zero (length-held N block) xs e
+    advanced-is o xs e = ap (recordOf N (suc (run .count)) xs) o ∙ stored-opened N half (suc (run .count)) (run .held) (held N block) rest-zero (length-held N block) xs e
 
     pub frame-on : frame N (take half (run .held)) block ≡ frameOn run block
     unfolding frameOn

@@ -1,7 +1,8 @@
 -- The run record: document 01, "Widths, readings, frames".
-use mathlib.Core.Bool.{true, false}
+use mathlib.Core.Bool.{Bool, true, false, cond}
 use mathlib.Core.List.{List, _++_}
 use Prim.Native.Nat.{ℕ, suc, _-_}
+use lib.Dec.{eqb}
 use lib.IntN.{ℤ, pos}
 use lib.ListN.{length, replicate}
 use Rattle.steps.specs.Steps.{held}
@@ -17,6 +18,14 @@ frameLimit = 65537
 
 abbrev pub zeros : ℕ → List ℤ
 zeros n = replicate n (pos 0)
+
+-- the record of a width, a count, held values and whether the run is finished
+abbrev pub recordOf : ℕ → ℕ → List ℤ → Bool → Run
+recordOf N count held finished = record { width = N; count = count; held = held; finished = finished }
+
+-- the count after a call that answers this number: one more where it has worked
+unfoldable pub nextCount : ℕ → ℕ → ℕ
+nextCount number count = cond (eqb number 0) (suc count) count
 
 -- a list of held values, with zeros up to 64 of them
 unfoldable pub filled : List ℤ → List ℤ

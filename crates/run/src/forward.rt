@@ -1,14 +1,12 @@
 // A run forward, call by call, for any caller: the record goes in by value and comes back with the answer.
 ghost use mathlib.Core.Path.{_≡_};
 ghost use lib.ListN.{length};
-ghost use Rattle.integers.specs.Places.{Within};
-ghost use Rattle.steps.specs.Limits.{readingLimit};
 ghost use Rattle.lifting.specs.Gate.{told};
-ghost use Rattle.run.specs.Record.{zeros, advanced, closed};
+ghost use Rattle.run.specs.Record.{zeros, closed};
 ghost use Rattle.run.specs.Ready.{Ready};
-ghost use Rattle.run.specs.Forward.{started, frameOn, takenIn, taken, ended};
+ghost use Rattle.run.specs.Forward.{started, frameOn, taken, ended};
 use crate::gate;
-use crate::gate::Fault;
+use crate::in_place;
 use crate::record;
 use crate::record::Outcome;
 use crate::record::Run;
@@ -45,54 +43,6 @@ pub fn start(width: usize) -> Outcome
     }
 }
 
-fn advance(run: Run, half: usize, block: &[i32], frame: &mut [i32]) -> Run
-    requires { ⌜ Ready run half ⌝ }
-    requires { ⌜ (length (now block) ≡ run .width) × (length (now frame) ≡ run .width) ⌝ }
-    requires { ⌜ Within readingLimit (now block) ⌝ }
-    ensures { λ r. ⌜ (r ≡ advanced run (now (block .entry))) × (now (frame .exit) ≡ frameOn run (now (block .entry))) ⌝ }
-{
-    let width = run.width;
-    let mut held = run.held;
-    let mut folded = room::of_128();
-    step::step(
-        width,
-        half,
-        block,
-        &mut held[..half],
-        &mut folded[..width],
-        frame,
-    );
-    Run {
-        width: width,
-        count: run.count + 1,
-        held: held,
-        finished: false,
-    }
-}
-
-// Questions 8 and 9, then the block's frame.
-fn take_in(run: Run, half: usize, block: &[i32], frame: &mut [i32]) -> Outcome
-    requires { ⌜ Ready run half ⌝ }
-    requires { ⌜ (length (now block) ≡ run .width) × (length (now frame) ≡ run .width) ⌝ }
-    ensures { λ r. ⌜ (told (r .answer), r .run, now (frame .exit)) ≡ takenIn run (now (block .entry)) (now (frame .entry)) ⌝ }
-{
-    let fault = gate::fault_of(block);
-    match fault {
-        Fault::Dead(place) => Outcome {
-            run: run,
-            answer: Answer::DeadMark(place),
-        },
-        Fault::Beyond(place) => Outcome {
-            run: run,
-            answer: Answer::Range(place),
-        },
-        Fault::Clear => Outcome {
-            run: advance(run, half, block, frame),
-            answer: Answer::Done,
-        },
-    }
-}
-
 fn close(run: Run, half: usize, frame: &mut [i32]) -> Run
     requires { ⌜ Ready run half ⌝ }
     requires { ⌜ length (now frame) ≡ run .width ⌝ }
@@ -122,38 +72,17 @@ fn close(run: Run, half: usize, frame: &mut [i32]) -> Run
 pub fn take(run: Run, block: &[i32], frame: &mut [i32]) -> Outcome
     ensures { λ r. ⌜ (told (r .answer), r .run, now (frame .exit)) ≡ taken run (now (block .entry)) (now (frame .entry)) ⌝ }
 {
-    let width = run.width;
-    if !gate::sound(65536, run) {
-        return Outcome {
-            run: run,
-            answer: Answer::Record,
-        };
+    let mut held = run.held;
+    let answer = in_place::take(run.width, run.count, run.finished, &mut held, block, frame);
+    Outcome {
+        run: Run {
+            width: run.width,
+            count: in_place::next_count(run.count, answer),
+            held: held,
+            finished: run.finished,
+        },
+        answer: answer,
     }
-    if run.finished {
-        return Outcome {
-            run: run,
-            answer: Answer::Closed,
-        };
-    }
-    if run.count == 65536 {
-        return Outcome {
-            run: run,
-            answer: Answer::Full,
-        };
-    }
-    if block.len() != width {
-        return Outcome {
-            run: run,
-            answer: Answer::InputLength,
-        };
-    }
-    if frame.len() != width {
-        return Outcome {
-            run: run,
-            answer: Answer::OutputLength,
-        };
-    }
-    take_in(run, widths::half_width(width), block, frame)
 }
 
 // Finish: the frame of the last block's held half.

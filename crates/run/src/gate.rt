@@ -1,10 +1,11 @@
 // The gate's questions about a run record and about the readings of a block.
 ghost use mathlib.Core.Path.{_≡_};
-ghost use Prim.Native.Nat.{_≤_, _<_, _^_};
+ghost use Prim.Native.Nat.{_%_, _≤_, _<_, _^_};
 ghost use lib.IntN.{pos, natAbs};
 ghost use lib.ListN.{length};
 ghost use lib.Signed.{_≤ℤ_};
 ghost use Rattle.steps.specs.Limits.{readingLimit};
+ghost use Rattle.run.specs.Record.{recordOf};
 ghost use Rattle.run.specs.Gate.{firstDead};
 ghost use Rattle.run.specs.Faults.{faultOf};
 use crate::record::Run;
@@ -32,28 +33,55 @@ fn inside(x: &[i64], limit: i64) -> bool
     true
 }
 
+// Whether every number is zero, four at a time.
+fn clear(x: &[i64]) -> bool
+    requires { ⌜ length (now x) % 4 ≡ 0 ⌝ }
+    ensures { λ r. ⌜ r ≡ Rattle.run.specs.Gate.inside (pos 0) (now (x .entry)) ⌝ }
+{
+    let mut i = 0;
+    while i < x.len() {
+        let a = x[i];
+        let b = x[i + 1];
+        let c = x[i + 2];
+        let d = x[i + 3];
+        if a != 0 || b != 0 || c != 0 || d != 0 {
+            return false;
+        }
+        i += 4;
+    }
+    true
+}
+
+// Question 2, where the held values of the record are lent.
+pub fn sound_held(top: usize, width: usize, count: usize, finished: bool, held: &[i64]) -> bool
+    requires { ⌜ length (now held) ≡ 64 ⌝ }
+    ensures { λ r. ⌜ r ≡ Rattle.run.specs.Gate.sound top (recordOf width count (now (held .entry)) finished) ⌝ }
+{
+    let half = widths::half_width(width);
+    if half == 0 {
+        return false;
+    }
+    if top < count {
+        return false;
+    }
+    if !clear(&held[half..]) {
+        return false;
+    }
+    if count == 0 {
+        return clear(&held[..half]);
+    }
+    if finished {
+        return clear(&held[..half]);
+    }
+    inside(&held[..half], 50000)
+}
+
 // Question 2.
 pub fn sound(top: usize, run: Run) -> bool
     ensures { λ r. ⌜ r ≡ Rattle.run.specs.Gate.sound top run ⌝ }
 {
-    let half = widths::half_width(run.width);
-    if half == 0 {
-        return false;
-    }
-    if top < run.count {
-        return false;
-    }
     let held = run.held;
-    if !inside(&held[half..], 0) {
-        return false;
-    }
-    if run.count == 0 {
-        return inside(&held[..half], 0);
-    }
-    if run.finished {
-        return inside(&held[..half], 0);
-    }
-    inside(&held[..half], 50000)
+    sound_held(top, run.width, run.count, run.finished, &held)
 }
 
 fn first_dead(x: &[i64]) -> Found

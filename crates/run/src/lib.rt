@@ -1,6 +1,7 @@
-// A run of blocks. `forward` and `whole` are for any caller; `gate` is for the way back, and requires what it says.
+// A run of blocks. `forward` and `whole` are for any caller; `gate` and `in_place` require what they say.
 pub mod forward;
 pub mod gate;
+pub mod in_place;
 pub mod record;
 mod step;
 pub mod whole;

@@ -5,6 +5,7 @@ use mathlib.Core.List.{List, [], _∷_}
 use Prim.Native.Nat.{ℕ, suc, _+_}
 use native.Mathlib.Nat.{add-suc, add-zero}
 use borrow.Author.Tests.{eq-eqb, ne-eqb}
+use lib.Dec.{eqb}
 use lib.IntN.{ℤ, pos}
 use lib.ListN.{length, take, drop}
 use Rattle.tables.specs.Widths.{halfWidth}
@@ -15,12 +16,14 @@ use Rattle.lifting.specs.Gate.{first, firstBeyond}
 use Rattle.lifting.specs.declared.gate.Found.{Found}
 use Rattle.lifting.specs.declared.gate.Found.the-variants.{At, Nothing}
 use Rattle.run.specs.declared.record.Run.{Run}
-use Rattle.run.specs.Record.{opened}
+use Rattle.run.specs.Record.{nextCount, opened}
 use Rattle.run.specs.Gate.{askEach, firstOut}
 use Rattle.run.proofs.RecordLaws.{take-filled}
+use Rattle.run.proofs.Refusals.{Same, same-done, same-each, same-admitted}
+use Rattle.run_back.specs.declared.undo.Fault.{Fault}
 use Rattle.run_back.specs.declared.undo.Fault.the-variants.{Range, Folded, Halves, Unfolded, Clear}
 use Rattle.run_back.specs.Faults.{toldFault, countAfter}
-use Rattle.run_back.specs.Back.{framed, blockOn, firstUpper, firstFrame, laterFrame, unfoldedIn, undoneIn}
+use Rattle.run_back.specs.Back.{framed, blockOn, firstUpper, firstFrame, laterFrame, unfoldedIn, undoneIn, takenBack}
 
 pub length-block : (run : Run) (folded : List ℤ) → length (blockOn run folded) ≡ run .width
 unfolding blockOn
@@ -111,3 +114,21 @@ module _ (N count : ℕ) (low frame out : List ℤ) where
     pub folded-passed : firstBeyond (pos foldedLimit) (unstages N frame) 0 ≡ Nothing → unfoldedIn asked (unstages N frame) out ≡ undoneIn asked frame out
     unfolding undoneIn askEach opened
     folded-passed d = rw (e, d)
+
+-- ---- the count, by the answer's number
+pub count-told : (count : ℕ) (f : Fault) → nextCount (toldFault f .0) count ≡ countAfter count f
+unfolding nextCount toldFault countAfter
+count-told count (Range place) = refl
+count-told count (Folded place) = refl
+count-told count (Halves place) = refl
+count-told count (Unfolded place) = refl
+count-told count Clear = refl
+
+-- ---- a refusal hands back the same record
+pub same-taken-back : (run : Run) (frame out : List ℤ) → Same run (takenBack run frame out)
+unfolding takenBack undoneIn unfoldedIn firstFrame laterFrame
+same-taken-back run frame out = same-admitted _ run frame out _ (same-each 9 out _ (same-each 10 out _ (by (eqb (run .count) 0))))
+  where
+    by : (b : Bool) → Same run (cond b (firstFrame run (unstages (run .width) frame) out) (laterFrame run (unstages (run .width) frame) out))
+    by true = same-each 11 out _ same-done
+    by false = same-each 12 out _ same-done

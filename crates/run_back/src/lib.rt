@@ -1,4 +1,5 @@
-// A run back to its readings. `back` and `whole` are for any caller; `undo` requires what it says.
+// A run back to its readings. `back` and `whole` are for any caller; `in_place` and `undo` require what they say.
 pub mod back;
+pub mod in_place;
 pub mod undo;
 pub mod whole;

@@ -1,0 +1,155 @@
+-- `run::gate::sound_held` meets its contract.
+use borrow.Author.Needs.{needs}
+use borrow.Author.Tests.{not-true, not-false}
+use native.Mathlib.Omega.{arith}
+use mathlib.Core.Path.{_≡_, refl, sym, ap, _∙_}
+use mathlib.Core.List.{List}
+use Prim.Native.Nat.{ℕ, _-_, _%_, _≤_}
+use lib.IntN.{ℤ, pos}
+use lib.ListN.{length, take, drop, length-drop}
+use Rattle.tables.specs.Widths.{halfWidth}
+use Rattle.tables.proofs.ByWidth.{half-width-le}
+use Rattle.lifting.proofs.Parts.{part-long}
+use Rattle.run.specs.declared.record.Run.{Run}
+use Rattle.run.specs.Record.{recordOf}
+use Rattle.run.specs.Gate.{inside}
+use Rattle.run.proofs.GateLaws.{half-fours, rest-part, no-width, no-count, rest-held, none-taken, run-over, run-open}
+use Rattle.run.proofs.gate.sound_held.Statement.{statement}
+use Rattle.run.proofs.gate.sound_held.Tie as tie
+
+abbrev run : tie.Start → Run
+run s = recordOf (s .args .width) (s .args .count) (s .args .held .now) (s .args .finished)
+
+module _ (e : tie.Else1) where
+  abbrev start : tie.Start
+  start = e .before .before
+
+  abbrev N : ℕ
+  N = start .args .width
+
+  abbrev held : List ℤ
+  held = start .args .held .now
+
+  abbrev half : ℕ
+  half = e .before .half-width .result
+
+  has-width : halfWidth N ≡ 0 → ⊥
+  has-width h = e .if1 .left (e .before .half-width .ensures ∙ h)
+
+  half-le : half ≤ length held
+  half-le = omega (arith, start .pre, e .before .half-width .ensures, half-width-le N)
+
+  front-is : (limit : ℤ) → inside limit (take half held) ≡ inside limit (take (halfWidth N) held)
+  front-is limit = ap (λ (n : ℕ). inside limit (take n held)) (e .before .half-width .ensures)
+
+  front-fours : length (take half held) % 4 ≡ 0
+  front-fours = omega (arith, part-long half held half-le, e .before .half-width .ensures, half-fours N)
+
+  rest-is : take (length held - half) (drop half held) ≡ drop (halfWidth N) held
+  rest-is = rest-part (length held) half _ held refl (e .before .half-width .ensures)
+
+  rest-fours : length (take (length held - half) (drop half held)) % 4 ≡ 0
+  rest-fours = omega (arith, ap length rest-is ∙ length-drop (halfWidth N) held, start .pre, half-fours N, half-width-le N)
+
+-- what the places from half on are found to be
+module _ (i : tie.After-clear) where
+  abbrev counted : tie.Else2
+  counted = i .before .before
+
+  abbrev first : tie.Else1
+  first = counted .before
+
+  rest-seen : inside (pos 0) (drop (halfWidth (N first)) (held first)) ≡ i .clear .result
+  rest-seen = sym (i .clear .ensures ∙ ap (inside (pos 0)) (rest-is first))
+
+half-width-requires : tie.Need-half-width-requires
+half-width-requires c κs = search needs
+
+returns : tie.Need-returns
+returns c = let s = c .before .before in no-width (s .args .top) (run s) (sym (c .before .half-width .ensures) ∙ c .if1 .taken)
+
+returns-2 : tie.Need-returns-2
+returns-2 c = let e = c .before in no-count (start e .args .top) (run (start e)) (has-width e) (c .if2 .taken)
+
+mul-clear : tie.Need-mul-clear
+mul-clear c = record { fits = omega (arith, half-le (c .before), start (c .before) .pre) }
+
+sub-clear : tie.Need-sub-clear
+sub-clear c = half-le (c .before)
+
+part-clear-start : tie.Need-part-clear-start
+part-clear-start c = half-le (c .before)
+
+part-clear-end : tie.Need-part-clear-end
+part-clear-end c = search needs
+
+clear-requires : tie.Need-clear-requires
+clear-requires c κs = rest-fours (c .before .before)
+
+returns-3 : tie.Need-returns-3
+returns-3 c =
+    let i = c .before in
+    let e = first i in
+    rest-held (start e .args .top) (run (start e)) (has-width e) (counted i .if2 .left) (rest-seen i ∙ not-true _ (c .if3 .taken))
+
+slice-aggregate-clear : tie.Need-slice-aggregate-clear
+slice-aggregate-clear c = let e = first (c .before .before .before) in part-long _ (held e) (half-le e)
+
+clear-requires-2 : tie.Need-clear-requires-2
+clear-requires-2 c κs = front-fours (first (c .before .before .before))
+
+returns-4 : tie.Need-returns-4
+returns-4 c =
+    let f = c .before .before .before in
+    let i = f .before in
+    let e = first i in
+    c .clear2 .ensures ∙ front-is e _ ∙ none-taken (start e .args .top) (run (start e)) (has-width e) (counted i .if2 .left) (rest-seen i ∙ not-false _ (f .if3 .left)) (c .before .before .if4 .taken)
+
+slice-aggregate-clear-2 : tie.Need-slice-aggregate-clear-2
+slice-aggregate-clear-2 c = let e = first (c .before .before .before .before) in part-long _ (held e) (half-le e)
+
+clear-requires-3 : tie.Need-clear-requires-3
+clear-requires-3 c κs = front-fours (first (c .before .before .before .before))
+
+returns-5 : tie.Need-returns-5
+returns-5 c =
+    let f = c .before .before .before .before in
+    let i = f .before in
+    let e = first i in
+    c .clear3 .ensures ∙ front-is e _ ∙ run-over (start e .args .top) (run (start e)) (has-width e) (counted i .if2 .left) (rest-seen i ∙ not-false _ (f .if3 .left)) (c .before .before .before .if4 .left) (c .before .before .if5 .taken)
+
+slice-aggregate-inside : tie.Need-slice-aggregate-inside
+slice-aggregate-inside c = let e = first (c .before .before .before .before) in part-long _ (held e) (half-le e)
+
+inside-requires : tie.Need-inside-requires
+inside-requires c κs = search needs
+
+returns-6 : tie.Need-returns-6
+returns-6 c =
+    let f = c .before .before .before .before in
+    let i = f .before in
+    let e = first i in
+    c .inside .ensures ∙ front-is e _ ∙ run-open (start e .args .top) (run (start e)) (has-width e) (counted i .if2 .left) (rest-seen i ∙ not-false _ (f .if3 .left)) (c .before .before .before .if4 .left) (c .before .before .if5 .left)
+
+pub sound-held-spec : {M : Type 1} → statement M
+sound-held-spec =
+    tie.close
+    (tie.spec
+    half-width-requires
+    returns
+    returns-2
+    mul-clear
+    sub-clear
+    part-clear-start
+    part-clear-end
+    clear-requires
+    returns-3
+    slice-aggregate-clear
+    clear-requires-2
+    returns-4
+    slice-aggregate-clear-2
+    clear-requires-3
+    returns-5
+    slice-aggregate-inside
+    inside-requires
+    returns-6)

@@ -1,0 +1,85 @@
+// Taking a block where the held values of the record are lent, and stay where they lie.
+ghost use mathlib.Core.Path.{_≡_};
+ghost use Prim.Native.Nat.{_<_};
+ghost use lib.ListN.{length};
+ghost use Rattle.integers.specs.Places.{Within};
+ghost use Rattle.tables.specs.Widths.{halfWidth};
+ghost use Rattle.stages.specs.Expanded.{Width};
+ghost use Rattle.steps.specs.Limits.{readingLimit, foldedLimit};
+ghost use Rattle.steps.specs.Steps.{held, frame};
+ghost use Rattle.lifting.specs.Gate.{told};
+ghost use Rattle.run.specs.Record.{recordOf, nextCount};
+ghost use Rattle.run.specs.Forward.{taken};
+use crate::gate;
+use crate::gate::Fault;
+use crate::step;
+use lifting::gate::Answer;
+use stages::room;
+use tables::widths;
+
+// Room is cleared for the width alone: at width 8, room for 128 costs as much as the step.
+fn step_in(width: usize, half: usize, block: &[i32], held: &mut [i64], frame: &mut [i32])
+    requires { ⌜ Width width half ⌝ }
+    requires { ⌜ (length (now block) ≡ width) × (length (now held) ≡ halfWidth width) × (length (now frame) ≡ width) ⌝ }
+    requires { ⌜ Within foldedLimit (now held) ⌝ }
+    requires { ⌜ Within readingLimit (now block) ⌝ }
+    ensures { λ _. ⌜ (now (held .exit) ≡ Rattle.steps.specs.Steps.held width (now (block .entry))) × (now (frame .exit) ≡ Rattle.steps.specs.Steps.frame width (now (held .entry)) (now (block .entry))) ⌝ }
+{
+    if width == 8 {
+        let mut folded = [0; 8];
+        step::step(8, 4, block, held, &mut folded, frame);
+        return;
+    }
+    let mut folded = room::of_128();
+    step::step(width, half, block, held, &mut folded[..width], frame);
+}
+
+// The record is handed back in the held values and, where the call has worked, in one more of the count.
+pub fn take(
+    width: usize,
+    count: usize,
+    finished: bool,
+    held: &mut [i64],
+    block: &[i32],
+    frame: &mut [i32],
+) -> Answer
+    requires { ⌜ length (now held) ≡ 64 ⌝ }
+    ensures { λ r. ⌜ (told r, recordOf width (nextCount (told r .0) count) (now (held .exit)) finished, now (frame .exit)) ≡ taken (recordOf width count (now (held .entry)) finished) (now (block .entry)) (now (frame .entry)) ⌝ }
+{
+    if !gate::sound_held(65536, width, count, finished, held) {
+        return Answer::Record;
+    }
+    if finished {
+        return Answer::Closed;
+    }
+    if count == 65536 {
+        return Answer::Full;
+    }
+    if block.len() != width {
+        return Answer::InputLength;
+    }
+    if frame.len() != width {
+        return Answer::OutputLength;
+    }
+    let fault = gate::fault_of(block);
+    match fault {
+        Fault::Dead(place) => Answer::DeadMark(place),
+        Fault::Beyond(place) => Answer::Range(place),
+        Fault::Clear => {
+            let half = widths::half_width(width);
+            step_in(width, half, block, &mut held[..half], frame);
+            Answer::Done
+        }
+    }
+}
+
+// The count after a call that gave this answer.
+pub fn next_count(count: usize, answer: Answer) -> usize
+    requires { ⌜ (told answer .0 ≡ 0 → count < 65537) ⌝ }
+    ensures { λ r. ⌜ r ≡ nextCount (told answer .0) count ⌝ }
+{
+    if lifting::gate::number(answer) != 0 {
+        return count;
+    }
+    count + 1
+}
