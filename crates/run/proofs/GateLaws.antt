@@ -1,11 +1,11 @@
 -- What the tests of the code decide of the gate's questions.
-use mathlib.Core.Path.{_≡_, refl, sym, ap, subst, _∙_}
+use mathlib.Core.Path.{_≡_, refl, sym, ap, _∙_}
 use mathlib.Core.Bool.{Bool, true, false, _&&_, and-false}
 use mathlib.Core.List.{List, [], _∷_}
-use Prim.Native.Nat.{ℕ, _+_, _-_, _%_, _≤_, _<_, zero-le}
+use Prim.Native.Nat.{ℕ, _-_, _≤_, _<_, zero-le}
 use native.Mathlib.Omega.{arith}
-use borrow.Author.Count.{below-more}
 use borrow.Author.Tests.{eq-eqb, ne-eqb, lt-ltb, le-ltb, le-leb, lt-leb}
+use lib.Bits.{bitOr, or-add-and, and-le-l, and-le-r}
 use lib.IntN.{ℤ, pos, negsuc, natAbs}
 use lib.ListN.{length, take, drop, length-drop, take-append-drop}
 use lib.Seq.{take-all}
@@ -15,7 +15,6 @@ use Rattle.integers.proofs.Order.{natAbs-zero}
 use Rattle.integers.proofs.PlaceLaws.{within-all, within-up}
 use Rattle.integers.proofs.Products.{all-append, all-getD}
 use Rattle.tables.specs.Widths.{halfWidth}
-use Rattle.tables.proofs.ByWidth.{at-each}
 use Rattle.steps.specs.Limits.{readingLimit, foldedLimit}
 use Rattle.lifting.specs.Gate.{firstBeyond}
 use Rattle.lifting.specs.declared.gate.Found.the-variants.{At, Nothing}
@@ -52,27 +51,20 @@ unfolding inside nothing
 within limit xs e = ap nothing e
 
 -- ---- whether every number is zero
-pub not-clear : (xs : List ℤ) (k : ℕ) → (at xs k ≡ pos 0 → ⊥) → inside (pos 0) xs ≡ false
+pub not-clear : (xs : List ℤ) → (((k : ℕ) → at xs k ≡ pos 0) → ⊥) → inside (pos 0) xs ≡ false
 unfolding inside
-not-clear xs k h = by (inside (pos 0) xs) refl
+not-clear xs h = by (inside (pos 0) xs) refl
   where
     by : (b : Bool) → inside (pos 0) xs ≡ b → b ≡ false
-    by true e = absurd (h (natAbs-zero _ (omega (arith, within-all 0 xs (all-inside 0 xs e) .size k))))
+    by true e = absurd (h (λ k. natAbs-zero _ (omega (arith, within-all 0 xs (all-inside 0 xs e) .size k))))
     by false e = refl
 
 pub all-clear : (xs : List ℤ) → ((k : ℕ) → k < length xs → at xs k ≡ pos 0) → inside (pos 0) xs ≡ true
 all-clear xs h = inside-all 0 xs (all-getD 0 xs (λ k l. let e = ap natAbs (h k l) in omega arith))
 
-pub below-four : (P : ℕ → Type 0) (i : ℕ) → ((k : ℕ) → k < i → P k) → P i → P (i + 1) → P (i + 2) → P (i + 3) → (k : ℕ) → k < i + 4 → P k
-below-four P i h a b c d k l =
-    let two : i + 2 ≡ i + 1 + 1 = omega arith in
-    let three : i + 3 ≡ i + 1 + 1 + 1 = omega arith in
-    below-more P _ (below-more P _ (below-more P _ (below-more P i h a) b) (subst P two c)) (subst P three d) k (omega arith)
-
--- both parts of the held values are fours
-pub half-fours : (n : ℕ) → halfWidth n % 4 ≡ 0
-unfolding halfWidth
-half-fours = at-each (λ n m. m % 4 ≡ 0) 4 16 64 0 refl refl refl (λ n x y z. refl)
+-- bits of two numbers together
+pub no-bits : (a b : ℕ) → bitOr a b ≡ 0 → (a ≡ 0) × (b ≡ 0)
+no-bits a b e = (omega (arith, e, or-add-and a b, and-le-r a b), omega (arith, e, or-add-and a b, and-le-l a b))
 
 -- ---- question 2, test by test
 -- the part that the code lends, up to the end, is the rest of the list

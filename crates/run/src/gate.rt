@@ -33,23 +33,17 @@ fn inside(x: &[i64], limit: i64) -> bool
     true
 }
 
-// Whether every number is zero, four at a time.
+// Whether every number is zero. The bits of all are gathered without a branch, which the machine does two numbers at a time.
 fn clear(x: &[i64]) -> bool
-    requires { ⌜ length (now x) % 4 ≡ 0 ⌝ }
     ensures { λ r. ⌜ r ≡ Rattle.run.specs.Gate.inside (pos 0) (now (x .entry)) ⌝ }
 {
+    let mut any: i64 = 0;
     let mut i = 0;
     while i < x.len() {
-        let a = x[i];
-        let b = x[i + 1];
-        let c = x[i + 2];
-        let d = x[i + 3];
-        if a != 0 || b != 0 || c != 0 || d != 0 {
-            return false;
-        }
-        i += 4;
+        any = any | x[i];
+        i += 1;
     }
-    true
+    any == 0
 }
 
 // Question 2, where the held values of the record are lent.

@@ -4,16 +4,15 @@ use borrow.Author.Tests.{not-true, not-false}
 use native.Mathlib.Omega.{arith}
 use mathlib.Core.Path.{_≡_, refl, sym, ap, _∙_}
 use mathlib.Core.List.{List}
-use Prim.Native.Nat.{ℕ, _-_, _%_, _≤_}
+use Prim.Native.Nat.{ℕ, _-_, _≤_}
 use lib.IntN.{ℤ, pos}
-use lib.ListN.{length, take, drop, length-drop}
+use lib.ListN.{length, take, drop}
 use Rattle.tables.specs.Widths.{halfWidth}
 use Rattle.tables.proofs.ByWidth.{half-width-le}
-use Rattle.lifting.proofs.Parts.{part-long}
 use Rattle.run.specs.declared.record.Run.{Run}
 use Rattle.run.specs.Record.{recordOf}
 use Rattle.run.specs.Gate.{inside}
-use Rattle.run.proofs.GateLaws.{half-fours, rest-part, no-width, no-count, rest-held, none-taken, run-over, run-open}
+use Rattle.run.proofs.GateLaws.{rest-part, no-width, no-count, rest-held, none-taken, run-over, run-open}
 use Rattle.run.proofs.gate.sound_held.Statement.{statement}
 use Rattle.run.proofs.gate.sound_held.Tie as tie
 
@@ -42,14 +41,8 @@ module _ (e : tie.Else1) where
   front-is : (limit : ℤ) → inside limit (take half held) ≡ inside limit (take (halfWidth N) held)
   front-is limit = ap (λ (n : ℕ). inside limit (take n held)) (e .before .half-width .ensures)
 
-  front-fours : length (take half held) % 4 ≡ 0
-  front-fours = omega (arith, part-long half held half-le, e .before .half-width .ensures, half-fours N)
-
   rest-is : take (length held - half) (drop half held) ≡ drop (halfWidth N) held
   rest-is = rest-part (length held) half _ held refl (e .before .half-width .ensures)
-
-  rest-fours : length (take (length held - half) (drop half held)) % 4 ≡ 0
-  rest-fours = omega (arith, ap length rest-is ∙ length-drop (halfWidth N) held, start .pre, half-fours N, half-width-le N)
 
 -- what the places from half on are found to be
 module _ (i : tie.After-clear) where
@@ -84,7 +77,7 @@ part-clear-end : tie.Need-part-clear-end
 part-clear-end c = search needs
 
 clear-requires : tie.Need-clear-requires
-clear-requires c κs = rest-fours (c .before .before)
+clear-requires c κs = search needs
 
 returns-3 : tie.Need-returns-3
 returns-3 c =
@@ -96,7 +89,7 @@ slice-aggregate-clear : tie.Need-slice-aggregate-clear
 slice-aggregate-clear c = let e = first (c .before .before .before) in part-long _ (held e) (half-le e)
 
 clear-requires-2 : tie.Need-clear-requires-2
-clear-requires-2 c κs = front-fours (first (c .before .before .before))
+clear-requires-2 c κs = search needs
 
 returns-4 : tie.Need-returns-4
 returns-4 c =
@@ -109,7 +102,7 @@ slice-aggregate-clear-2 : tie.Need-slice-aggregate-clear-2
 slice-aggregate-clear-2 c = let e = first (c .before .before .before .before) in part-long _ (held e) (half-le e)
 
 clear-requires-3 : tie.Need-clear-requires-3
-clear-requires-3 c κs = front-fours (first (c .before .before .before .before))
+clear-requires-3 c κs = search needs
 
 returns-5 : tie.Need-returns-5
 returns-5 c =
