@@ -15,3 +15,4 @@ pub mod PlacedLaws
 pub mod LoopLaws
 pub mod Undoing
 pub mod OverlayLaws
+pub mod LaidLaws

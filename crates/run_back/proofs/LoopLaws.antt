@@ -143,6 +143,10 @@ module _ (N b : ℕ) (frames out : List ℤ) (l : length frames / N ≡ suc b) w
   unfolding firstAnswer
   first-yes = here-taken N b (started N .1) frames (zeros N ++ out) l given 0
 
+  pub first-no : (first .0 .0 ≡ 0 → ⊥) → placed N 0 (first .0) ≡ firstAnswer N frames out
+  unfolding firstAnswer
+  first-no = answer-here N b (started N .1) frames (zeros N ++ out) l given 0
+
   module _ (after : Run) (r : after ≡ first .1) where
     pub first-behind : first .0 .0 ≡ 0 → firstAnswer N frames out ≡ answerFrom N (0 + N) after b (drop N frames) out
     unfolding firstAnswer
