@@ -173,39 +173,6 @@ fn blocks_before(
     }
 }
 
-// The first frame writes nothing.
-fn readings_of(width: usize, half: usize, frames: &[i32], readings: &mut [i32])
-    requires { ⌜ half ≡ halfWidth width ⌝ }
-    requires { ⌜ Frames width (now frames) ⌝ }
-    requires { ⌜ length (now readings) + width ≡ length (now frames) ⌝ }
-    requires { ⌜ firstAnswer width (now frames) (now readings) .0 ≡ 0 ⌝ }
-    ensures { λ _. ⌜ now (readings .exit) ≡ drop width (allOutputs width (now (frames .entry)) (now (readings .entry))) ⌝ }
-{
-    let mut held = record::nothing_held();
-    let mut folded = room::of_128();
-    let mut wide = room::of_128();
-    let mut block = spare();
-    undo::undo(
-        width,
-        half,
-        0,
-        &frames[..width],
-        &mut held[..half],
-        &mut folded[..width],
-        &mut wide[..width],
-        &mut block[..width],
-    );
-    blocks_before(
-        width,
-        half,
-        &frames[width..],
-        &mut held[..half],
-        &mut folded[..width],
-        &mut wide[..width],
-        readings,
-    );
-}
-
 // The first frame of a fresh run, which writes nothing; what it holds for the next one.
 fn first_frame(width: usize, half: usize, frame: &[i32], held: &mut [i64]) -> Answer
     requires { ⌜ Width width half ⌝ }
@@ -227,6 +194,28 @@ fn first_frame(width: usize, half: usize, frame: &[i32], held: &mut [i64]) -> An
         &mut block[..width],
     );
     placed(width, 0, back::answered(fault))
+}
+
+fn readings_of(width: usize, half: usize, frames: &[i32], readings: &mut [i32])
+    requires { ⌜ half ≡ halfWidth width ⌝ }
+    requires { ⌜ Frames width (now frames) ⌝ }
+    requires { ⌜ length (now readings) + width ≡ length (now frames) ⌝ }
+    requires { ⌜ firstAnswer width (now frames) (now readings) .0 ≡ 0 ⌝ }
+    ensures { λ _. ⌜ now (readings .exit) ≡ drop width (allOutputs width (now (frames .entry)) (now (readings .entry))) ⌝ }
+{
+    let mut held = record::nothing_held();
+    first_frame(width, half, &frames[..width], &mut held[..half]);
+    let mut folded = room::of_128();
+    let mut wide = room::of_128();
+    blocks_before(
+        width,
+        half,
+        &frames[width..],
+        &mut held[..half],
+        &mut folded[..width],
+        &mut wide[..width],
+        readings,
+    );
 }
 
 // The frames that follow the first one, each block laid over the output. What stood there stays the lower part.

@@ -20,7 +20,7 @@ use Rattle.run.proofs.ReadyLaws.{none-held}
 use Rattle.run_back.specs.Back.{takenBack}
 use Rattle.run_back.specs.Whole.{placed, answerFrom, outputsFrom, firstAnswer, allOutputs}
 use Rattle.run_back.specs.Overlay.{upper}
-use Rattle.run_back.proofs.LoopLaws.{one-frame, one-block-less, rest-count, rest-blocks, first-no, first-behind, outputs-behind}
+use Rattle.run_back.proofs.LoopLaws.{one-frame, one-block-less, rest-blocks, first-no, answer-left, outputs-left}
 use Rattle.run_back.proofs.LaidLaws.{ones-refused, ones-done}
 use Rattle.run_back.proofs.whole.one_pass.Statement.{statement}
 use Rattle.run_back.proofs.whole.one_pass.Tie as tie
@@ -125,18 +125,15 @@ module _ (c : tie.After-laid-over) where
 
   answer-is : told (c .laid-over .result) ≡ firstAnswer (N source) (frames source) (out source)
   answer-is =
-      let z : N source ≡ 0 + N source = omega arith in
       c .laid-over .ensures .0
       ∙ ap₂ (λ (k l : List ℤ). answerFrom (N source) (N source) (opened (N source) 1 k) (length l / N source) l (out source)) (stored (done (going room))) (rest source)
-      ∙ ap₂ (λ (d n : ℕ). answerFrom (N source) d (opened (N source) 1 low) n (drop (N source) (frames source)) (out source)) z (rest-count (N source) (frames source) (out source) (source .pre .1 .0) (source .pre .1 .1 .0))
-      ∙ sym (first-behind (N source) _ (frames source) (out source) (count source) (opened (N source) 1 low) (after (going room)) (taken (going room)))
+      ∙ answer-left (N source) (frames source) (out source) (source .pre .1 .0) (source .pre .1 .1 .0) (opened (N source) 1 low) (after (going room)) (taken (going room))
 
   outputs-are : told (c .laid-over .result) .0 ≡ 0 → map upper (c .laid-over .last .1 .1 .1 .1 .1 .1 .1 .0) ≡ drop (N source) (allOutputs (N source) (frames source) (out source))
   outputs-are z =
       c .laid-over .ensures .1 .1 z
       ∙ ap₂ (λ (k l : List ℤ). outputsFrom (N source) (opened (N source) 1 k) (length l / N source) l (out source)) (stored (done (going room))) (rest source)
-      ∙ ap (λ (n : ℕ). outputsFrom (N source) (opened (N source) 1 low) n (drop (N source) (frames source)) (out source)) (rest-count (N source) (frames source) (out source) (source .pre .1 .0) (source .pre .1 .1 .0))
-      ∙ sym (outputs-behind (N source) _ (frames source) (out source) (count source) (opened (N source) 1 low) (after (going room)))
+      ∙ outputs-left (N source) (frames source) (out source) (source .pre .1 .0) (source .pre .1 .1 .0) (opened (N source) 1 low) (after (going room))
 
 nothing-held-requires : tie.Need-nothing-held-requires
 nothing-held-requires c κs = search needs
