@@ -1,18 +1,17 @@
 -- Two numbers of 16 bits in one of 32, by their parts; and lists of such numbers.
-use mathlib.Core.Path.{_≡_, refl, sym, ap, ap₂, subst, _∙_}
+use mathlib.Core.Path.{_≡_, refl, sym, ap, ap₂, _∙_}
 use mathlib.Core.Bool.{Bool, true, false, _&&_, true≢false}
-use mathlib.Core.List.{List, [], _∷_, _++_, map, map-append}
-use Prim.Native.Nat.{ℕ, zero, suc, _+_, _-_, _^_, _≤_, _<_}
+use mathlib.Core.List.{List, [], _∷_, map}
+use Prim.Native.Nat.{ℕ, zero, suc, _+_, _^_, _≤_, _<_}
 use native.Mathlib.Numerals.{add-one}
 use native.Mathlib.Omega.{arith}
 use borrow.Author.Tests.{lt-ltb, le-ltb, ltb-true}
-use borrow.Rule.Slice.PartMut.{putMid, put-same}
 use lib.Dec.{ltb}
 use lib.IntN.{ℤ, pos, negsuc, natAbs, _+ℤ_, _-ℤ_, _*ℤ_}
-use lib.ListN.{length, getD, take, drop, length-map}
+use lib.ListN.{length, take, drop, length-map}
 use lib.Seq.{drop-cons, drop-length}
 use lib.Signed.{mag, quotZ, ltZ, _≤ℤ_, _<ℤ_, ltZ-yes}
-use Rattle.integers.specs.Floor.{above, floorDiv}
+use Rattle.integers.specs.Floor.{above}
 use Rattle.integers.specs.Places.{places, at}
 use Rattle.integers.proofs.Differences.{dif, zs, zb}
 use Rattle.integers.proofs.Order.{lt-left}

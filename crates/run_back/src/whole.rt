@@ -196,6 +196,7 @@ fn first_frame(width: usize, half: usize, frame: &[i32], held: &mut [i64]) -> An
     placed(width, 0, back::answered(fault))
 }
 
+// The readings of a run that is accepted.
 fn readings_of(width: usize, half: usize, frames: &[i32], readings: &mut [i32])
     requires { ⌜ half ≡ halfWidth width ⌝ }
     requires { ⌜ Frames width (now frames) ⌝ }

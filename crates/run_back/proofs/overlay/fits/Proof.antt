@@ -2,13 +2,13 @@
 use borrow.Author.Needs.{needs}
 use native.Mathlib.Omega.{arith}
 use mathlib.Core.Path.{_≡_, refl, sym, _∙_}
-use Prim.Native.Nat.{ℕ, _≤_, _-_}
-use lib.IntN.{ℤ, pos, negsuc}
+use Prim.Native.Nat.{_≤_, _-_}
+use lib.IntN.{pos, negsuc}
 use lib.ListN.{length, drop}
 use mir.Syntax.{w32}
 use mir.Val.{ofZ}
 use Rattle.integers.specs.Places.{at}
-use Rattle.integers.proofs.Held.{Held, held, held-ok, h-lt}
+use Rattle.integers.proofs.Held.{Held, held-ok, h-lt}
 use Rattle.run_back.specs.Overlay.{short}
 use Rattle.run_back.proofs.OverlayLaws.{above-here, below-here, short-next, short-end}
 use Rattle.run_back.proofs.overlay.fits.Statement.{statement}

@@ -38,6 +38,12 @@ module _ (s : tie.Start Inv-loop μ-loop) where
   own : (i : ℕ) → i < length out → lower (at out i) ≡ at out i
   own = at-lower out (s .pre .1 .1)
 
+  reading : (i : ℕ) → Num w32 readingLimit (ofZ w32 (at block i)) (at block i)
+  reading i = num w32 _ (s .pre .1 .0 .size i) tt
+
+  raised : (i : ℕ) → Num w32 (65536 * readingLimit) (ofZ w32 (pos 65536 *ℤ toZ w32 (ofZ w32 (at block i)))) (pos 65536 *ℤ at block i)
+  raised i = num-mul (num-lit w32 65536 tt) (reading i) tt
+
 module _ (c : tie.After-out Inv-loop μ-loop) where
   abbrev turn : tie.In-loop Inv-loop μ-loop
   turn = c .before
@@ -47,12 +53,6 @@ module _ (c : tie.After-out Inv-loop μ-loop) where
 
   abbrev i : ℕ
   i = turn .before .loop .i
-
-  reading : Num w32 readingLimit (ofZ w32 (at (block from) i)) (at (block from) i)
-  reading = num w32 _ (from .pre .1 .0 .size i) tt
-
-  raised : Num w32 (65536 * readingLimit) (ofZ w32 (pos 65536 *ℤ toZ w32 (ofZ w32 (at (block from) i)))) (pos 65536 *ℤ at (block from) i)
-  raised = num-mul (num-lit w32 65536 tt) reading tt
 
 number : (c : tie.After-out2 Inv-loop μ-loop) → Num w32 32768 (ofZ w32 (at (turn (c .before) .before .loop .out) (i (c .before)))) (at (out (from (c .before))) (i (c .before)))
 number c =
@@ -72,7 +72,7 @@ shared-slice-copy-out-out : tie.Need-shared-slice-copy-out-out Inv-loop μ-loop
 shared-slice-copy-out-out c = omega (arith, c .before .before .pre .0)
 
 mul-out-2 : tie.Need-mul-out-2 Inv-loop μ-loop
-mul-out-2 c = mul-asks (num-lit w32 65536 tt) (reading c) tt
+mul-out-2 c = mul-asks (num-lit w32 65536 tt) (reading (from c) _) tt
 
 mul-out-3 : tie.Need-mul-out-3 Inv-loop μ-loop
 mul-out-3 c = search needs
@@ -81,7 +81,7 @@ slice-copy-out-out : tie.Need-slice-copy-out-out Inv-loop μ-loop
 slice-copy-out-out c = omega arith
 
 add-out : tie.Need-add-out Inv-loop μ-loop
-add-out c = add-asks (raised (c .before)) (number c) tt
+add-out c = add-asks (raised (from (c .before)) _) (number c) tt
 
 mul-t13 : tie.Need-mul-t13 Inv-loop μ-loop
 mul-t13 c = search needs
@@ -96,7 +96,7 @@ loop-less : tie.Need-loop-less Inv-loop μ-loop
 loop-less c = omega arith
 
 loop-again : tie.Need-loop-again Inv-loop μ-loop
-loop-again c = (omega arith, filling-next (turn (c .before) .before .loop .inv .1) (num-add (raised (c .before)) (number c) tt .holds .is))
+loop-again c = (omega arith, filling-next (turn (c .before) .before .loop .inv .1) (num-add (raised (from (c .before)) _) (number c) tt .holds .is))
 
 same-length : tie.Need-same-length Inv-loop μ-loop
 same-length c = omega arith

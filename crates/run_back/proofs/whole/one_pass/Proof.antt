@@ -7,7 +7,6 @@ use Prim.Native.Nat.{ℕ, suc, _+_, _-_, _/_, _≤_}
 use lib.IntN.{ℤ, pos}
 use lib.ListN.{length, take, drop, length-drop, length-replicate}
 use Rattle.integers.specs.Places.{Within}
-use Rattle.tables.specs.Widths.{halfWidth}
 use Rattle.steps.specs.Limits.{foldedLimit}
 use Rattle.lifting.specs.Gate.{told}
 use Rattle.lifting.proofs.Parts.{part-long, front, front-long, front-le}
