@@ -14,3 +14,5 @@ pub mod EndLaws
 pub mod PlacedLaws
 pub mod LoopLaws
 pub mod Undoing
+pub mod OverlayLaws
+pub mod LaidLaws

@@ -1,5 +1,5 @@
 -- The calls of a whole run back, one by one: the answer of the calls left, and their outputs.
-use mathlib.Core.Path.{_≡_, refl, sym, ap, _∙_}
+use mathlib.Core.Path.{_≡_, refl, sym, ap, ap₂, _∙_}
 use mathlib.Core.Bool.{Bool, true, false, cond}
 use mathlib.Core.List.{List, [], _++_, append-assoc, append-nil}
 use Prim.Native.Nat.{ℕ, zero, suc, _+_, _-_, _*_, _/_, _%_, _≤_, _<_}
@@ -54,7 +54,7 @@ module _ (N : ℕ) (frames out : List ℤ) (f : Frames N frames) (r : length out
   rest-long : length (drop N frames) ≡ length out
   rest-long = omega (arith, length-drop N frames, r)
 
-  pub rest-count : length (drop N frames) / N ≡ length out / N
+  rest-count : length (drop N frames) / N ≡ length out / N
   rest-count = ap (λ (n : ℕ). n / N) rest-long
 
   -- the frames behind the first one
@@ -143,6 +143,10 @@ module _ (N b : ℕ) (frames out : List ℤ) (l : length frames / N ≡ suc b) w
   unfolding firstAnswer
   first-yes = here-taken N b (started N .1) frames (zeros N ++ out) l given 0
 
+  pub first-no : (first .0 .0 ≡ 0 → ⊥) → placed N 0 (first .0) ≡ firstAnswer N frames out
+  unfolding firstAnswer
+  first-no = answer-here N b (started N .1) frames (zeros N ++ out) l given 0
+
   module _ (after : Run) (r : after ≡ first .1) where
     pub first-behind : first .0 .0 ≡ 0 → firstAnswer N frames out ≡ answerFrom N (0 + N) after b (drop N frames) out
     unfolding firstAnswer
@@ -153,3 +157,13 @@ module _ (N b : ℕ) (frames out : List ℤ) (l : length frames / N ≡ suc b) w
     outputs-behind =
         ap (drop N) (outputs-next N b (started N .1) frames (zeros N ++ out) l given)
         ∙ rw (r, first-kept (started N .1) (take N frames) (zeros N) (started-count N), drop-at (zeros N) out N (length-replicate N (pos 0))) (drop-at (zeros N) _ N (length-replicate N (pos 0)))
+
+-- ---- and with readings that are one block less, the frames behind the first as the code counts them
+module _ (N : ℕ) (frames out : List ℤ) (f : Frames N frames) (r : length out + N ≡ length frames) (after : Run) (e : after ≡ takenBack (started N .1) (take N frames) (zeros N) .1) where
+  pub answer-left : takenBack (started N .1) (take N frames) (zeros N) .0 .0 ≡ 0 → answerFrom N N after (length (drop N frames) / N) (drop N frames) out ≡ firstAnswer N frames out
+  answer-left z =
+      let d : N ≡ 0 + N = omega arith in
+      ap₂ (λ (d n : ℕ). answerFrom N d after n (drop N frames) out) d (rest-count N frames out f r) ∙ sym (first-behind N _ frames out (one-block-less N frames out f r) after e z)
+
+  pub outputs-left : outputsFrom N after (length (drop N frames) / N) (drop N frames) out ≡ drop N (allOutputs N frames out)
+  outputs-left = ap (λ (n : ℕ). outputsFrom N after n (drop N frames) out) (rest-count N frames out f r) ∙ sym (outputs-behind N _ frames out (one-block-less N frames out f r) after e)

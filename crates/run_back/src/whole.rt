@@ -1,18 +1,25 @@
 // A whole run back over lent slices, for any caller.
 ghost use mathlib.Core.Path.{_≡_};
+ghost use mathlib.Core.List.{map};
 ghost use Prim.Native.Nat.{_+_, _-_, _/_, _≤_};
 ghost use lib.IntN.{pos};
 ghost use lib.ListN.{length, drop};
 ghost use Rattle.integers.specs.Places.{Within};
 ghost use Rattle.tables.specs.Widths.{halfWidth};
 ghost use Rattle.steps.specs.Limits.{foldedLimit};
+ghost use Rattle.stages.specs.Expanded.{Width};
 ghost use Rattle.lifting.specs.Gate.{told, firstBeyond};
 ghost use Rattle.run.specs.Record.{zeros, opened};
+ghost use Rattle.run.specs.Forward.{started};
 ghost use Rattle.run.specs.Ready.{Blocks};
+ghost use Rattle.run_back.specs.Back.{takenBack};
 ghost use Rattle.run_back.specs.Faults.{toldHeld};
-ghost use Rattle.run_back.specs.Whole.{answerFrom, outputsFrom, firstAnswer, allOutputs, wholeBack};
+ghost use Rattle.run_back.specs.Overlay.{upper, lower};
+ghost use Rattle.run_back.specs.Whole;
+ghost use Rattle.run_back.specs.Whole.{answerFrom, outputsFrom, firstAnswer, allOutputs, oneByOne, wholeBack};
 ghost use Rattle.run_back.specs.Ready.{Frames};
 use crate::back;
+use crate::overlay;
 use crate::undo;
 use lifting::gate;
 use lifting::gate::Answer;
@@ -24,7 +31,7 @@ use tables::widths;
 // An answer with its place counted through the run; 12 counts by blocks.
 fn placed(width: usize, offset: usize, answer: Answer) -> Answer
     requires { ⌜ (offset ≤ 8388736) × (told answer .1 ≤ 128) ⌝ }
-    ensures { λ r. ⌜ told r ≡ Rattle.run_back.specs.Whole.placed width offset (told answer) ⌝ }
+    ensures { λ r. ⌜ told r ≡ Whole.placed width offset (told answer) ⌝ }
 {
     match answer {
         Answer::DeadMark(i) => Answer::DeadMark(offset + i),
@@ -166,7 +173,30 @@ fn blocks_before(
     }
 }
 
-// The first frame writes nothing.
+// The first frame of a fresh run, which writes nothing; what it holds for the next one.
+fn first_frame(width: usize, half: usize, frame: &[i32], held: &mut [i64]) -> Answer
+    requires { ⌜ Width width half ⌝ }
+    requires { ⌜ (length (now frame) ≡ width) × (now held ≡ zeros (halfWidth width)) ⌝ }
+    ensures { λ r. ⌜ told r ≡ Whole.placed width 0 (takenBack (started width .1) (now (frame .entry)) (zeros width) .0) ⌝ }
+    ensures { λ r. ⌜ (told r .0 ≡ 0 → (opened width 1 (now (held .exit)) ≡ takenBack (started width .1) (now (frame .entry)) (zeros width) .1) × Within foldedLimit (now (held .exit))) ⌝ }
+{
+    let mut folded = room::of_128();
+    let mut wide = room::of_128();
+    let mut block = spare();
+    let fault = undo::undo(
+        width,
+        half,
+        0,
+        frame,
+        held,
+        &mut folded[..width],
+        &mut wide[..width],
+        &mut block[..width],
+    );
+    placed(width, 0, back::answered(fault))
+}
+
+// The readings of a run that is accepted.
 fn readings_of(width: usize, half: usize, frames: &[i32], readings: &mut [i32])
     requires { ⌜ half ≡ halfWidth width ⌝ }
     requires { ⌜ Frames width (now frames) ⌝ }
@@ -175,19 +205,9 @@ fn readings_of(width: usize, half: usize, frames: &[i32], readings: &mut [i32])
     ensures { λ _. ⌜ now (readings .exit) ≡ drop width (allOutputs width (now (frames .entry)) (now (readings .entry))) ⌝ }
 {
     let mut held = record::nothing_held();
+    first_frame(width, half, &frames[..width], &mut held[..half]);
     let mut folded = room::of_128();
     let mut wide = room::of_128();
-    let mut block = spare();
-    undo::undo(
-        width,
-        half,
-        0,
-        &frames[..width],
-        &mut held[..half],
-        &mut folded[..width],
-        &mut wide[..width],
-        &mut block[..width],
-    );
     blocks_before(
         width,
         half,
@@ -197,6 +217,87 @@ fn readings_of(width: usize, half: usize, frames: &[i32], readings: &mut [i32])
         &mut wide[..width],
         readings,
     );
+}
+
+// The frames that follow the first one, each block laid over the output. What stood there stays the lower part.
+fn laid_over(
+    width: usize,
+    half: usize,
+    frames: &[i32],
+    held: &mut [i64],
+    folded: &mut [i64],
+    wide: &mut [i64],
+    block: &mut [i32],
+    readings: &mut [i32],
+) -> Answer
+    requires { ⌜ half ≡ halfWidth width ⌝ }
+    requires { ⌜ Blocks width (now frames) ⌝ }
+    requires { ⌜ (length (now held) ≡ halfWidth width) × (length (now folded) ≡ width) × (length (now wide) ≡ width) × (length (now block) ≡ width) × (length (now readings) ≡ length (now frames)) ⌝ }
+    requires { ⌜ Within foldedLimit (now held) ⌝ }
+    requires { ⌜ map lower (now readings) ≡ now readings ⌝ }
+    ensures { λ r. ⌜ told r ≡ answerFrom width width (opened width 1 (now (held .entry))) (length (now (frames .entry)) / width) (now (frames .entry)) (now (readings .entry)) ⌝ }
+    ensures { λ _. ⌜ map lower (now (readings .exit)) ≡ now (readings .entry) ⌝ }
+    ensures { λ r. ⌜ (told r .0 ≡ 0 → map upper (now (readings .exit)) ≡ outputsFrom width (opened width 1 (now (held .entry))) (length (now (frames .entry)) / width) (now (frames .entry)) (now (readings .entry))) ⌝ }
+{
+    let mut at = 0;
+    let mut count = 1;
+    let mut left = frames.len() / width;
+    while 0 < left {
+        let end = at + width;
+        let fault = undo::undo(
+            width,
+            half,
+            count,
+            &frames[at..end],
+            held,
+            folded,
+            wide,
+            block,
+        );
+        let answer = back::answered(fault);
+        if gate::number(answer) != 0 {
+            return placed(width, end, answer);
+        }
+        overlay::lay(block, &mut readings[at..end]);
+        at = end;
+        count += 1;
+        left -= 1;
+    }
+    ended(at, held)
+}
+
+// The run in one pass, over an output whose numbers have 16 bits: the readings at the end, or what stood there.
+fn one_pass(width: usize, half: usize, frames: &[i32], readings: &mut [i32]) -> Answer
+    requires { ⌜ half ≡ halfWidth width ⌝ }
+    requires { ⌜ Frames width (now frames) ⌝ }
+    requires { ⌜ length (now readings) + width ≡ length (now frames) ⌝ }
+    requires { ⌜ map lower (now readings) ≡ now readings ⌝ }
+    ensures { λ r. ⌜ (told r, now (readings .exit)) ≡ oneByOne width (now (frames .entry)) (now (readings .entry)) ⌝ }
+{
+    let mut held = record::nothing_held();
+    let first = first_frame(width, half, &frames[..width], &mut held[..half]);
+    if gate::number(first) != 0 {
+        return first;
+    }
+    let mut folded = room::of_128();
+    let mut wide = room::of_128();
+    let mut block = spare();
+    let answer = laid_over(
+        width,
+        half,
+        &frames[width..],
+        &mut held[..half],
+        &mut folded[..width],
+        &mut wide[..width],
+        &mut block[..width],
+        readings,
+    );
+    if gate::number(answer) != 0 {
+        overlay::keep_lower(readings);
+        return answer;
+    }
+    overlay::keep_upper(readings);
+    answer
 }
 
 // The whole run back: the readings that its frames came from.
@@ -218,6 +319,9 @@ pub fn back(width: usize, frames: &[i32], readings: &mut [i32]) -> Answer
     }
     if frames.len() - width != readings.len() {
         return Answer::OutputLength;
+    }
+    if overlay::fits(readings) {
+        return one_pass(width, half, frames, readings);
     }
     let answer = first_answer(width, half, frames);
     if gate::number(answer) != 0 {

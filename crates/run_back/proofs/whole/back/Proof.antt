@@ -12,7 +12,8 @@ use Rattle.run.proofs.FaultLaws.{width-pos}
 use Rattle.run_back.specs.Whole.{firstAnswer}
 use Rattle.run_back.specs.Ready.{Frames}
 use Rattle.run_back.proofs.LoopLaws.{one-frame, frames-whole}
-use Rattle.run_back.proofs.WholeBackLaws.{first-alike, whole-width-refused, remainder-refused, count-refused, empty-refused, whole-output-refused, whole-refused, whole-done}
+use Rattle.run_back.proofs.WholeBackLaws.{first-alike, whole-width-refused, remainder-refused, count-refused, empty-refused, whole-output-refused, lengths-passed, whole-refused, whole-done}
+use Rattle.run_back.proofs.OverlayLaws.{all-lower}
 use Rattle.run_back.proofs.whole.back.Statement.{statement}
 use Rattle.run_back.proofs.whole.back.Tie as tie
 
@@ -56,12 +57,15 @@ module _ (l : tie.Else5) where
   one-less = omega (arith, l .if5 .left, one-frame (N from) (frames from) (whole (l .before)))
 
 module _ (f : tie.After-first-answer) where
+  abbrev lengths : tie.Else5
+  lengths = f .before .before .before .before
+
   abbrev source : tie.Start
-  source = from (f .before)
+  source = from lengths
 
   -- the answer does not depend on what the output holds
   answer-is : told (f .first-answer .result) ≡ firstAnswer (N source) (frames source) (out source)
-  answer-is = f .first-answer .ensures ∙ first-alike (N source) (frames source) _ (out source) (length-replicate (length (frames source) - N source) (pos 0) ∙ omega (arith, one-less (f .before)))
+  answer-is = f .first-answer .ensures ∙ first-alike (N source) (frames source) _ (out source) (length-replicate (length (frames source) - N source) (pos 0) ∙ omega (arith, one-less lengths))
 
 half-width-requires : tie.Need-half-width-requires
 half-width-requires c κs = search needs
@@ -93,41 +97,67 @@ returns-5 c =
     let s = start (first l) in
     whole-output-refused (N s) (frames s) (out s) (has-width (first l)) (l .before .before .if2 .left) (l .before .if3 .left) (some l) (λ e. c .if5 .taken (omega (arith, e)))
 
-first-answer-requires : tie.Need-first-answer-requires
-first-answer-requires c κs = (first (c .before) .before .half-width .ensures, whole (c .before))
+fits-requires : tie.Need-fits-requires
+fits-requires c κs = search needs
 
-number-requires : tie.Need-number-requires
-number-requires c κs = search needs
-
-returns-6 : tie.Need-returns-6
-returns-6 c =
-    let f = c .before .before in
-    let l = f .before .before in
-    let s = source f in
-    ap (λ (a : ℕ × ℕ). (a, out s)) (answer-is f)
-    ∙ whole-refused (N s) (frames s) (out s) (has-width (first l)) (l .before .before .if2 .left) (l .before .if3 .left) (some l) (one-less (f .before))
-    (λ e. c .if6 .taken (c .before .number .ensures ∙ ap (λ (a : ℕ × ℕ). a .0) (answer-is f) ∙ e))
-
-readings-of-requires : tie.Need-readings-of-requires
-readings-of-requires c κs =
-    let n = c .before .before in
-    let l = n .before .before .before in (
-      first l .before .half-width .ensures,
-      (whole l, (one-less (n .before .before), sym (n .number .ensures ∙ ap (λ (a : ℕ × ℕ). a .0) (answer-is (n .before))) ∙ c .before .if6 .left)),
+one-pass-requires : tie.Need-one-pass-requires
+one-pass-requires c κs =
+    let t = c .before in
+    let l = t .before .before .before in (
+      first (l .before) .before .half-width .ensures,
+      (whole (l .before), (one-less l, all-lower (out (from l)) (sym (t .before .fits2 .ensures) ∙ t .if6 .taken))),
     )
 
 same-length : tie.Need-same-length
 same-length c = search needs
 
+returns-6 : tie.Need-returns-6
+returns-6 c =
+    let l = c .before .before .before .before .before .before in
+    let g = l .before in
+    let s = from l in
+    c .before .one-pass .ensures
+    ∙ lengths-passed (N s) (frames s) (out s) (has-width (first g)) (g .before .before .if2 .left) (g .before .if3 .left) (some g) (one-less l)
+
+first-answer-requires : tie.Need-first-answer-requires
+first-answer-requires c κs = let l = c .before .before .before .before in (first l .before .half-width .ensures, whole l)
+
+number-requires : tie.Need-number-requires
+number-requires c κs = search needs
+
+same-length-2 : tie.Need-same-length-2
+same-length-2 c = search needs
+
 returns-7 : tie.Need-returns-7
 returns-7 c =
+    let f = c .before .before in
+    let l = lengths f .before in
+    let s = source f in
+    ap (λ (a : ℕ × ℕ). (a, out s)) (answer-is f)
+    ∙ whole-refused (N s) (frames s) (out s) (has-width (first l)) (l .before .before .if2 .left) (l .before .if3 .left) (some l) (one-less (lengths f))
+    (λ e. c .if7 .taken (c .before .number .ensures ∙ ap (λ (a : ℕ × ℕ). a .0) (answer-is f) ∙ e))
+
+readings-of-requires : tie.Need-readings-of-requires
+readings-of-requires c κs =
+    let n = c .before .before in
+    let f = n .before in
+    let l = lengths f .before in (
+      first l .before .half-width .ensures,
+      (whole l, (one-less (lengths f), sym (n .number .ensures ∙ ap (λ (a : ℕ × ℕ). a .0) (answer-is f)) ∙ c .before .if7 .left)),
+    )
+
+same-length-3 : tie.Need-same-length-3
+same-length-3 c = search needs
+
+returns-8 : tie.Need-returns-8
+returns-8 c =
     let n = c .before .before .before .before in
     let f = n .before in
-    let l = f .before .before in
+    let l = lengths f .before in
     let s = source f in
     ap₂ (λ (a : ℕ × ℕ) (w : List ℤ). (a, w)) (answer-is f) (c .before .readings-of .ensures)
-    ∙ whole-done (N s) (frames s) (out s) (has-width (first l)) (l .before .before .if2 .left) (l .before .if3 .left) (some l) (one-less (f .before))
-    (sym (n .number .ensures ∙ ap (λ (a : ℕ × ℕ). a .0) (answer-is f)) ∙ c .before .before .before .if6 .left)
+    ∙ whole-done (N s) (frames s) (out s) (has-width (first l)) (l .before .before .if2 .left) (l .before .if3 .left) (some l) (one-less (lengths f))
+    (sym (n .number .ensures ∙ ap (λ (a : ℕ × ℕ). a .0) (answer-is f)) ∙ c .before .before .before .if7 .left)
 
 pub back-spec : {M : Type 1} → statement M
 back-spec =
@@ -142,9 +172,14 @@ back-spec =
     returns-4
     sub-if5
     returns-5
+    fits-requires
+    one-pass-requires
+    same-length
+    returns-6
     first-answer-requires
     number-requires
-    returns-6
+    same-length-2
+    returns-7
     readings-of-requires
-    same-length
-    returns-7)
+    same-length-3
+    returns-8)
