@@ -9,7 +9,7 @@ use Rattle.integers.specs.Places.{Within}
 use Rattle.tables.specs.Widths.{halfWidth}
 use Rattle.steps.specs.Steps.{lower, held}
 use Rattle.stages.specs.Expanded.{Halves}
-use Rattle.stages.proofs.ArrangedLaws.{no-width}
+use Rattle.rows.proofs.ArrangedLaws.{no-width}
 use Rattle.lifting.proofs.folding.fold.Statement.{statement}
 use Rattle.lifting.proofs.folding.fold.Tie as tie
 

@@ -8,7 +8,7 @@ use lib.ListN.{length}
 use Rattle.integers.specs.Places.{Within}
 use Rattle.steps.specs.Steps.{unfolded}
 use Rattle.stages.specs.Expanded.{Halves}
-use Rattle.stages.proofs.ArrangedLaws.{no-width}
+use Rattle.rows.proofs.ArrangedLaws.{no-width}
 use Rattle.lifting.proofs.folding.unfold.Statement.{statement}
 use Rattle.lifting.proofs.folding.unfold.Tie as tie
 
