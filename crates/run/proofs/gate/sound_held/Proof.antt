@@ -9,6 +9,7 @@ use lib.IntN.{ℤ, pos}
 use lib.ListN.{length, take, drop}
 use Rattle.tables.specs.Widths.{halfWidth}
 use Rattle.tables.proofs.ByWidth.{half-width-le}
+use Rattle.lifting.proofs.Parts.{part-long}
 use Rattle.run.specs.declared.record.Run.{Run}
 use Rattle.run.specs.Record.{recordOf}
 use Rattle.run.specs.Gate.{inside}
