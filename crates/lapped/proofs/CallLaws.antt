@@ -9,8 +9,6 @@ use borrow.Rule.Slice.PartMut.{putMid}
 use lib.Dec.{eqb}
 use lib.IntN.{ℤ, pos}
 use lib.ListN.{length, take, set}
-use mir.Syntax.{w64}
-use mir.Val.{toZ}
 use Rattle.tables.specs.Widths.{byWidth, halfWidth}
 use Rattle.lifting.specs.Gate.{told}
 use Rattle.lifting.specs.declared.gate.Answer.the-variants.{Record}
@@ -31,7 +29,7 @@ use Rattle.run_back.specs.Back.{endedBack}
 use Rattle.lapped.specs.Record.{runLength, isRecord, packed, unpacked}
 use Rattle.lapped.specs.Ready.{Packable}
 use Rattle.lapped.specs.Calls.{Given, kept, handed, lappedStart}
-use Rattle.lapped.proofs.RecordLaws.{has-room, no-record, number, packed-unpacked}
+use Rattle.lapped.proofs.RecordLaws.{has-room, no-record, packed-unpacked}
 
 -- ---- a sound record is one of 67 numbers, and its own fit
 module _ (numbers : List ℤ) (top : ℕ) (s : sound top (unpacked numbers) ≡ true) where
@@ -144,12 +142,11 @@ module _ (numbers : List ℤ) (r : isRecord numbers ≡ true) (answer a : ℕ ×
           ap packed (ap (λ (g : Gate.Given). g .1) e ∙ s .same (λ d. n (ap (λ (g : Gate.Given). g .0 .0) e ∙ d))) ∙ packed-unpacked numbers r ∙ kept-refused numbers _ _ n
 
   module _ (call : Run → Gate.Given) (s : Same (unpacked numbers) (call (unpacked numbers))) (run : Run) (is : run ≡ unpacked numbers) (e : (answer, after run, out) ≡ call run) where
-    pub called : (n : ℕ) → n ≡ after run .count → n < 2 ^ 63 → (a, set (putMid 3 (length numbers - 3) numbers held) 1 (toZ w64 n), out) ≡ handed numbers (call (unpacked numbers))
-    called n c f =
-        let count = ap (λ (r : Run). nextCount (answer .0) (r .count)) is in
+    pub called : (stays : List ℤ) → stays ≡ set (putMid 3 (length numbers - 3) numbers held) 1 (pos (after run .count)) → (a, stays, out) ≡ handed numbers (call (unpacked numbers))
+    called stays q =
         let given = ap (λ (r : Run). (answer, after r, out)) (sym is) ∙ e ∙ ap call is in
-        handed-is numbers _ out a answer (after (unpacked numbers)) _ p
-        (ap (λ (v : ℤ). set (putMid 3 (length numbers - 3) numbers held) 1 v) (number n f ∙ ap pos (c ∙ count)) ∙ stored ∙ kept-is _ s given)
+        handed-is numbers stays out a answer (after (unpacked numbers)) _ p
+        (q ∙ ap (λ (r : Run). set (putMid 3 (length numbers - 3) numbers held) 1 (pos (after r .count))) is ∙ stored ∙ kept-is _ s given)
         given
 
 -- ---- a fresh start

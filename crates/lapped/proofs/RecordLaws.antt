@@ -16,7 +16,7 @@ use borrow.Rule.Slice.PartMut.{putMid}
 use Rattle.integers.specs.Places.{at}
 use Rattle.integers.proofs.Held.{held-ok}
 use Rattle.run.specs.declared.record.Run.{Run}
-use Rattle.run.specs.Record.{zeros, filled, opened}
+use Rattle.run.specs.Record.{zeros, recordOf, filled, opened}
 use Rattle.run.specs.Gate.{every}
 use Rattle.run.proofs.CallLaws.{every-answer}
 use Rattle.run.proofs.PartLaws.{written-end}
@@ -67,11 +67,11 @@ module _ (numbers : List ℤ) where
 
 -- ---- the held values lie behind the first three numbers
 module _ (numbers : List ℤ) (l : length numbers ≡ runLength) where
-  rest : take (length numbers - 3) (drop 3 numbers) ≡ drop 3 numbers
-  rest = take-all (length numbers - 3) (drop 3 numbers) (omega (arith, length-drop 3 numbers))
+  pub rest-is : take (length numbers - 3) (drop 3 numbers) ≡ drop 3 numbers
+  rest-is = take-all (length numbers - 3) (drop 3 numbers) (omega (arith, length-drop 3 numbers))
 
   pub rest-long : length (take (length numbers - 3) (drop 3 numbers)) ≡ 64
-  rest-long = ap length rest ∙ length-drop 3 numbers ∙ ap (λ n. n - 3) l
+  rest-long = ap length rest-is ∙ length-drop 3 numbers ∙ ap (λ n. n - 3) l
 
 -- ---- numbers that are those of a record
 module _ (numbers : List ℤ) (r : isRecord numbers ≡ true) where
@@ -100,30 +100,18 @@ module _ (numbers : List ℤ) where
   unfolding unpacked opened filled
   no-record held h e = rw e (ap (λ xs. record { width = 0; count = 0; held = xs; finished = false }) h)
 
-  pub some-record : (w c : ℤ) (held : List ℤ) → w ≡ at numbers 0 → c ≡ at numbers 1 → held ≡ take (length numbers - 3) (drop 3 numbers) → isRecord numbers ≡ true
-      → record { width = natAbs w; count = natAbs c; held = held; finished = eqb (ofZ w64 (at numbers 2)) 1 } ≡ unpacked numbers
+  pub some-record : (w c : ℤ) → w ≡ at numbers 0 → c ≡ at numbers 1 → isRecord numbers ≡ true → recordOf (natAbs w) (natAbs c) (drop 3 numbers) (eqb (ofZ w64 (at numbers 2)) 1) ≡ unpacked numbers
   unfolding unpacked
-  some-record w c held p q h e = rw (e, p, q, h, rest numbers (has-room numbers e), finished (at numbers 2) (flag numbers e))
+  some-record w c p q e = rw (e, p, q, finished (at numbers 2) (flag numbers e))
 
--- the record as the code reads it
-abbrev pub asRead : List ℤ → Run
-asRead numbers = record {
-  width = natAbs (toZ w64 (ofZ w64 (at numbers 0)));
-  count = natAbs (toZ w64 (ofZ w64 (at numbers 1)));
-  held = take (length numbers - 3) (drop 3 numbers);
-  finished = eqb (ofZ w64 (at numbers 2)) 1;
-}
+  -- the held values as the code lends them
+  pub lent-is : isRecord numbers ≡ true → (w c : ℕ) (held : List ℤ) (f : Bool) → held ≡ take (length numbers - 3) (drop 3 numbers) → recordOf w c (drop 3 numbers) f ≡ unpacked numbers
+      → recordOf w c held f ≡ unpacked numbers
+  lent-is r w c held f h e = ap (λ (xs : List ℤ). recordOf w c xs f) (h ∙ rest-is numbers (has-room numbers r)) ∙ e
 
-small : (x : ℤ) → T (nonNeg x) → mag x < 2 ^ 63 → natAbs x < 2 ^ 63
+pub small : (x : ℤ) → T (nonNeg x) → mag x < 2 ^ 63 → natAbs x < 2 ^ 63
 small (pos n) e h = h
 small (negsuc n) e h = absurd e
-
-module _ (numbers : List ℤ) (r : isRecord numbers ≡ true) (w : mag (at numbers 0) < 2 ^ 63) (c : mag (at numbers 1) < 2 ^ 63) where
-  pub read-is : asRead numbers ≡ unpacked numbers
-  read-is = some-record numbers _ _ _ (held-ok w64 _ w .is) (held-ok w64 _ c .is) refl r
-
-  pub count-small : asRead numbers .count < 2 ^ 63
-  count-small = rw (held-ok w64 _ c .is) (small (at numbers 1) (has-count numbers r) c)
 
 -- ---- packing
 pub number : (n : ℕ) → n < 2 ^ 63 → toZ w64 n ≡ pos n

@@ -41,16 +41,17 @@ pub extern "C" fn lapped_take(
     if !record::is_record(run) {
         return answer::tell(Answer::Record, place);
     }
-    let count = run[1] as usize;
+    let head = record::front(run);
+    let count = head.count;
     let answer = in_place::take(
-        run[0] as usize,
+        head.width,
         count,
-        run[2] == 1,
+        head.finished,
         &mut run[3..],
         block,
         frame,
     );
-    run[1] = in_place::next_count(count, answer) as i64;
+    record::store_count(count, answer, run);
     answer::tell(answer, place)
 }
 
@@ -76,16 +77,17 @@ pub extern "C" fn lapped_back_take(
     if !record::is_record(run) {
         return answer::tell(Answer::Record, place);
     }
-    let count = run[1] as usize;
+    let head = record::front(run);
+    let count = head.count;
     let answer = run_back::in_place::take(
-        run[0] as usize,
+        head.width,
         count,
-        run[2] == 1,
+        head.finished,
         &mut run[3..],
         frame,
         block,
     );
-    run[1] = in_place::next_count(count, answer) as i64;
+    record::store_count(count, answer, run);
     answer::tell(answer, place)
 }
 

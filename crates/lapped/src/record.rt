@@ -1,10 +1,23 @@
 // The run record as 67 numbers: the width, the count, whether it is finished, and the held values.
 ghost use mathlib.Core.Path.{_≡_};
-ghost use lib.ListN.{length};
+ghost use mathlib.Core.Bool.{true};
+ghost use Prim.Native.Nat.{_<_, _^_};
+ghost use lib.IntN.{pos};
+ghost use lib.ListN.{length, drop, set};
+ghost use Rattle.lifting.specs.Gate.{told};
+ghost use Rattle.run.specs.Record.{recordOf, nextCount};
 ghost use Rattle.lapped.specs.Record.{isRecord, packed, unpacked};
 ghost use Rattle.lapped.specs.Ready.{Packable};
+use lifting::gate::Answer;
+use run::in_place;
 use run::record;
 use run::record::Run;
+
+pub struct Head {
+    pub width: usize,
+    pub count: usize,
+    pub finished: bool,
+}
 
 fn copy(x: &[i64], out: &mut [i64])
     requires { ⌜ length (now x) ≡ length (now out) ⌝ }
@@ -35,6 +48,28 @@ pub fn is_record(numbers: &[i64]) -> bool
     numbers[2] < 2
 }
 
+// The numbers before the held values.
+pub fn front(numbers: &[i64]) -> Head
+    requires { ⌜ isRecord (now numbers) ≡ true ⌝ }
+    ensures { λ r. ⌜ recordOf (r .width) (r .count) (drop 3 (now (numbers .entry))) (r .finished) ≡ unpacked (now (numbers .entry)) ⌝ }
+    ensures { λ r. ⌜ r .count < 2 ^ 63 ⌝ }
+{
+    Head {
+        width: numbers[0] as usize,
+        count: numbers[1] as usize,
+        finished: numbers[2] == 1,
+    }
+}
+
+// The count of a record in its place, after a call that gave this answer.
+pub fn store_count(count: usize, answer: Answer, numbers: &mut [i64])
+    requires { ⌜ (told answer .0 ≡ 0 → count < 65537) ⌝ }
+    requires { ⌜ (count < 2 ^ 63) × (length (now numbers) ≡ 67) ⌝ }
+    ensures { λ _. ⌜ now (numbers .exit) ≡ set (now (numbers .entry)) 1 (pos (nextCount (told answer .0) count)) ⌝ }
+{
+    numbers[1] = in_place::next_count(count, answer) as i64;
+}
+
 // Of numbers that are no record, one of width 0.
 pub fn unpack(numbers: &[i64]) -> Run
     ensures { λ r. ⌜ r ≡ unpacked (now (numbers .entry)) ⌝ }
@@ -49,11 +84,12 @@ pub fn unpack(numbers: &[i64]) -> Run
         };
     }
     copy(&numbers[3..], &mut held);
+    let head = front(numbers);
     Run {
-        width: numbers[0] as usize,
-        count: numbers[1] as usize,
+        width: head.width,
+        count: head.count,
         held: held,
-        finished: numbers[2] == 1,
+        finished: head.finished,
     }
 }
 

@@ -2,26 +2,22 @@
 use borrow.Author.Needs.{needs}
 use borrow.Author.Tests.{not-true, not-false}
 use native.Mathlib.Omega.{arith}
-use mathlib.Core.Path.{_≡_, sym, ap, _∙_}
+use mathlib.Core.Path.{_≡_, refl, sym, ap, _∙_}
 use mathlib.Core.Bool.{true}
 use mathlib.Core.List.{List}
-use Prim.Native.Nat.{_^_, _≤_, _<_}
+use Prim.Native.Nat.{_-_, _≤_, _<_}
 use lib.IntN.{ℤ}
-use lib.ListN.{length}
-use lib.Signed.{natAbs-le}
-use mir.Syntax.{w64}
-use Rattle.integers.specs.Places.{at}
-use Rattle.integers.proofs.Held.{held-ok, asks-nat}
+use lib.ListN.{length, take, drop}
 use Rattle.lifting.specs.Gate.{told}
 use Rattle.run.specs.declared.record.Run.{Run}
-use Rattle.run.specs.Record.{blockLimit, frameLimit}
+use Rattle.run.specs.Record.{blockLimit, frameLimit, recordOf}
 use Rattle.run.specs.Gate as Gate
 use Rattle.run.specs.Forward.{taken}
 use Rattle.run.proofs.Refusals.{admitted-few, same-taken}
 use Rattle.lapped.specs.Record.{isRecord, unpacked}
 use Rattle.lapped.specs.Calls.{lappedTake}
-use Rattle.lapped.proofs.RecordLaws.{has-room, has-width, has-count, rest-long, asRead, read-is, count-small}
-use Rattle.lapped.proofs.CallLaws.{no-call, next-fits, called}
+use Rattle.lapped.proofs.RecordLaws.{has-room, rest-long, lent-is}
+use Rattle.lapped.proofs.CallLaws.{no-call, called}
 use Rattle.lapped.proofs.calls.lapped_take.Statement.{statement}
 use Rattle.lapped.proofs.calls.lapped_take.Tie as tie
 
@@ -47,28 +43,21 @@ module _ (e : tie.Else1) where
 
 -- what the call in place gives
 module _ (t : tie.After-take) where
-  abbrev counted : tie.After-count
-  counted = t .before .before .before .before .before
+  abbrev read : tie.After-front
+  read = t .before .before .before
 
   abbrev passing : tie.Else1
-  passing = counted .before
+  passing = read .before .before
 
   abbrev source : tie.Start
   source = from passing
 
-  read : asRead (numbers source) ≡ unpacked (numbers source)
-  read = read-is (numbers source) (is-record passing) (t .before .before .before .before .take-arg .given) (counted .count .given)
+  abbrev lent : Run
+  lent = recordOf (read .front .result .width) (read .front .result .count) (take (length (numbers source) - 3) (drop 3 (numbers source))) (read .front .result .finished)
 
-  few : told (t .take .result) .0 ≡ 0 → asRead (numbers source) .count < frameLimit
+  few : told (t .take .result) .0 ≡ 0 → lent .count < frameLimit
   unfolding taken
-  few e = let n = admitted-few blockLimit (asRead (numbers source)) (block source) (out source) _ (ap (λ (g : Gate.Given). g .0 .0) (sym (t .take .ensures)) ∙ e) in omega arith
-
-next-small : (c : tie.After-next-count) → c .next-count .result < 2 ^ 63
-next-small c =
-    let t = c .before .before .before in
-    let l = numbers (source t) in
-    let h = next-fits (told (t .take .result) .0) (asRead l .count) (few t) (count-small l (is-record (passing t)) (t .before .before .before .before .take-arg .given) (counted t .count .given)) in
-    omega (arith, c .next-count .ensures)
+  few e = let n = admitted-few blockLimit lent (block source) (out source) _ (ap (λ (g : Gate.Given). g .0 .0) (sym (t .take .ensures)) ∙ e) in omega arith
 
 is-record-requires : tie.Need-is-record-requires
 is-record-requires c κs = search needs
@@ -86,46 +75,25 @@ returns c =
     let s = i .before .before in
     no-call (numbers s) blockLimit (block s) (out s) _ _ (sym (i .is-record .ensures) ∙ not-true _ (c .before .before .if1 .taken)) (c .tell .ensures)
 
-slice-copy-out-count : tie.Need-slice-copy-out-count
-slice-copy-out-count c = omega (arith, long c)
-
-cast-count : tie.Need-cast-count
-cast-count c =
-    let x = at (numbers (from (c .before))) 1 in
-    asks-nat w64 (held-ok w64 x (c .count .given)) (has-count (numbers (from (c .before))) (is-record (c .before))) (omega (arith, natAbs-le x (c .count .given)))
-
-slice-copy-out-take : tie.Need-slice-copy-out-take
-slice-copy-out-take c = omega (arith, long (c .before))
-
-cast-take : tie.Need-cast-take
-cast-take c =
-    let e = c .before .before in
-    let x = at (numbers (from e)) 0 in
-    asks-nat w64 (held-ok w64 x (c .take-arg .given)) (has-width (numbers (from e)) (is-record e)) (omega (arith, natAbs-le x (c .take-arg .given)))
-
-slice-copy-out-take-2 : tie.Need-slice-copy-out-take-2
-slice-copy-out-take-2 c = omega (arith, long (c .before .before))
+front-requires : tie.Need-front-requires
+front-requires c κs = is-record (c .before)
 
 sub-take : tie.Need-sub-take
-sub-take c = long (c .before .before .before)
+sub-take c = long (c .before .before)
 
 part-take-start : tie.Need-part-take-start
-part-take-start c = long (c .before .before .before)
+part-take-start c = long (c .before .before)
 
 part-take-end : tie.Need-part-take-end
 part-take-end c = search needs
 
 take-requires : tie.Need-take-requires
-take-requires c κs = let e = c .before .before .before .before .before in rest-long (numbers (from e)) (has-room (numbers (from e)) (is-record e))
+take-requires c κs = let e = c .before .before .before .before in rest-long (numbers (from e)) (has-room (numbers (from e)) (is-record e))
 
-next-count-requires : tie.Need-next-count-requires
-next-count-requires c κs e = few (c .before .before) e
-
-cast-run : tie.Need-cast-run
-cast-run c = record { sfits = next-small c }
-
-slice-set-from-run : tie.Need-slice-set-from-run
-slice-set-from-run c = omega (arith, c .before .before .run .given .1, long (passing (c .before .before .before)))
+store-count-requires : tie.Need-store-count-requires
+store-count-requires c κs =
+    let t = c .before .before .before in
+    (few t, (read t .front .ensures .1, c .before .before .run .given .1 ∙ has-room (numbers (source t)) (is-record (passing t))))
 
 tell-requires-2 : tie.Need-tell-requires-2
 tell-requires-2 c κs = search needs
@@ -139,11 +107,11 @@ same-length-3 c = search needs
 returns-2 : tie.Need-returns-2
 unfolding lappedTake
 returns-2 c =
-    let n = c .before .before in
-    let t = n .before .before .before in
+    let n = c .before .before .before in
+    let t = n .before .before .before .before in
     let s = source t in
     called (numbers s) (is-record (passing t)) (told (t .take .result)) _ (t .take .last .1 .1 .1 .0) (t .take .last .1 .1 .1 .1 .1 .0) (c .tell2 .ensures) (λ (r : Run). taken r (block s) (out s))
-    (same-taken (unpacked (numbers s)) (block s) (out s)) (asRead (numbers s)) (read t) (t .take .ensures) _ (n .next-count .ensures) (next-small n)
+    (same-taken (unpacked (numbers s)) (block s) (out s)) (lent t) (lent-is (numbers s) (is-record (passing t)) _ _ _ _ refl (read t .front .ensures .0)) (t .take .ensures) _ (n .store-count .ensures)
 
 pub lapped-take-spec : {M : Type 1} → statement M
 lapped-take-spec =
@@ -153,18 +121,12 @@ lapped-take-spec =
     tell-requires
     same-length
     returns
-    slice-copy-out-count
-    cast-count
-    slice-copy-out-take
-    cast-take
-    slice-copy-out-take-2
+    front-requires
     sub-take
     part-take-start
     part-take-end
     take-requires
-    next-count-requires
-    cast-run
-    slice-set-from-run
+    store-count-requires
     tell-requires-2
     same-length-2
     same-length-3

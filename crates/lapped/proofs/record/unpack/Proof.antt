@@ -8,12 +8,8 @@ use mathlib.Core.List.{List}
 use Prim.Native.Nat.{_≤_}
 use lib.IntN.{ℤ, pos}
 use lib.ListN.{length, length-replicate}
-use lib.Signed.{natAbs-le}
-use mir.Syntax.{w64}
-use Rattle.integers.specs.Places.{at}
-use Rattle.integers.proofs.Held.{held-ok, asks-nat}
 use Rattle.lapped.specs.Record.{isRecord}
-use Rattle.lapped.proofs.RecordLaws.{has-room, has-width, has-count, rest-long, no-record, some-record}
+use Rattle.lapped.proofs.RecordLaws.{has-room, rest-long, no-record, lent-is}
 use Rattle.lapped.proofs.record.unpack.Statement.{statement}
 use Rattle.lapped.proofs.record.unpack.Tie as tie
 
@@ -56,33 +52,15 @@ copy-requires c κs =
     let e = c .before .before in
     rest-long (numbers (from e)) (has-room (numbers (from e)) (is-record e)) ∙ sym (ap length (e .before .before .nothing-held .ensures) ∙ length-replicate 64 (pos 0))
 
-shared-slice-copy-out-t15 : tie.Need-shared-slice-copy-out-t15
-shared-slice-copy-out-t15 c = omega (arith, long (c .before .before .before .before))
-
-cast-t9 : tie.Need-cast-t9
-cast-t9 c =
-    let e = c .before .before .before .before .before in
-    let x = at (numbers (from e)) 0 in
-    asks-nat w64 (held-ok w64 x (c .t15 .given)) (has-width (numbers (from e)) (is-record e)) (omega (arith, natAbs-le x (c .t15 .given)))
-
-shared-slice-copy-out-t17 : tie.Need-shared-slice-copy-out-t17
-shared-slice-copy-out-t17 c = omega (arith, long (c .before .before .before .before .before))
-
-cast-t18 : tie.Need-cast-t18
-cast-t18 c =
-    let e = c .before .before .before .before .before .before in
-    let x = at (numbers (from e)) 1 in
-    asks-nat w64 (held-ok w64 x (c .t17 .given)) (has-count (numbers (from e)) (is-record e)) (omega (arith, natAbs-le x (c .t17 .given)))
-
-shared-slice-copy-out-t20 : tie.Need-shared-slice-copy-out-t20
-shared-slice-copy-out-t20 c = omega (arith, long (c .before .before .before .before .before .before))
+front-requires : tie.Need-front-requires
+front-requires c κs = is-record (c .before .before .before .before)
 
 returns-2 : tie.Need-returns-2
 returns-2 c =
-    let w = c .before .before in
-    let e = w .before .before .before .before .before in
+    let p = c .before .before in
+    let e = p .before .before .before in
     let l = numbers (from e) in
-    some-record l _ _ _ (held-ok w64 (at l 0) (w .t15 .given) .is) (held-ok w64 (at l 1) (c .before .t17 .given) .is) (w .before .before .copy .ensures) (is-record e)
+    lent-is l (is-record e) _ _ _ _ (p .copy .ensures) (c .front .ensures .0)
 
 pub unpack-spec : {M : Type 1} → statement M
 unpack-spec =
@@ -96,9 +74,5 @@ unpack-spec =
     part-copy-end
     slice-aggregate-copy
     copy-requires
-    shared-slice-copy-out-t15
-    cast-t9
-    shared-slice-copy-out-t17
-    cast-t18
-    shared-slice-copy-out-t20
+    front-requires
     returns-2)
