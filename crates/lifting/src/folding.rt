@@ -12,9 +12,9 @@ ghost use Rattle.stages.specs.Expanded.{Tangents, Sines, Halves, Width};
 use stages::lifts;
 use stages::vectors;
 
-pub struct Pair {
-    pub a: i64,
-    pub b: i64,
+struct Pair {
+    a: i64,
+    b: i64,
 }
 
 // y takes the rounded c·x, or gives it back.

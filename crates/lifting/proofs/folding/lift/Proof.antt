@@ -1,11 +1,11 @@
 -- `lifting::folding::lift` meets its contract.
 use borrow.Author.Needs.{needs}
 use native.Mathlib.Omega.{arith}
-use mathlib.Core.Path.{_≡_, ap, ap₂, _∙_}
-use Prim.Native.Nat.{_*_, _^_, _≤_}
-use lib.IntN.{ℤ, natAbs, _*ℤ_}
+use mathlib.Core.Path.{ap, ap₂, _∙_}
+use Prim.Native.Nat.{_^_}
+use lib.IntN.{_*ℤ_}
 use mir.Syntax.{w64}
-use mir.Val.{toZ, ofZ}
+use mir.Val.{ofZ}
 use Rattle.integers.specs.Floor.{round}
 use Rattle.integers.proofs.Held.{held-ok}
 use Rattle.integers.proofs.Num.{Num, num, num-mul, num-call, mul-asks}

@@ -1,6 +1,6 @@
 -- `lifting::folding::rotated` meets its contract.
 use native.Mathlib.Omega.{arith}
-use mathlib.Core.Path.{_≡_, sym, ap, _∙_}
+use mathlib.Core.Path.{sym, ap, _∙_}
 use mathlib.Core.Bool.{Bool}
 use Prim.Native.Nat.{_+_, _^_, _≤_}
 use lib.IntN.{ℤ, natAbs}
