@@ -3,7 +3,7 @@ use borrow.Author.Needs.{needs}
 use native.Mathlib.Omega.{arith}
 use mathlib.Core.Path.{_≡_, refl, sym, ap, ap₂, subst, _∙_}
 use mathlib.Core.List.{List, _++_, map}
-use Prim.Native.Nat.{ℕ, suc, _+_, _-_, _/_, _≤_}
+use Prim.Native.Nat.{ℕ, suc, _-_, _/_, _≤_}
 use lib.IntN.{ℤ, pos}
 use lib.ListN.{length, take, drop, length-drop, length-replicate}
 use Rattle.integers.specs.Places.{Within}
