@@ -3,7 +3,6 @@ use mathlib.Core.Path.{_≡_, sym, ap, subst, _∙_}
 use mathlib.Core.List.{List, _++_, map, map-append, append-assoc, append-nil}
 use Prim.Native.Nat.{ℕ, zero, suc, _+_, _-_, _≤_, _<_}
 use native.Mathlib.Omega.{arith}
-use borrow.Author.Tests.{eq-eqb, ne-eqb}
 use lib.IntN.{ℤ}
 use lib.ListN.{length, take, drop}
 use lib.Seq.{take-all, drop-drop}
@@ -17,7 +16,7 @@ use Rattle.run.specs.Record.{frameLimit, opened}
 use Rattle.run.specs.Gate.{Given}
 use Rattle.run.proofs.PartLaws.{written, written-front}
 use Rattle.run_back.specs.Back.{takenBack}
-use Rattle.run_back.specs.Whole.{outputsFrom, firstAnswer, allOutputs, oneByOne}
+use Rattle.run_back.specs.Whole.{outputsFrom}
 use Rattle.run_back.specs.Overlay.{upper, lower}
 use Rattle.run_back.proofs.AnswerLaws.{taken-alike}
 use Rattle.run_back.proofs.BackLaws.{ReachedBack, highHalf}
@@ -73,13 +72,3 @@ laid-next N place left run frames out xs ys h i l e m =
 pub all-laid : (N place left : ℕ) (run : Run) (frames out xs : List ℤ) → left ≡ 0 → length xs ≤ place → map upper (take place xs) ++ outputsFrom N run left frames out ≡ map upper xs
 unfolding outputsFrom
 all-laid N place left run frames out xs z h = rw (z, append-nil) (ap (map upper) (take-all place xs h))
-
--- ---- what the calls one by one give
-module _ {answer : ℕ × ℕ} (N : ℕ) (frames out : List ℤ) (e : answer ≡ firstAnswer N frames out) where
-  pub ones-refused : (answer .0 ≡ 0 → ⊥) → (answer, out) ≡ oneByOne N frames out
-  unfolding oneByOne
-  ones-refused n = rw (← e, ne-eqb _ _ n)
-
-  pub ones-done : (w : List ℤ) → answer .0 ≡ 0 → w ≡ drop N (allOutputs N frames out) → (answer, w) ≡ oneByOne N frames out
-  unfolding oneByOne
-  ones-done w z d = rw (← e, eq-eqb _ _ z, d)

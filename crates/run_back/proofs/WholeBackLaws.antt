@@ -1,5 +1,5 @@
 -- What the gate says of a whole run back; and its answer does not depend on what the output holds.
-use mathlib.Core.Path.{_≡_, refl}
+use mathlib.Core.Path.{_≡_, refl, _∙_}
 use mathlib.Core.Bool.{Bool, true, false, cond, and-false}
 use mathlib.Core.List.{List, _++_}
 use Prim.Native.Nat.{ℕ, zero, suc, _+_, _/_, _%_, _≤_, _<_}
@@ -50,6 +50,16 @@ pub first-alike : (N : ℕ) (frames o p : List ℤ) → length o ≡ length p �
 unfolding firstAnswer
 first-alike N frames o p l = answer-alike N (length frames / N) 0 (started N .1) frames (zeros N ++ o) (zeros N ++ p) (rw (length-append, length-append, l))
 
+-- ---- what the calls one by one give
+module _ {answer : ℕ × ℕ} (N : ℕ) (frames out : List ℤ) (e : answer ≡ firstAnswer N frames out) where
+  pub ones-refused : (answer .0 ≡ 0 → ⊥) → (answer, out) ≡ oneByOne N frames out
+  unfolding oneByOne
+  ones-refused n = rw (← e, ne-eqb _ _ n)
+
+  pub ones-done : (w : List ℤ) → answer .0 ≡ 0 → w ≡ drop N (allOutputs N frames out) → (answer, w) ≡ oneByOne N frames out
+  unfolding oneByOne
+  ones-done w z d = rw (← e, eq-eqb _ _ z, d)
+
 -- ---- the gate
 module _ (N : ℕ) (frames out : List ℤ) where
   pub whole-width-refused : halfWidth N ≡ 0 → (told Width, out) ≡ wholeBack N frames out
@@ -80,9 +90,7 @@ module _ (N : ℕ) (frames out : List ℤ) where
         lengths-passed = rw (ne-eqb _ _ w, eq-eqb _ _ e, le-leb _ _ few, lt-ltb _ _ some, eq-eqb _ _ room)
 
         pub whole-refused : (firstAnswer N frames out .0 ≡ 0 → ⊥) → (firstAnswer N frames out, out) ≡ wholeBack N frames out
-        unfolding oneByOne
-        whole-refused n = rw (← lengths-passed, ne-eqb _ _ n)
+        whole-refused n = ones-refused N frames out refl n ∙ lengths-passed
 
         pub whole-done : firstAnswer N frames out .0 ≡ 0 → (firstAnswer N frames out, drop N (allOutputs N frames out)) ≡ wholeBack N frames out
-        unfolding oneByOne
-        whole-done n = rw (← lengths-passed, eq-eqb _ _ n)
+        whole-done n = ones-done N frames out refl _ n refl ∙ lengths-passed

@@ -20,7 +20,7 @@ use Rattle.run_back.specs.Back.{takenBack}
 use Rattle.run_back.specs.Whole.{placed, answerFrom, outputsFrom, firstAnswer, allOutputs}
 use Rattle.run_back.specs.Overlay.{upper}
 use Rattle.run_back.proofs.LoopLaws.{one-frame, one-block-less, rest-blocks, first-no, answer-left, outputs-left}
-use Rattle.run_back.proofs.LaidLaws.{ones-refused, ones-done}
+use Rattle.run_back.proofs.WholeBackLaws.{ones-refused, ones-done}
 use Rattle.run_back.proofs.whole.one_pass.Statement.{statement}
 use Rattle.run_back.proofs.whole.one_pass.Tie as tie
 
