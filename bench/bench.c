@@ -170,11 +170,13 @@ static void measure(struct row *row)
     struct work w = prepared(row->width, row->blocks);
     /* short runs many times over, long ones once */
     size_t n = row->blocks * row->width, times = n < READINGS ? READINGS / n : 1, k;
-    int rounds = n > 4 * READINGS ? 1 : ROUNDS, round, i;
+    int rounds = n > 4 * READINGS ? 1 : ROUNDS, round, turn, of = row->with_peers ? PEERS + 1 : 1;
 
     check(&w, row->go, row->back);
     for (round = 0; round < rounds; round++)
-        for (i = 0; i <= (row->with_peers ? PEERS : 0); i++) {
+        for (turn = 0; turn < of; turn++) {
+            /* there and back, so that none always follows the same one: some instructions slow the machine for a while */
+            int i = round % 2 == 0 ? turn : of - 1 - turn;
             double from, took;
 
             if (row->wide)

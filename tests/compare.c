@@ -123,12 +123,26 @@ struct call {
     int64_t *run[2];
 };
 
+/* what stands in an output before the call: any numbers, zeros, numbers of 16 bits, or these and one that just has more */
+static int32_t before_call(size_t kind, bool chosen)
+{
+    static const int32_t edges[4] = {32767, -32768, 32768, -32769};
+
+    switch (kind) {
+    case 0: return (int32_t)next();
+    case 1: return 0;
+    case 2: return once_in(4) ? edges[below(2)] : (int16_t)next();
+    default: return chosen ? edges[2 + below(2)] : (int16_t)next();
+    }
+}
+
 static void lend_call(struct call *c, const int32_t *input, size_t input_length, size_t output_length,
                       const int64_t *run, size_t run_length)
 {
     bool high = below(4) != 0;
     int32_t *copy = lend(&input_room, input_length * sizeof *copy, high);
-    int i;
+    size_t kind = below(4);
+    int chosen = (int)below(output_length + 1), i;
 
     if (input_length > 0)
         memcpy(copy, input, input_length * sizeof *copy);
@@ -140,10 +154,9 @@ static void lend_call(struct call *c, const int32_t *input, size_t input_length,
         c->output[i] = lend(&output_room[i], output_length * sizeof *c->output[i], high);
         c->run[i] = lend(&record_room[i], run_length * sizeof *c->run[i], high);
     }
-    /* what stands in and beside the outputs before the call */
     for (i = -4; i < (int)output_length + 4; i++) {
         char *at = (char *)(c->output[1] + i);
-        int32_t old = (int32_t)next();
+        int32_t old = before_call(kind, i == chosen);
 
         if (at < output_room[1].low || at >= output_room[1].high)
             continue;
