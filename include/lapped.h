@@ -123,7 +123,8 @@ uint32_t lapped_forward(size_t width,
  * A whole run back, to exactly the readings that its frames came from; frames that no readings make are refused.
  *   frames: (b + 1) * N coefficients, b from 0 to LAPPED_BLOCKS_MAX. readings: b * N of them, written.
  * Answers LAPPED_WIDTH, INPUT_LENGTH, OUTPUT_LENGTH, RANGE, FOLDED, HALVES or UNFOLDED; place counts through the
- * frames, and for UNFOLDED through the readings.
+ * frames, and for UNFOLDED through the readings. The output is worked in during the call; where the run is refused it
+ * is as it was when the call returns. It is quickest where the output holds numbers of 16 bits: zeros, or readings.
  */
 uint32_t lapped_back(size_t width,
                      const int32_t *frames, size_t frames_length,
