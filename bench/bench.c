@@ -161,7 +161,7 @@ static void check(struct work *w, going *go, int back)
 struct row {
     size_t width, blocks;
     going *go;
-    int back, with_peers, wide; /* wide: the output holds numbers of more than 16 bits beforehand */
+    int back, with_peers;
     double best[PEERS + 1]; /* nanoseconds a reading: the archive's, then the peers' */
 };
 
@@ -179,8 +179,6 @@ static void measure(struct row *row)
             int i = round % 2 == 0 ? turn : of - 1 - turn;
             double from, took;
 
-            if (row->wide)
-                memset(w.out, 1, (n + w.width) * sizeof *w.out);
             from = now();
             for (k = 0; k < times; k++)
                 row->go(&w, i == 0 ? NULL : peers[i - 1]);
@@ -223,13 +221,15 @@ static void print_compared(const char *title, struct row *const *of)
     }
 }
 
-static void print_wide(struct row *const *wide, struct row *const *whole)
+/* what the ways cost beside each other, in the archive alone */
+static void print_ways(struct row *const *whole, struct row *const *blocks)
 {
     size_t w;
 
-    printf("\nback into an output that holds numbers of more than 16 bits: nanoseconds a reading, and over the whole run back\n");
+    printf("\nwhole runs back over forward, and block by block over the whole run forward\n");
     for (w = 0; w < 3; w++)
-        printf("%4zu %19.2f (%6.2f)\n", wide[w]->width, wide[w]->best[0], wide[w]->best[0] / whole[2 * w + 1]->best[0]);
+        printf("%4zu %19.2f %12.2f forward %8.2f back\n", whole[2 * w]->width, whole[2 * w + 1]->best[0] / whole[2 * w]->best[0],
+               blocks[2 * w]->best[0] / whole[2 * w]->best[0], blocks[2 * w + 1]->best[0] / whole[2 * w]->best[0]);
 }
 
 static void print_by_width(struct row *const *of)
@@ -264,7 +264,7 @@ static void print_by_length(struct row *const (*of)[6])
 
 int main(void)
 {
-    struct row *whole[6], *blocks[6], *wide[3], *length[LENGTHS][6];
+    struct row *whole[6], *blocks[6], *length[LENGTHS][6];
     size_t r, b, pass;
 
     for (r = 0; r < 6; r++) {
@@ -276,16 +276,12 @@ int main(void)
         for (b = 0; b < LENGTHS; b++)
             length[b][r] = N << 2 * b > LONGEST ? NULL : add(N, (size_t)1 << 2 * b, back ? whole_back : whole_forward, back, 0);
     }
-    for (r = 0; r < 3; r++) {
-        wide[r] = add(widths[r], READINGS / widths[r], whole_back, 1, 0);
-        wide[r]->wide = 1;
-    }
     for (pass = 0; pass < PASSES; pass++)
         for (r = 0; r < count; r++)
             measure(&rows[r]);
     print_compared("whole runs", whole);
     print_compared("block by block", blocks);
-    print_wide(wide, whole);
+    print_ways(whole, blocks);
     print_by_width(whole);
     print_by_length(length);
     return 0;

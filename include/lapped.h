@@ -8,16 +8,16 @@
  * Every function
  *   - returns an answer, LAPPED_DONE or the number of the question that said no, and writes to *place the first
  *     place that was refused, counted from 0, or 0 where the question names no place;
- *   - writes nothing else where it refuses: the record and the output stay as they were (lapped_start says
- *     what it does);
+ *   - stores nothing else where it refuses, at no moment: the record and the output may lie where they can only be
+ *     read (lapped_start says what it does);
  *   - takes any numbers, any lengths and any record, and neither fails nor stops;
  *   - keeps nothing: no allocation, no global state, no pointer after it returns. Calls in several threads are
  *     independent, as long as no two of them write the same memory.
  *
  * What a pointer must be: not NULL, even where its length is 0; aligned for its type; and valid for as many
  * numbers as its length says. What one call writes (run, output, place) must not overlap anything else that is
- * handed to the same call. Lengths count numbers, not bytes. All memory stays the caller's. An output and *place
- * need not be initialised.
+ * handed to the same call. Lengths count numbers, not bytes. All memory stays the caller's. No output, and
+ * no *place, need be initialised.
  */
 #ifndef LAPPED_H
 #define LAPPED_H
@@ -123,8 +123,7 @@ uint32_t lapped_forward(size_t width,
  * A whole run back, to exactly the readings that its frames came from; frames that no readings make are refused.
  *   frames: (b + 1) * N coefficients, b from 0 to LAPPED_BLOCKS_MAX. readings: b * N of them, written.
  * Answers LAPPED_WIDTH, INPUT_LENGTH, OUTPUT_LENGTH, RANGE, FOLDED, HALVES or UNFOLDED; place counts through the
- * frames, and for UNFOLDED through the readings. The output is worked in during the call; where the run is refused it
- * is as it was when the call returns. It is quickest where the output holds numbers of 16 bits: zeros, or readings.
+ * frames, and for UNFOLDED through the readings. Every frame is asked before a number is written: two passes.
  */
 uint32_t lapped_back(size_t width,
                      const int32_t *frames, size_t frames_length,

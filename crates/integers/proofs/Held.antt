@@ -8,11 +8,11 @@ use native.Mathlib.Nat.{mod-eq-of-lt}
 use lib.Pow.{pow-lt}
 use native.Mathlib.Omega.{arith}
 use lib.IntN.{ℤ, pos, negℤ, natAbs, _+ℤ_, _-ℤ_, _*ℤ_}
-use lib.Signed.{mag, quotZ, remZ, shrZ, mag-shr, nonNeg, ltZ, leZ}
+use lib.Signed.{mag, quotZ, nonNeg, ltZ, leZ}
 use lib.Dec.{T}
 use mir.Syntax.{Width, w32, w64}
 use mir.Val.{Fits, SFits, toZ, ofZ, bits, hbits}
-use mir.ValLaws.{toZ-ofZ, sfits-le}
+use mir.ValLaws.{toZ-ofZ}
 use Rattle.integers.proofs.Words.{minus}
 
 pub record Held (w : Width) (x : ℕ) (a : ℤ) : Type 0 where
@@ -55,9 +55,6 @@ module _ {w : Width} {x y : ℕ} {a b : ℤ} (hx : Held w x a) (hy : Held w y b)
   pub h-quot : SFits w (quotZ a b) → Held w (ofZ w (quotZ (toZ w x) (toZ w y))) (quotZ a b)
   h-quot f = subst₂ (λ (p q : ℤ). Held w (ofZ w (quotZ p q)) (quotZ a b)) (sym (hx .is)) (sym (hy .is)) (held w _ f)
 
-  pub h-rem : SFits w (remZ a b) → Held w (ofZ w (remZ (toZ w x) (toZ w y))) (remZ a b)
-  h-rem f = subst₂ (λ (p q : ℤ). Held w (ofZ w (remZ p q)) (remZ a b)) (sym (hx .is)) (sym (hy .is)) (held w _ f)
-
   -- what a test says, of the numbers
   pub h-lt : {t : Bool} → ltZ (toZ w x) (toZ w y) ≡ t → ltZ a b ≡ t
   h-lt {t} e = subst₂ (λ (p q : ℤ). ltZ p q ≡ t) (hx .is) (hy .is) e
@@ -90,10 +87,6 @@ module _ {w : Width} {x : ℕ} {a : ℤ} (hx : Held w x a) (f : SFits w (pos 0 -
 
   pub h-minus : Held w (ofZ w (pos 0 -ℤ toZ w x)) (negℤ a)
   h-minus = held-eq (subst (λ (p : ℤ). Held w (ofZ w (pos 0 -ℤ p)) (pos 0 -ℤ a)) (sym (hx .is)) (held w _ f)) (minus a)
-
--- a shift to the right, which always fits
-pub h-shr : {w : Width} {x : ℕ} {a : ℤ} (m : ℕ) → Held w x a → Held w (ofZ w (shrZ (toZ w x) m)) (shrZ a m)
-h-shr {w} {x} {a} m h = subst (λ (p : ℤ). Held w (ofZ w (shrZ p m)) (shrZ a m)) (sym (h .is)) (held w _ (sfits-le (mag-shr a m) (h .fits)))
 
 -- a cast to an unsigned type, of a number that is not below zero
 pub asks-nat : {w : Width} {x : ℕ} {a : ℤ} (w′ : Width) → Held w x a → T (nonNeg a) → natAbs a < 2 ^ bits w′ → T (nonNeg (toZ w x)) × Fits w′ (natAbs (toZ w x))

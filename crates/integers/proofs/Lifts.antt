@@ -5,13 +5,13 @@ use Prim.Native.Nat.{ℕ, zero, suc, _*_, _-_, _^_, _≤_, _<_}
 use native.Mathlib.Omega.{arith}
 use native.Mathlib.Nat.{suc-inj, le-refl}
 use lib.ListN.{length, getD}
-use lib.IntN.{ℤ, pos, natAbs, _+ℤ_, _-ℤ_, _*ℤ_, +ℤ-negℤ-cancel, -ℤ-+ℤ-cancel}
+use lib.IntN.{ℤ, pos, natAbs, _+ℤ_, _-ℤ_, _*ℤ_}
 use Rattle.integers.specs.Floor.{round}
-use Rattle.integers.specs.Vectors.{dot, scale, plus, sumAbs, mulVec, vecMul, Rows}
+use Rattle.integers.specs.Vectors.{dot, scale, plus, sumAbs}
 use Rattle.integers.proofs.Ring.{ring}
 use Rattle.integers.proofs.Order.{natAbs-+ℤ, natAbs-*ℤ-le}
 use Rattle.integers.proofs.Rounding.{round-near}
-use Rattle.integers.proofs.Products.{dot-mulVec, dot-plus, dot-scale, length-scale, length-vecMul, length-mulVec}
+use Rattle.integers.proofs.Products.{dot-plus, dot-scale, length-scale}
 
 split-term : (p g y r a d s t : ℤ) → p *ℤ (g *ℤ (y +ℤ r) +ℤ d) -ℤ ((p *ℤ g *ℤ y +ℤ s) +ℤ (g *ℤ a +ℤ t)) ≡ g *ℤ (p *ℤ r -ℤ a) +ℤ (p *ℤ d -ℤ (s +ℤ t))
 split-term p g y r a d s t = simp ring
@@ -47,24 +47,12 @@ lift-known k u g gs x y z e d l =
     )
     (lift-row (2 ^ k) (2 ^ (k - 1)) (round k) (round-near k) g y z e)
 
--- the amounts A x of a matrix
-pub lift-step : (k n : ℕ) (u g x y : List ℤ) (A : List (List ℤ)) → Rows n A → length y ≡ length A → length u ≡ n
-    → natAbs (pos (2 ^ k) *ℤ (dot u x +ℤ dot g (zipWith (λ y a. y +ℤ round k a) y (mulVec A x)))
-    -ℤ (dot (plus (scale (pos (2 ^ k)) u) (vecMul n g A)) x +ℤ dot (scale (pos (2 ^ k)) g) y)) ≤ 2 ^ (k - 1) * sumAbs g
-lift-step k n u g x y A h e l = lift-known k u g (vecMul n g A) x y (mulVec A x) (e ∙ sym (length-mulVec A x)) (dot-mulVec n g A x h) (l ∙ sym (length-vecMul n g A h))
-
 -- what one operation makes of a list with another of its length, its inverse undoes: a lift's step back, and the step after it
 pub zip-undo : (op back : ℤ → ℤ → ℤ) → ((y a : ℤ) → back (op y a) a ≡ y) → (y a : List ℤ) → length y ≡ length a → zipWith back (zipWith op y a) a ≡ y
 unfolding zipWith
 zip-undo op back u [] a e = refl
 zip-undo op back u (y ∷ ys) [] e = let z : ⊥ = omega arith in absurd z
 zip-undo op back u (y ∷ ys) (a ∷ bs) e = rw (u y a, zip-undo op back u ys bs (suc-inj e))
-
-pub lift-undo : (f : ℤ → ℤ) (y a : List ℤ) → length y ≡ length a → zipWith (λ y a. y -ℤ f a) (zipWith (λ y a. y +ℤ f a) y a) a ≡ y
-lift-undo f = zip-undo (λ y a. y +ℤ f a) (λ y a. y -ℤ f a) (λ y a. +ℤ-negℤ-cancel y (f a))
-
-pub lift-redo : (f : ℤ → ℤ) (y a : List ℤ) → length y ≡ length a → zipWith (λ y a. y +ℤ f a) (zipWith (λ y a. y -ℤ f a) y a) a ≡ y
-lift-redo f = zip-undo (λ y a. y -ℤ f a) (λ y a. y +ℤ f a) (λ y a. -ℤ-+ℤ-cancel y (f a))
 
 pub length-lift : (op : ℤ → ℤ → ℤ) (y a : List ℤ) → length y ≡ length a → length (zipWith op y a) ≡ length y
 unfolding zipWith

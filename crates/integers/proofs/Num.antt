@@ -1,17 +1,17 @@
 -- `Num w m x a`: the bits x hold the number a at the width w, and a is at most m in size. What an operation asks, and what
 -- it gives, then wants only that the limits' sum or product is below half the word's range, which at numerals is `tt`.
-use mathlib.Core.Path.{_≡_, subst}
+use mathlib.Core.Path.{_≡_}
 use Prim.Native.Nat.{ℕ, _+_, _*_, _^_, _≤_, _<_}
-use native.Mathlib.Nat.{le-refl, le-trans, mul-le-mul}
+use native.Mathlib.Nat.{le-refl}
 use native.Mathlib.Omega.{arith}
 use lib.Dec.{T, ltb, ltb→lt}
-use lib.IntN.{ℤ, pos, negℤ, natAbs, _+ℤ_, _-ℤ_, _*ℤ_}
-use lib.Signed.{mag, natAbs-le}
-use mir.Syntax.{Width, w32, w64}
+use lib.IntN.{ℤ, pos, natAbs, _+ℤ_, _-ℤ_, _*ℤ_}
+use lib.Signed.{mag}
+use mir.Syntax.{Width}
 use mir.Val.{SFits, toZ, ofZ, hbits}
 use Rattle.integers.proofs.Order.{natAbs-+ℤ, natAbs--ℤ, natAbs-*ℤ-le}
 use Rattle.integers.proofs.Words.{small}
-use Rattle.integers.proofs.Held.{Held, held, held-ok, held-eq, h-wide, asks-add, asks-sub, asks-mul, h-add, h-sub, h-mul}
+use Rattle.integers.proofs.Held.{Held, held, held-ok, held-eq, asks-add, asks-sub, asks-mul, h-add, h-sub, h-mul}
 
 pub record Num (w : Width) (m x : ℕ) (a : ℤ) : Type 0 where
   pub holds : Held w x a
@@ -29,10 +29,6 @@ num-lit w n t = num w (pos n) (le-refl n) t
 
 pub num-call : (w : Width) (r : ℤ) {a : ℤ} {m : ℕ} → mag r < 2 ^ hbits w → r ≡ a → natAbs a ≤ m → Num w m (ofZ w r) a
 num-call w r ok e s = record { holds = held-eq (held-ok w r ok) e; size = s }
-
--- an i32 that was read, as an i64
-pub num-wide : (a : ℤ) → mag a < 2 ^ 31 → Num w64 (2 ^ 31) (ofZ w64 (toZ w32 (ofZ w32 a))) a
-num-wide a h = record { holds = h-wide a h; size = natAbs-le a h }
 
 module _ {w : Width} {m n x y : ℕ} {a b : ℤ} (p : Num w m x a) (q : Num w n y b) where
   module _ (t : T (ltb (m + n) (2 ^ hbits w))) where

@@ -97,10 +97,6 @@ dot-sum n xs ys e = ap (λ l. dot l ys) (sym (take-all n xs (omega arith))) ∙ 
 pub row-sum : (M : ℕ) (f : ℕ → ℤ) (x : List ℤ) → dot (places M f) x ≡ sum M (λ n. f n *ℤ at x n)
 row-sum M f x = dot-sum M (places M f) x (length-places M f) ∙ sum-ext M _ _ (λ n l. ap (λ z. z *ℤ at x n) (at-places M f n l))
 
--- one more term, for a loop
-pub dot-next : (n : ℕ) (xs ys : List ℤ) → dot (take n xs) ys +ℤ at xs n *ℤ at ys n ≡ dot (take (n + 1) xs) ys
-dot-next n xs ys = rw add-one (sym (dot-take-suc-l n xs ys))
-
 pub next-multiple : (f e s : ℕ) → f + e * s + s ≡ f + (e + 1) * s
 next-multiple f e s = let d : (e + 1) * s ≡ e * s + s = rw add-one (suc-mul e s) in omega arith
 
@@ -139,9 +135,6 @@ sumAbs-tab f (suc n) i B h =
     let e : i + 0 ≡ i = omega arith in
     let z = rw e at (h 0 (omega arith)) in
     omega (arith, sumAbs-tab f n (suc i) B (λ j l. let e : suc i + j ≡ i + suc j = omega arith in rw e (h (suc j) (omega arith))))
-
-pub sumAbs-le : (n B : ℕ) (f : ℕ → ℤ) → ((i : ℕ) → i < n → natAbs (f i) ≤ B) → sumAbs (places n f) ≤ n * B
-sumAbs-le n B f h = sumAbs-tab f n 0 B (λ j l. let e : 0 + j ≡ j = omega arith in rw e (h j l))
 
 -- ---- limits
 pub within-places : (n B : ℕ) (f : ℕ → ℤ) → ((i : ℕ) → i < n → natAbs (f i) ≤ B) → Within B (places n f)

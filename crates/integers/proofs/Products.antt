@@ -1,13 +1,13 @@
 -- The inner product of lists of whole numbers: linear in both arguments, transposed by a matrix, bounded by sizes, one more term at a time.
-use mathlib.Core.Path.{_≡_, refl, sym, _∙_, ap, subst}
-use mathlib.Core.List.{List, [], _∷_, _++_, map}
-use Prim.Native.Nat.{ℕ, zero, suc, _+_, _*_, _-_, _^_, _≤_, _<_}
+use mathlib.Core.Path.{_≡_, refl, sym, _∙_, ap}
+use mathlib.Core.List.{List, [], _∷_, _++_}
+use Prim.Native.Nat.{ℕ, zero, suc, _+_, _*_, _-_, _≤_, _<_}
 use native.Mathlib.Omega.{arith}
-use native.Mathlib.Nat.{mul-le-mul, suc-inj, le-refl, le-of-suc-le-suc}
-use lib.ListN.{length, take, drop, getD, set, replicate, length-replicate, length-map}
-use lib.IntN.{ℤ, pos, negsuc, negℤ, natAbs, _+ℤ_, _-ℤ_, _*ℤ_, +ℤ-assoc, +ℤ-comm, +ℤ-idl, +ℤ-idr, *ℤ-zero, *ℤ-comm, zero-*ℤ}
+use native.Mathlib.Nat.{suc-inj, le-refl, le-of-suc-le-suc}
+use lib.ListN.{length, take, getD, set, replicate, length-replicate, length-map}
+use lib.IntN.{ℤ, pos, natAbs, _+ℤ_, _-ℤ_, _*ℤ_, +ℤ-assoc, +ℤ-comm, +ℤ-idl, *ℤ-zero, *ℤ-comm, zero-*ℤ}
 use Rattle.integers.specs.Vectors.{dot, scale, plus, sumAbs, mulVec, vecMul, Rows, AllAbs}
-use Rattle.integers.proofs.Ring.{ring, +ℤ-swap, *ℤ-distribl, *ℤ-distribr, *ℤ-assoc}
+use Rattle.integers.proofs.Ring.{ring}
 use Rattle.integers.proofs.Order.{natAbs-+ℤ, natAbs-*ℤ, natAbs-*ℤ-le}
 
 -- ---- lengths
@@ -45,9 +45,6 @@ pub dot-scale : (c : ℤ) (xs ys : List ℤ) → dot (scale c xs) ys ≡ c *ℤ 
 dot-scale c [] ys = sym (*ℤ-zero c)
 dot-scale c (x ∷ xs) [] = sym (*ℤ-zero c)
 dot-scale c (x ∷ xs) (y ∷ ys) = ap (λ t. c *ℤ x *ℤ y +ℤ t) (dot-scale c xs ys) ∙ scaled c x y (dot xs ys)
-
-pub dot-scale-r : (c : ℤ) (xs ys : List ℤ) → dot xs (scale c ys) ≡ c *ℤ dot xs ys
-dot-scale-r c xs ys = dot-comm xs (scale c ys) ∙ dot-scale c ys xs ∙ ap (λ t. c *ℤ t) (dot-comm ys xs)
 
 pub dot-plus : (xs ys zs : List ℤ) → length xs ≡ length ys → dot (plus xs ys) zs ≡ dot xs zs +ℤ dot ys zs
 dot-plus [] [] zs h = refl
@@ -92,9 +89,6 @@ dot-take (suc n) [] ys = refl
 dot-take (suc n) (x ∷ xs) [] = refl
 dot-take (suc n) (x ∷ xs) (y ∷ ys) = ap (λ t. x *ℤ y +ℤ t) (dot-take n xs ys)
 
-pub dot-take-suc : (n : ℕ) (xs ys : List ℤ) → dot (take (suc n) xs) (take (suc n) ys) ≡ dot (take n xs) (take n ys) +ℤ getD xs n (pos 0) *ℤ getD ys n (pos 0)
-dot-take-suc n xs ys = dot-take (suc n) xs ys ∙ dot-take-suc-l n xs ys ∙ ap (λ t. t +ℤ getD xs n (pos 0) *ℤ getD ys n (pos 0)) (sym (dot-take n xs ys))
-
 -- ---- a row of the left and a column of the right
 pub dot-mulVec : (n : ℕ) (g : List ℤ) (A : List (List ℤ)) (x : List ℤ) → Rows n A → dot g (mulVec A x) ≡ dot (vecMul n g A) x
 dot-mulVec n [] A x h = sym (dot-zeros n x)
@@ -116,9 +110,6 @@ pub getD-all : (B : ℕ) (e : List ℤ) → AllAbs B e → (i : ℕ) → natAbs 
 getD-all B [] h i = omega arith
 getD-all B (x ∷ xs) h zero = h .0
 getD-all B (x ∷ xs) h (suc i) = getD-all B xs (h .1) i
-
-pub natAbs-dot-r : (g e : List ℤ) (B : ℕ) → AllAbs B g → natAbs (dot g e) ≤ B * sumAbs e
-natAbs-dot-r g e B h = rw (dot-comm g e) (omega (arith, natAbs-dot e g B h))
 
 pub all-set : (B : ℕ) (e : List ℤ) (i : ℕ) (v : ℤ) → AllAbs B e → natAbs v ≤ B → AllAbs B (set e i v)
 all-set B [] i v h k = tt

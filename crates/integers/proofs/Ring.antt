@@ -1,11 +1,9 @@
 -- The commutative ring ℤ. Each law is one line by `Differences`; `ring` sorts sums and products for `simp`.
-use mathlib.Core.Path.{_≡_, refl, sym, _∙_, ap}
+use mathlib.Core.Path.{_≡_, sym}
 use mathlib.Core.Logic.{_↔_}
-use Prim.Native.Nat.{ℕ, zero, suc, _+_, _*_, _-_, _^_, _≤_, _<_}
+use Prim.Native.Nat.{ℕ, _+_, _*_, _-_}
 use native.Mathlib.Omega.{arith}
-use native.Mathlib.Nat.{eq-of-mul-eq-mul-left}
-use lib.IntN.{ℤ, pos, negsuc, negℤ, natAbs, _+ℤ_, _-ℤ_, _*ℤ_, +ℤ-assoc, +ℤ-comm, +ℤ-idl, +ℤ-idr, *ℤ-comm, negℤ-+ℤ, negℤ-negℤ, *ℤ-zero, zero-*ℤ, +ℤ-invr, +ℤ-invl}
-use Rattle.integers.specs.Floor.{above, below}
+use lib.IntN.{ℤ, pos, negℤ, _+ℤ_, _-ℤ_, _*ℤ_, +ℤ-assoc, +ℤ-comm, +ℤ-idl, +ℤ-idr, *ℤ-comm, *ℤ-zero, zero-*ℤ}
 use Rattle.integers.proofs.Differences.{dif, zs}
 
 pub *ℤ-assoc : (a b c : ℤ) → (a *ℤ b) *ℤ c ≡ a *ℤ (b *ℤ c)
@@ -29,9 +27,6 @@ negℤ-*ℤ a b = rw (dif a, dif b) (simp zs (omega arith))
 pub *ℤ-negℤ : (a b : ℤ) → a *ℤ negℤ b ≡ negℤ (a *ℤ b)
 *ℤ-negℤ a b = rw (dif a, dif b) (simp zs (omega arith))
 
-pub negℤ-*ℤ-negℤ : (a b : ℤ) → negℤ a *ℤ negℤ b ≡ a *ℤ b
-negℤ-*ℤ-negℤ a b = rw (dif a, dif b) (simp zs (omega arith))
-
 pub one-*ℤ : (a : ℤ) → pos 1 *ℤ a ≡ a
 one-*ℤ a = rw (dif a) (simp zs (omega arith))
 
@@ -50,36 +45,8 @@ pub +ℤ-right-comm : (a b c : ℤ) → a +ℤ b +ℤ c ≡ a +ℤ c +ℤ b
 pub +ℤ-swap : (a b c d : ℤ) → (a +ℤ b) +ℤ (c +ℤ d) ≡ (a +ℤ c) +ℤ (b +ℤ d)
 +ℤ-swap a b c d = rw (dif a, dif b, dif c, dif d) (simp zs (omega arith))
 
-pub -ℤ-swap : (a b c d : ℤ) → (a +ℤ b) -ℤ (c +ℤ d) ≡ (a -ℤ c) +ℤ (b -ℤ d)
--ℤ-swap a b c d = rw (dif a, dif b, dif c, dif d) (simp zs (omega arith))
-
 pub negℤ--ℤ : (a b : ℤ) → negℤ (a -ℤ b) ≡ b -ℤ a
 negℤ--ℤ a b = rw (dif a, dif b) (simp zs (omega arith))
-
-pub -ℤ-via : (a b c : ℤ) → a -ℤ c ≡ (a -ℤ b) +ℤ (b -ℤ c)
--ℤ-via a b c = rw (dif a, dif b, dif c) (simp zs (omega arith))
-
--- cancellation
-pub +ℤ-cancel-l : (a b c : ℤ) → a +ℤ b ≡ a +ℤ c → b ≡ c
-+ℤ-cancel-l a b c = rw (dif a, dif b, dif c) (simp zs (omega arith))
-
-pub +ℤ-cancel-r : (a b c : ℤ) → b +ℤ a ≡ c +ℤ a → b ≡ c
-+ℤ-cancel-r a b c = rw (dif a, dif b, dif c) (simp zs (omega arith))
-
-pub +ℤ-negℤ-l : (a b : ℤ) → a +ℤ (negℤ a +ℤ b) ≡ b
-+ℤ-negℤ-l a b = rw (dif a, dif b) (simp zs (omega arith))
-
-pub negℤ-+ℤ-l : (a b : ℤ) → negℤ a +ℤ (a +ℤ b) ≡ b
-negℤ-+ℤ-l a b = rw (dif a, dif b) (simp zs (omega arith))
-
-pub -ℤ-zero-eq : (a b : ℤ) → a -ℤ b ≡ pos 0 → a ≡ b
--ℤ-zero-eq a b = rw (dif a, dif b) (simp zs (omega arith))
-
-pub -ℤ-move : (a b c : ℤ) → a ≡ b +ℤ c → a -ℤ b ≡ c
--ℤ-move a b c = rw (dif a, dif b, dif c) (simp zs (omega arith))
-
-pub *ℤ-cancel-l : (p : ℕ) (b c : ℤ) → 0 < p → pos p *ℤ b ≡ pos p *ℤ c → b ≡ c
-*ℤ-cancel-l p b c h = rw (dif b, dif c) (simp zs (λ e. eq-of-mul-eq-mul-left p h (above b + below c) (above c + below b) (omega arith)))
 
 -- ---- `simp ring`: products multiplied out, sums sorted, and what is taken away moved to the other side of the equation.
 -- `a ⊟ b` is a − b, shut, so that it gathers: a goal comes to A ⊟ B ≡ C ⊟ D, and that to A + D ≡ C + B

@@ -1,9 +1,9 @@
 -- Floor division by a natural above zero, and rounding. Above this crate rounding is known by `round-near` and `round-size` alone.
-use mathlib.Core.Path.{_≡_, refl, sym}
+use mathlib.Core.Path.{_≡_, refl, sym, ap, _∙_}
 use Prim.Native.Nat.{ℕ, zero, suc, _+_, _*_, _-_, _/_, _%_, _^_, _≤_, _<_}
 use native.Mathlib.Omega.{arith}
-use native.Mathlib.Nat.{div-add-mod, mod-lt, mul-le-mul-left, lt-of-mul-lt-mul-left, pow-suc}
-use lib.Pow.{pow-pos}
+use native.Mathlib.Nat.{div-add-mod, mod-lt, mul-le-mul, mul-le-mul-left, lt-of-mul-lt-mul-left, pow-suc}
+use lib.Pow.{pow-pos, pow-add}
 use lib.IntN.{ℤ, pos, negsuc, natAbs, _+ℤ_, _-ℤ_, _*ℤ_}
 use lib.Signed.{_≤ℤ_, _<ℤ_, mag}
 use Rattle.integers.specs.Floor.{above, below, floorDiv, round}
@@ -66,6 +66,14 @@ round-within (suc j) A v h =
     let r = lt-of-mul-lt-mul-left (2 ^ suc j) l in
     omega arith
 
+nothing : (z : ℤ) → natAbs z ≤ 0 → z ≡ pos 0
+nothing (pos n) h = ap pos (omega arith)
+nothing (negsuc n) h = absurd (omega arith)
+
+-- nothing rounds to nothing
+pub round-zero : (k : ℕ) → round k (pos 0) ≡ pos 0
+round-zero k = nothing (round k (pos 0)) (round-within k 0 (pos 0) (omega arith))
+
 -- how the code rounds: with f halves of a unit in v, rounded down, f − ⌊f / 2⌋ units
 halved-le : (h : ℕ) (v f g : ℤ) → (pos h *ℤ f) ≤ℤ v → f <ℤ (pos 2 *ℤ g +ℤ pos 2) → (pos (h + h) *ℤ (f -ℤ g)) ≤ℤ (v +ℤ pos h)
 halved-le h v f g = rw (dif v, dif f, dif g) (simp zs (λ a b.
@@ -103,3 +111,26 @@ round-none (suc j) v z m =
     let e : suc j - 1 ≡ j = omega arith in
     let l = rw e at m in
     rw (twice j) (floorDiv-unique (v +ℤ pos (2 ^ j)) (pos 0) (2 ^ j + 2 ^ j) (omega (arith, pow-pos j)) (small-le (2 ^ j) v l) (small-lt (2 ^ j) v l))
+
+-- ---- a number and its divisor, both some times as large
+times-le : (c p : ℕ) (w q : ℤ) → (pos p *ℤ q) ≤ℤ w → (pos (c * p) *ℤ q) ≤ℤ (pos c *ℤ w)
+times-le c p w q = rw (dif w, dif q) (simp zs (λ h. omega (arith, mul-le-mul-left c h)))
+
+times-lt : (c p : ℕ) (w q : ℤ) → 0 < c → w <ℤ (pos p *ℤ q +ℤ pos p) → (pos c *ℤ w) <ℤ (pos (c * p) *ℤ q +ℤ pos (c * p))
+times-lt c p w q z = rw (dif w, dif q) (simp zs (λ h. omega (arith, mul-le-mul-left c h)))
+
+floorDiv-scaled : (c p : ℕ) (w : ℤ) → 0 < c → 0 < p → floorDiv (pos c *ℤ w) (c * p) ≡ floorDiv w p
+floorDiv-scaled c p w z h =
+    floorDiv-unique (pos c *ℤ w) (floorDiv w p) (c * p) (omega (arith, mul-le-mul z h)) (times-le c p w (floorDiv w p) (floorDiv-le w p h)) (times-lt c p w (floorDiv w p) z (floorDiv-lt w p h))
+
+half-inside : (c h : ℕ) (v : ℤ) → pos c *ℤ v +ℤ pos (h * c) ≡ pos c *ℤ (v +ℤ pos h)
+half-inside c h v = rw (dif v) (simp zs (omega arith))
+
+pub round-scaled : (k j : ℕ) (v : ℤ) → 0 < k → round (k + j) (pos (2 ^ j) *ℤ v) ≡ round k v
+unfolding round
+round-scaled zero j v z = absurd (omega arith)
+round-scaled (suc i) j v z =
+    let e : suc i + j ≡ suc (i + j) = omega arith in
+    let f : suc (i + j) ≡ j + suc i = omega arith in
+    let p : 2 ^ suc (i + j) ≡ 2 ^ j * 2 ^ suc i = ap (λ n. 2 ^ n) f ∙ pow-add 2 j (suc i) in
+    rw e (rw (p, pow-add 2 i j, half-inside (2 ^ j) (2 ^ i) v) (floorDiv-scaled (2 ^ j) (2 ^ suc i) (v +ℤ pos (2 ^ i)) (pow-pos j) (pow-pos (suc i))))

@@ -1,7 +1,7 @@
 -- What the calls give: a call that works had the numbers of a record and leaves a record whose numbers fit, and what is handed back then.
 use mathlib.Core.Path.{_≡_, refl, sym, ap, ap₂, subst, _∙_}
 use mathlib.Core.Bool.{Bool, true, false, cond}
-use mathlib.Core.List.{List, [], _++_}
+use mathlib.Core.List.{List, [], _∷_, _++_}
 use Prim.Native.Nat.{ℕ, suc, _-_, _^_, _≤_, _<_}
 use native.Mathlib.Omega.{arith}
 use borrow.Author.Tests.{ltb-true, leb-true, eqb-true, eqb-false, eq-eqb, ne-eqb}
@@ -9,6 +9,7 @@ use borrow.Rule.Slice.PartMut.{putMid}
 use lib.Dec.{eqb}
 use lib.IntN.{ℤ, pos}
 use lib.ListN.{length, take, set}
+use Rattle.integers.specs.Places.{at}
 use Rattle.tables.specs.Widths.{byWidth, halfWidth}
 use Rattle.lifting.specs.Gate.{told}
 use Rattle.lifting.specs.declared.gate.Answer.the-variants.{Record}
@@ -112,13 +113,22 @@ no-call numbers top given out next a e p =
     let none : halfWidth (run .width) ≡ 0 = ap (λ (r : Run). halfWidth (r .width)) (sym (no-record numbers (zeros 64) refl e)) in
     handed-is numbers numbers out a (told Record) run _ p (kept-refused numbers 2 run (λ z. omega arith)) (record-refused top run out _ (sym (no-width top run none)))
 
-pub next-fits : (number count : ℕ) → (number ≡ 0 → count < frameLimit) → count < 2 ^ 63 → nextCount number count < 2 ^ 63
+pub next-worked : (number count : ℕ) → number ≡ 0 → nextCount number count ≡ suc count
 unfolding nextCount
-next-fits number count h l = by (eqb number 0) refl
-  where
-    by : (b : Bool) → eqb number 0 ≡ b → cond b (suc count) count < 2 ^ 63
-    by true e = let k = h (eqb-true number 0 e) in omega arith
-    by false e = l
+next-worked number count e = rw e
+
+pub next-refused : (number count : ℕ) → (number ≡ 0 → ⊥) → nextCount number count ≡ count
+unfolding nextCount
+next-refused number count e = rw (ne-eqb number 0 e)
+
+-- what is stored in the held values leaves the count
+second : (numbers held : List ℤ) → 3 ≤ length numbers → at (take 3 numbers ++ held) 1 ≡ at numbers 1
+second [] held l = absurd (omega arith)
+second (a ∷ []) held l = absurd (omega arith)
+second (a ∷ b ∷ numbers) held l = refl
+
+pub count-stays : (numbers held : List ℤ) → 3 ≤ length numbers → at (putMid 3 (length numbers - 3) numbers held) 1 ≡ at numbers 1
+count-stays numbers held l = ap (λ xs. at xs 1) (written-end 3 numbers held l) ∙ second numbers held l
 
 module _ (numbers : List ℤ) (r : isRecord numbers ≡ true) (answer a : ℕ × ℕ) (held out : List ℤ) (p : a ≡ answer) where
   -- the record that a call on `run` hands back

@@ -109,9 +109,9 @@ module _ (numbers : List ℤ) where
       → recordOf w c held f ≡ unpacked numbers
   lent-is r w c held f h e = ap (λ (xs : List ℤ). recordOf w c xs f) (h ∙ rest-is numbers (has-room numbers r)) ∙ e
 
-pub small : (x : ℤ) → T (nonNeg x) → mag x < 2 ^ 63 → natAbs x < 2 ^ 63
-small (pos n) e h = h
-small (negsuc n) e h = absurd e
+pub natural : (x : ℤ) → T (nonNeg x) → x ≡ pos (natAbs x)
+natural (pos n) e = refl
+natural (negsuc n) e = absurd e
 
 -- ---- packing
 pub number : (n : ℕ) → n < 2 ^ 63 → toZ w64 n ≡ pos n

@@ -1,15 +1,16 @@
 // The run record as 67 numbers: the width, the count, whether it is finished, and the held values.
 ghost use mathlib.Core.Path.{_≡_};
 ghost use mathlib.Core.Bool.{true};
-ghost use Prim.Native.Nat.{_<_, _^_};
+ghost use Prim.Native.Nat.{_<_};
 ghost use lib.IntN.{pos};
 ghost use lib.ListN.{length, drop, set};
+ghost use Rattle.integers.specs.Places.{at};
 ghost use Rattle.lifting.specs.Gate.{told};
 ghost use Rattle.run.specs.Record.{recordOf, nextCount};
 ghost use Rattle.lapped.specs.Record.{isRecord, packed, unpacked};
 ghost use Rattle.lapped.specs.Ready.{Packable};
+use lifting::gate;
 use lifting::gate::Answer;
-use run::in_place;
 use run::record;
 use run::record::Run;
 
@@ -52,7 +53,7 @@ pub fn is_record(numbers: &[i64]) -> bool
 pub fn front(numbers: &[i64]) -> Head
     requires { ⌜ isRecord (now numbers) ≡ true ⌝ }
     ensures { λ r. ⌜ recordOf (r .width) (r .count) (drop 3 (now (numbers .entry))) (r .finished) ≡ unpacked (now (numbers .entry)) ⌝ }
-    ensures { λ r. ⌜ r .count < 2 ^ 63 ⌝ }
+    ensures { λ r. ⌜ at (now (numbers .entry)) 1 ≡ pos (r .count) ⌝ }
 {
     Head {
         width: numbers[0] as usize,
@@ -61,13 +62,16 @@ pub fn front(numbers: &[i64]) -> Head
     }
 }
 
-// The count of a record in its place, after a call that gave this answer.
+// The count of a record in its place, after a call that gave this answer. A refused call stores nothing.
 pub fn store_count(count: usize, answer: Answer, numbers: &mut [i64])
     requires { ⌜ (told answer .0 ≡ 0 → count < 65537) ⌝ }
-    requires { ⌜ (count < 2 ^ 63) × (length (now numbers) ≡ 67) ⌝ }
+    requires { ⌜ (length (now numbers) ≡ 67) × (at (now numbers) 1 ≡ pos count) ⌝ }
     ensures { λ _. ⌜ now (numbers .exit) ≡ set (now (numbers .entry)) 1 (pos (nextCount (told answer .0) count)) ⌝ }
 {
-    numbers[1] = in_place::next_count(count, answer) as i64;
+    if gate::number(answer) != 0 {
+        return;
+    }
+    numbers[1] = (count + 1) as i64;
 }
 
 // Of numbers that are no record, one of width 0.

@@ -1,15 +1,15 @@
 -- What a fold's rotations come to, and a list that is stored from both ends.
-use mathlib.Core.Path.{_≡_, refl, ap, ap₂, subst, _∙_}
+use mathlib.Core.Path.{_≡_, refl, sym, ap, ap₂, subst, _∙_}
 use mathlib.Core.Bool.{Bool, true, false, cond}
-use mathlib.Core.List.{List}
-use Prim.Native.Nat.{ℕ, _+_, _-_, _^_, _≤_, _<_}
+use mathlib.Core.List.{List, _++_}
+use Prim.Native.Nat.{ℕ, _+_, _-_, _*_, _/_, _^_, _≤_, _<_}
 use native.Mathlib.Omega.{arith}
 use borrow.Author.Tests.{ltb-true, ltb-false, eqb-true, eqb-false, lt-ltb, le-ltb}
 use lib.Dec.{T, eqb, ltb}
 use lib.IntN.{ℤ, pos, negℤ, natAbs, _*ℤ_}
-use lib.ListN.{length, set, length-set}
+use lib.ListN.{length, set, length-set, List·getD-append}
 use lib.Signed.{mag}
-use lib.Seq.{getD-set-same, getD-set-other}
+use lib.Seq.{getD-set-same, getD-set-other, getD-append-add}
 use mir.Syntax.{w64}
 use mir.Val.{toZ, ofZ}
 use Rattle.integers.specs.Floor.{round}
@@ -18,8 +18,11 @@ use Rattle.integers.proofs.Order.{natAbs-*ℤ-le}
 use Rattle.integers.proofs.Num.{Num, num, num-call}
 use Rattle.integers.proofs.Rounding.{round-within}
 use Rattle.integers.proofs.PlaceLaws.{at-places, by-places}
+use Rattle.integers.proofs.Fills.{Filling, filling-next, filling-here}
 use Rattle.tables.specs.Widths.{halfWidth}
-use Rattle.steps.specs.Steps.{tangent, sine, tangentAmount, sineAmount, rotatedA, rotatedB, unrotatedA, unrotatedB}
+use Rattle.tables.proofs.ByWidth.{at-each}
+use Rattle.steps.specs.Steps.{tangent, sine, tangentAmount, sineAmount, rotatedA, rotatedB, unrotatedA, unrotatedB, lower}
+use Rattle.steps.proofs.Undo.{length-lower}
 use Rattle.stages.specs.Moves.{moved}
 use Rattle.stages.specs.Expanded.{Tangents, Sines}
 use Rattle.stages.proofs.StageSizes.{moved-size}
@@ -77,6 +80,43 @@ ends-all {f = f} {n = n} {i = i} {d = d} s l = by-places n d f (s .long) (λ k h
     by k h true t = s .front k (ltb-true k i t)
     by k h false t = s .back k (omega (arith, ltb-false k i t)) h
 
+-- ---- a list of 2q places, final from its middle k to either side
+pub record Middle (f : ℕ → ℤ) (q k : ℕ) (d : List ℤ) : Type 0 where
+  pub long : length d ≡ q + q
+  inside : (p : ℕ) → q ≤ p + k → p < q + k → at d p ≡ f p
+
+pub middle-none : (f : ℕ → ℤ) (q : ℕ) (d : List ℤ) → length d ≡ q + q → Middle f q 0 d
+middle-none f q d l = record { long = l; inside = λ p h b. absurd (omega arith) }
+
+middle-next : {f : ℕ → ℤ} {q k : ℕ} {d : List ℤ} {a b : ℤ} → Middle f q k d → k < q → a ≡ f (q - 1 - k) → b ≡ f (q + k)
+    → Middle f q (k + 1) (set (set d (q - 1 - k) a) (q + k) b)
+middle-next {f = f} {q = q} {k = k} {d = d} {a = a} {b = b} s h e g =
+    let i = q - 1 - k in
+    let j = q + k in
+    let t = length-set d i a in
+    record {
+      long = length-set (set d i a) j b ∙ t ∙ s .long;
+      inside = λ p l r.
+          stored f (set d i a) j p b (omega (arith, s .long)) g (λ u.
+          stored f d i p a (omega (arith, s .long)) e (λ v.
+          s .inside p (omega (arith, v)) (omega (arith, u))));
+    }
+
+pub middle-all : {f : ℕ → ℤ} {q k : ℕ} {d : List ℤ} → Middle f q k d → q ≤ k → d ≡ places (q + q) f
+middle-all {f = f} {q = q} {d = d} s l = by-places (q + q) d f (s .long) (λ p h. s .inside p (omega arith) (omega arith))
+
+-- ---- a list filled from its front by twos: what stands past the first place, and a turn
+module _ {f : ℕ → ℤ} {d₀ : List ℤ} {i : ℕ} {d : List ℤ} (s : Filling f d₀ i d) where
+  filling-past : at d (i + 1) ≡ at d₀ (i + 1)
+  filling-past =
+      let e : i + 1 ≡ i → ⊥ = λ h. omega arith in
+      sym (getD-set-other d i (i + 1) (f i) (pos 0) e) ∙ filling-here (filling-next s refl)
+
+  pub filling-two : (j : ℕ) → j ≡ i + 2 → {u v : ℤ} {d′ : List ℤ} → d′ ≡ set (set d i u) (i + 1) v → u ≡ f i → v ≡ f (i + 1) → Filling f d₀ j d′
+  filling-two j e {u = u} {v = v} {d′ = d′} is g h =
+      let n : i + 1 + 1 ≡ j = omega arith in
+      subst (Filling f d₀ j) (sym is) (subst (λ m. Filling f d₀ m (set (set d i u) (i + 1) v)) n (filling-next (filling-next s g) h))
+
 -- ---- the three lifts are the rotation
 abbrev turnedA : Bool → ℤ → ℤ → ℤ → ℤ → ℤ
 turnedA undo t s a b = lifted undo s (lifted undo t a b) a
@@ -122,9 +162,6 @@ module _ (N : ℕ) (xs : List ℤ) (n : ℕ) (l : n < halfWidth N) where
   sine-num s = subst (Num w64 (2 ^ 28) (ofZ w64 (at xs n))) (ap (λ ys. at ys n) (s .is) ∙ at-places (halfWidth N) _ n l) (num w64 _ (sines-within N xs s .size n) tt)
 
 -- ---- what goes to each place
-abbrev pub lowerAt : ℕ → List ℤ → ℕ → ℤ
-lowerAt N x i = let n = halfWidth N - 1 - i in rotatedA N n (at x n) (at x (N - 1 - n))
-
 abbrev pub heldAt : ℕ → List ℤ → ℕ → ℤ
 heldAt N x n = rotatedB N n (at x n) (at x (N - 1 - n))
 
@@ -138,9 +175,6 @@ module _ (N n : ℕ) (l : n < halfWidth N) where
   abbrev M : ℕ
   M = halfWidth N
 
-  pub lower-at : (x : List ℤ) (m : ℕ) → m ≡ M - 1 - n → lowerAt N x m ≡ rotatedA N n (at x n) (at x (N - 1 - n))
-  lower-at x m e = let h : M - 1 - m ≡ n = omega arith in ap (λ k. rotatedA N k (at x k) (at x (N - 1 - k))) h
-
   module _ (low high : List ℤ) where
     pub front-at : blockAt N low high n ≡ unrotatedA N n (at low (M - 1 - n)) (at high n)
     front-at = rw (lt-ltb n M l)
@@ -149,3 +183,45 @@ module _ (N n : ℕ) (l : n < halfWidth N) where
     back-at w =
         let h : N - 1 - (N - 1 - n) ≡ n = omega arith in
         rw (le-ltb (N - 1 - n) M (omega arith)) (ap (λ k. unrotatedB N k (at low (M - 1 - k)) (at high k)) h)
+
+-- ---- folded values: a block's rotated pairs, and behind them what was held
+pub quarter-is : (N : ℕ) → 0 < halfWidth N → N / 4 + N / 4 ≡ halfWidth N
+unfolding halfWidth
+quarter-is = at-each (λ n m. 0 < m → n / 4 + n / 4 ≡ m) 4 16 64 0 (λ z. refl) (λ z. refl) (λ z. refl) (λ n x y w z. absurd (omega arith))
+
+module _ (N : ℕ) (x h : List ℤ) where
+  abbrev folded : ℕ → ℤ
+  folded = at (lower N x ++ h)
+
+  folded-low : (n i : ℕ) → n < halfWidth N → i ≡ halfWidth N - 1 - n → folded i ≡ rotatedA N n (at x n) (at x (N - 1 - n))
+  unfolding lower
+  folded-low n i l e =
+      let d : halfWidth N - 1 - i ≡ n = omega arith in
+      List·getD-append (lower N x) h (pos 0) i (omega (arith, length-lower N x))
+      ∙ at-places (halfWidth N) _ i (omega arith)
+      ∙ ap (λ k. rotatedA N k (at x k) (at x (N - 1 - k))) d
+
+  folded-high : (n i : ℕ) → i ≡ halfWidth N + n → folded i ≡ at h n
+  folded-high n i e = let d : i ≡ length (lower N x) + n = omega (arith, length-lower N x) in ap folded d ∙ getD-append-add (lower N x) h n (pos 0)
+
+  abbrev pub topAt : ℕ → ℤ
+  topAt m = folded (2 * m)
+
+  abbrev pub bottomAt : ℕ → ℤ
+  bottomAt m = folded (2 * m + 1)
+
+  -- a turn stores the pairs 2k and 2k + 1
+  module _ {q k : ℕ} (whole : q + q ≡ halfWidth N) (below : k < q) {held d d′ : List ℤ} {a b : ℤ} (rest : Filling (heldAt N x) h (2 * k) held) (is : d′ ≡ set (set d (q - 1 - k) a) (q + k) b) where
+    pub top-next : Middle topAt q k d → a ≡ (let n = 2 * k + 1 in rotatedA N n (at x n) (at x (N - 1 - n))) → b ≡ at held (2 * k) → Middle topAt q (k + 1) d′
+    top-next s e g =
+        subst (Middle topAt q (k + 1)) (sym is)
+        (middle-next s below
+        (e ∙ sym (folded-low (2 * k + 1) (2 * (q - 1 - k)) (omega arith) (omega arith)))
+        (g ∙ filling-here rest ∙ sym (folded-high (2 * k) (2 * (q + k)) (omega arith))))
+
+    pub bottom-next : Middle bottomAt q k d → a ≡ (let n = 2 * k in rotatedA N n (at x n) (at x (N - 1 - n))) → b ≡ at held (2 * k + 1) → Middle bottomAt q (k + 1) d′
+    bottom-next s e g =
+        subst (Middle bottomAt q (k + 1)) (sym is)
+        (middle-next s below
+        (e ∙ sym (folded-low (2 * k) (2 * (q - 1 - k) + 1) (omega arith) (omega arith)))
+        (g ∙ filling-past rest ∙ sym (folded-high (2 * k + 1) (2 * (q + k) + 1) (omega arith))))

@@ -1,15 +1,16 @@
 // The fold of a block by rotations of its readings in pairs, and the fold undone.
 ghost use mathlib.Core.Path.{_≡_};
-ghost use Prim.Native.Nat.{_^_, _≤_, _<_};
+ghost use mathlib.Core.List.{_++_};
+ghost use Prim.Native.Nat.{_-_, _^_, _≤_, _<_};
 ghost use lib.IntN.{natAbs, _*ℤ_};
-ghost use lib.ListN.{length};
+ghost use lib.ListN.{length, set};
 ghost use Rattle.integers.specs.Floor.{round};
-ghost use Rattle.integers.specs.Places.{Within};
+ghost use Rattle.integers.specs.Places.{at, Within};
 ghost use Rattle.tables.specs.Widths.{halfWidth};
 ghost use Rattle.steps.specs.Steps;
+ghost use Rattle.steps.specs.Steps.{lower, topOf, bottomOf, rotatedA, rotatedB};
 ghost use Rattle.stages.specs.Moves.{moved};
-ghost use Rattle.stages.specs.Expanded.{Tangents, Sines, Halves, Width};
-use stages::lifts;
+ghost use Rattle.stages.specs.Expanded.{Tangents, Sines, Halves};
 use stages::vectors;
 
 struct Pair {
@@ -39,43 +40,69 @@ fn rotated(undo: bool, t: i64, s: i64, a: i64, b: i64) -> Pair
     }
 }
 
-// Pair n is reading n and reading N−1−n, rotated: a goes to lower place M−1−n, b is held at n.
-fn fold_with(
+// Pair n is reading n and reading N−1−n, rotated.
+fn pair_of(width: usize, tangents: &[i64], sines: &[i64], block: &[i32], n: usize) -> Pair
+    requires { ⌜ n < halfWidth width ⌝ }
+    requires { ⌜ Tangents width (now tangents) ⌝ }
+    requires { ⌜ Sines width (now sines) ⌝ }
+    requires { ⌜ length (now block) ≡ width ⌝ }
+    requires { ⌜ Within 50000 (now block) ⌝ }
+    ensures { λ r. ⌜ (r .a ≡ rotatedA width n (at (now (block .entry)) n) (at (now (block .entry)) (width - 1 - n))) × (r .b ≡ rotatedB width n (at (now (block .entry)) n) (at (now (block .entry)) (width - 1 - n))) ⌝ }
+{
+    let mirrored = width - 1 - n;
+    rotated(
+        false,
+        tangents[n],
+        sines[n],
+        block[n] as i64,
+        block[mirrored] as i64,
+    )
+}
+
+// a at place i, then b at place j.
+fn put_two(list: &mut [i64], i: usize, a: i64, j: usize, b: i64)
+    requires { ⌜ (i < length (now list)) × (j < length (now list)) ⌝ }
+    ensures { λ _. ⌜ now (list .exit) ≡ set (set (now (list .entry)) i a) j b ⌝ }
+{
+    list[i] = a;
+    list[j] = b;
+}
+
+// Pairs n and n + 1, n even, rotated: a goes to folded place M−1−n, b is held and what was held goes to folded place M+n. Even folded places are
+// the top half of the frame, odd ones the bottom half.
+pub fn fold(
     width: usize,
     tangents: &[i64],
     sines: &[i64],
     block: &[i32],
-    lower: &mut [i64],
     held: &mut [i64],
+    top: &mut [i64],
+    bottom: &mut [i64],
 )
+    requires { ⌜ 0 < halfWidth width ⌝ }
     requires { ⌜ Tangents width (now tangents) ⌝ }
     requires { ⌜ Sines width (now sines) ⌝ }
-    requires { ⌜ length (now block) ≡ width ⌝ }
-    requires { ⌜ Halves width (now lower) (now held) ⌝ }
+    requires { ⌜ (length (now block) ≡ width) × (length (now held) ≡ halfWidth width) ⌝ }
+    requires { ⌜ Halves width (now top) (now bottom) ⌝ }
     requires { ⌜ Within 50000 (now block) ⌝ }
-    ensures { λ _. ⌜ (now (lower .exit) ≡ Rattle.steps.specs.Steps.lower width (now (block .entry))) × (now (held .exit) ≡ Rattle.steps.specs.Steps.held width (now (block .entry))) ⌝ }
+    ensures { λ _. ⌜ now (held .exit) ≡ Rattle.steps.specs.Steps.held width (now (block .entry)) ⌝ }
+    ensures { λ _. ⌜ (now (top .exit) ≡ topOf width (lower width (now (block .entry)) ++ now (held .entry))) × (now (bottom .exit) ≡ bottomOf width (lower width (now (block .entry)) ++ now (held .entry))) ⌝ }
 {
-    let half = tangents.len();
-    let mut n = 0;
-    while n < half {
-        let mirrored = half - 1 - n;
-        let pair = rotated(
-            false,
-            tangents[n],
-            sines[n],
-            block[n] as i64,
-            block[width - 1 - n] as i64,
-        );
-        let folded = pair.a;
-        let kept = pair.b;
-        lower[mirrored] = folded;
-        held[n] = kept;
-        n += 1;
+    let quarter = width / 4;
+    let mut k = 0;
+    while k < quarter {
+        let n = 2 * k;
+        let first = pair_of(width, tangents, sines, block, n);
+        let second = pair_of(width, tangents, sines, block, n + 1);
+        put_two(bottom, quarter - 1 - k, first.a, quarter + k, held[n + 1]);
+        put_two(top, quarter - 1 - k, second.a, quarter + k, held[n]);
+        put_two(held, n, first.b, n + 1, second.b);
+        k += 1;
     }
 }
 
 // Pair n is lower place M−1−n and held place n, rotated back: a is reading n, b is reading N−1−n.
-fn unfold_with(
+pub fn unfold(
     width: usize,
     tangents: &[i64],
     sines: &[i64],
@@ -102,124 +129,5 @@ fn unfold_with(
         block[n] = a;
         block[width - 1 - n] = b;
         n += 1;
-    }
-}
-
-// A constant is written out by the function that names it, so each width has its own.
-fn fold_8(block: &[i32], lower: &mut [i64], held: &mut [i64])
-    requires { ⌜ length (now block) ≡ 8 ⌝ }
-    requires { ⌜ Halves 8 (now lower) (now held) ⌝ }
-    requires { ⌜ Within 50000 (now block) ⌝ }
-    ensures { λ _. ⌜ (now (lower .exit) ≡ Rattle.steps.specs.Steps.lower 8 (now (block .entry))) × (now (held .exit) ≡ Rattle.steps.specs.Steps.held 8 (now (block .entry))) ⌝ }
-{
-    fold_with(8, &lifts::TANGENTS_8, &lifts::SINES_8, block, lower, held);
-}
-
-fn fold_32(block: &[i32], lower: &mut [i64], held: &mut [i64])
-    requires { ⌜ length (now block) ≡ 32 ⌝ }
-    requires { ⌜ Halves 32 (now lower) (now held) ⌝ }
-    requires { ⌜ Within 50000 (now block) ⌝ }
-    ensures { λ _. ⌜ (now (lower .exit) ≡ Rattle.steps.specs.Steps.lower 32 (now (block .entry))) × (now (held .exit) ≡ Rattle.steps.specs.Steps.held 32 (now (block .entry))) ⌝ }
-{
-    fold_with(
-        32,
-        &lifts::TANGENTS_32,
-        &lifts::SINES_32,
-        block,
-        lower,
-        held,
-    );
-}
-
-fn fold_128(block: &[i32], lower: &mut [i64], held: &mut [i64])
-    requires { ⌜ length (now block) ≡ 128 ⌝ }
-    requires { ⌜ Halves 128 (now lower) (now held) ⌝ }
-    requires { ⌜ Within 50000 (now block) ⌝ }
-    ensures { λ _. ⌜ (now (lower .exit) ≡ Rattle.steps.specs.Steps.lower 128 (now (block .entry))) × (now (held .exit) ≡ Rattle.steps.specs.Steps.held 128 (now (block .entry))) ⌝ }
-{
-    fold_with(
-        128,
-        &lifts::TANGENTS_128,
-        &lifts::SINES_128,
-        block,
-        lower,
-        held,
-    );
-}
-
-// A block to its lower folded places, and to the upper ones of the next frame.
-pub fn fold(width: usize, half: usize, block: &[i32], lower: &mut [i64], held: &mut [i64])
-    requires { ⌜ Width width half ⌝ }
-    requires { ⌜ length (now block) ≡ width ⌝ }
-    requires { ⌜ (length (now lower) ≡ halfWidth width) × (length (now held) ≡ halfWidth width) ⌝ }
-    requires { ⌜ Within 50000 (now block) ⌝ }
-    ensures { λ _. ⌜ (now (lower .exit) ≡ Rattle.steps.specs.Steps.lower width (now (block .entry))) × (now (held .exit) ≡ Rattle.steps.specs.Steps.held width (now (block .entry))) ⌝ }
-{
-    match width {
-        8 => fold_8(block, lower, held),
-        32 => fold_32(block, lower, held),
-        128 => fold_128(block, lower, held),
-        _ => {}
-    }
-}
-
-fn unfold_8(lower: &[i64], held: &[i64], block: &mut [i64])
-    requires { ⌜ Halves 8 (now lower) (now held) ⌝ }
-    requires { ⌜ length (now block) ≡ 8 ⌝ }
-    requires { ⌜ Within 50000 (now lower) ⌝ }
-    requires { ⌜ Within 50000 (now held) ⌝ }
-    ensures { λ _. ⌜ now (block .exit) ≡ Rattle.steps.specs.Steps.unfolded 8 (now (lower .entry)) (now (held .entry)) ⌝ }
-{
-    unfold_with(8, &lifts::TANGENTS_8, &lifts::SINES_8, lower, held, block);
-}
-
-fn unfold_32(lower: &[i64], held: &[i64], block: &mut [i64])
-    requires { ⌜ Halves 32 (now lower) (now held) ⌝ }
-    requires { ⌜ length (now block) ≡ 32 ⌝ }
-    requires { ⌜ Within 50000 (now lower) ⌝ }
-    requires { ⌜ Within 50000 (now held) ⌝ }
-    ensures { λ _. ⌜ now (block .exit) ≡ Rattle.steps.specs.Steps.unfolded 32 (now (lower .entry)) (now (held .entry)) ⌝ }
-{
-    unfold_with(
-        32,
-        &lifts::TANGENTS_32,
-        &lifts::SINES_32,
-        lower,
-        held,
-        block,
-    );
-}
-
-fn unfold_128(lower: &[i64], held: &[i64], block: &mut [i64])
-    requires { ⌜ Halves 128 (now lower) (now held) ⌝ }
-    requires { ⌜ length (now block) ≡ 128 ⌝ }
-    requires { ⌜ Within 50000 (now lower) ⌝ }
-    requires { ⌜ Within 50000 (now held) ⌝ }
-    ensures { λ _. ⌜ now (block .exit) ≡ Rattle.steps.specs.Steps.unfolded 128 (now (lower .entry)) (now (held .entry)) ⌝ }
-{
-    unfold_with(
-        128,
-        &lifts::TANGENTS_128,
-        &lifts::SINES_128,
-        lower,
-        held,
-        block,
-    );
-}
-
-// The block of these folded places.
-pub fn unfold(width: usize, half: usize, lower: &[i64], held: &[i64], block: &mut [i64])
-    requires { ⌜ Width width half ⌝ }
-    requires { ⌜ Halves width (now lower) (now held) ⌝ }
-    requires { ⌜ length (now block) ≡ width ⌝ }
-    requires { ⌜ Within 50000 (now lower) ⌝ }
-    requires { ⌜ Within 50000 (now held) ⌝ }
-    ensures { λ _. ⌜ now (block .exit) ≡ Rattle.steps.specs.Steps.unfolded width (now (lower .entry)) (now (held .entry)) ⌝ }
-{
-    match width {
-        8 => unfold_8(lower, held, block),
-        32 => unfold_32(lower, held, block),
-        128 => unfold_128(lower, held, block),
-        _ => {}
     }
 }

@@ -1,7 +1,8 @@
 // The five stages alone, both ways, for any caller.
 ghost use mathlib.Core.Path.{_≡_};
 ghost use lib.ListN.{length};
-ghost use Rattle.stages.specs.Expanded.{Width};
+ghost use Prim.Native.Nat.{_<_};
+ghost use Rattle.tables.specs.Widths.{halfWidth};
 ghost use Rattle.lifting.specs.Gate.{told, stagesAsked, unstagesAsked, stagesAlone, unstagesAlone};
 use crate::gate;
 use crate::gate::Answer;
@@ -11,8 +12,8 @@ use stages::room;
 use stages::vectors;
 use tables::widths;
 
-fn staged(width: usize, half: usize, folded: &[i32], work: &mut [i64], frame: &mut [i32]) -> Answer
-    requires { ⌜ Width width half ⌝ }
+fn staged(width: usize, folded: &[i32], work: &mut [i64], frame: &mut [i32]) -> Answer
+    requires { ⌜ 0 < halfWidth width ⌝ }
     requires { ⌜ (length (now folded) ≡ width) × (length (now work) ≡ width) × (length (now frame) ≡ width) ⌝ }
     ensures { λ r. ⌜ (told r, now (frame .exit)) ≡ stagesAsked width (now (folded .entry)) (now (frame .entry)) ⌝ }
 {
@@ -21,19 +22,13 @@ fn staged(width: usize, half: usize, folded: &[i32], work: &mut [i64], frame: &m
     if let Found::At(place) = beyond {
         return Answer::Folded(place);
     }
-    transform::stages(width, half, work);
+    transform::alone(false, width, work);
     vectors::narrow(work, frame);
     Answer::Done
 }
 
-fn unstaged(
-    width: usize,
-    half: usize,
-    frame: &[i32],
-    work: &mut [i64],
-    folded: &mut [i32],
-) -> Answer
-    requires { ⌜ Width width half ⌝ }
+fn unstaged(width: usize, frame: &[i32], work: &mut [i64], folded: &mut [i32]) -> Answer
+    requires { ⌜ 0 < halfWidth width ⌝ }
     requires { ⌜ (length (now frame) ≡ width) × (length (now work) ≡ width) × (length (now folded) ≡ width) ⌝ }
     ensures { λ r. ⌜ (told r, now (folded .exit)) ≡ unstagesAsked width (now (frame .entry)) (now (folded .entry)) ⌝ }
 {
@@ -42,7 +37,7 @@ fn unstaged(
     if let Found::At(place) = coefficient {
         return Answer::Range(place);
     }
-    transform::unstages(width, half, work);
+    transform::alone(true, width, work);
     let value = gate::first_beyond(work, 50000);
     if let Found::At(place) = value {
         return Answer::Folded(place);
@@ -55,8 +50,7 @@ fn unstaged(
 pub fn stages(width: usize, folded: &[i32], frame: &mut [i32]) -> Answer
     ensures { λ r. ⌜ (told r, now (frame .exit)) ≡ stagesAlone width (now (folded .entry)) (now (frame .entry)) ⌝ }
 {
-    let half = widths::half_width(width);
-    if half == 0 {
+    if widths::half_width(width) == 0 {
         return Answer::Width;
     }
     if folded.len() != width {
@@ -66,15 +60,14 @@ pub fn stages(width: usize, folded: &[i32], frame: &mut [i32]) -> Answer
         return Answer::OutputLength;
     }
     let mut work = room::of_128();
-    staged(width, half, folded, &mut work[..width], frame)
+    staged(width, folded, &mut work[..width], frame)
 }
 
 // The coefficients of a frame to its folded values.
 pub fn unstages(width: usize, frame: &[i32], folded: &mut [i32]) -> Answer
     ensures { λ r. ⌜ (told r, now (folded .exit)) ≡ unstagesAlone width (now (frame .entry)) (now (folded .entry)) ⌝ }
 {
-    let half = widths::half_width(width);
-    if half == 0 {
+    if widths::half_width(width) == 0 {
         return Answer::Width;
     }
     if frame.len() != width {
@@ -84,5 +77,5 @@ pub fn unstages(width: usize, frame: &[i32], folded: &mut [i32]) -> Answer
         return Answer::OutputLength;
     }
     let mut work = room::of_128();
-    unstaged(width, half, frame, &mut work[..width], folded)
+    unstaged(width, frame, &mut work[..width], folded)
 }

@@ -1,6 +1,6 @@
-pub mod ArrangedLaws
-pub mod WindowLaws
-pub mod WordLaws
+pub mod Read
+pub mod Turned
+pub mod ProductLaws
 pub mod CosineOrder
-pub mod SumLaws
-pub mod RaisedLaws
+pub mod SecantOrder
+pub mod Parts

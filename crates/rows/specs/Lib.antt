@@ -1,4 +1,2 @@
 pub mod Orders
 pub mod Sums
-pub mod Words
-pub mod Arranged

@@ -1,21 +1,28 @@
--- A list brought into an order.
+-- A list taken in an order, each number with a sign, and the order of the secants.
 use mathlib.Core.Path.{_≡_}
+use mathlib.Core.Bool.{cond}
 use mathlib.Core.List.{List}
-use Prim.Native.Nat.{ℕ, _<_}
-use lib.IntN.{ℤ, _*ℤ_}
-use lib.ListN.{length, getD}
-use Rattle.integers.specs.Places.{at, Within}
+use Prim.Native.Nat.{ℕ, _-_, _*_, _/_, _%_, _<_}
+use lib.Dec.{eqb, ltb}
+use lib.IntN.{ℤ, pos, negℤ, _*ℤ_}
+use lib.ListN.{length}
+use Rattle.integers.specs.Floor.{above}
+use Rattle.integers.specs.Places.{at}
 
--- each place is one of a list of n numbers
-pub record Below (n : ℕ) (xs : List ℕ) : Type 0 where
-  pub below : (i : ℕ) → i < length xs → getD xs i 0 < n
-
--- n places of a list of n numbers, each with a sign
-pub record Order (n : ℕ) (places : List ℕ) (signs : List ℤ) : Type 0 where
+-- n places of a list of n numbers, each with a sign, which may be some times as large
+pub record Order (n : ℕ) (places signs : List ℤ) : Type 0 where
   pub places-long : length places ≡ n
   pub signs-long : length signs ≡ n
-  pub below : Below n places
-  pub within : Within 1 signs
+  pub natural : (k : ℕ) → k < n → at places k ≡ pos (above (at places k))
+  pub inside : (k : ℕ) → k < n → above (at places k) < n
 
-abbrev pub gathered : List ℕ → List ℤ → List ℤ → ℕ → ℤ
-gathered places signs x k = at signs k *ℤ at x (getD places k 0)
+-- the number at a place of an order, with its sign
+abbrev pub rowAt : List ℤ → List ℤ → List ℤ → ℕ → ℤ
+rowAt places signs x m = at signs m *ℤ at x (above (at places m))
+
+-- ---- secants: the even places, then the odd ones from the end, with a minus; and rows so again
+unfoldable pub secantIn : ℕ → (ℕ → ℤ) → ℕ → ℤ
+secantIn M x j = cond (ltb (2 * j) M) (x (2 * j)) (negℤ (x (2 * M - 1 - 2 * j)))
+
+unfoldable pub secantOut : ℕ → (ℕ → ℤ) → ℕ → ℤ
+secantOut M z m = cond (eqb (m % 2) 0) (z (m / 2)) (negℤ (z (M - 1 - m / 2)))

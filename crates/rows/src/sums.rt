@@ -1,57 +1,55 @@
-// The row sums of the stages: every row of cosines or of secants times a list. Both matrices, with their columns in another order, are parts
-// of one list, each row a little further on.
+// Every row of cosines or of secants times a list, by one product each. The sums are left in the order of the product.
 ghost use mathlib.Core.Path.{_≡_};
-ghost use Prim.Native.Nat.{_%_, _≤_, _<_};
+ghost use mathlib.Core.Bool.{cond};
+ghost use Prim.Native.Nat.{_*_, _≤_, _<_};
 ghost use lib.ListN.{length};
-ghost use Rattle.integers.specs.Places.{places, at, Within};
+ghost use Rattle.integers.specs.Places.{Within};
 ghost use Rattle.tables.specs.Widths.{halfWidth};
-ghost use Rattle.rows.specs.Sums.{cosineSums, secantSums, takenPlace};
-use crate::arranged;
+ghost use Rattle.constants.specs.Filled.{Filled, productRoom};
+ghost use Rattle.rows.specs.Sums.{CosineRows, SecantRows};
+use crate::order;
+use products::whole;
 
-// Every row sum of the cosine matrix with x.
-pub fn cosine_sums(width: usize, x: &[i64], row: &mut [i64], sums: &mut [i64], out: &mut [i64])
-    requires { ⌜ (0 < halfWidth width) × (8 < width) ⌝ }
-    requires { ⌜ (length (now x) ≡ halfWidth width) × (length (now row) ≡ halfWidth width) × (length (now sums) ≡ halfWidth width) × (length (now out) ≡ halfWidth width) ⌝ }
-    requires { ⌜ Within 500000000 (now x) ⌝ }
-    ensures { λ _. ⌜ now (out .exit) ≡ cosineSums width (now (x .entry)) ⌝ }
+// Where the signs stand: alternated ones behind the plain ones.
+fn signs_at(alternated: bool, half: usize) -> usize
+    requires { ⌜ half ≤ 64 ⌝ }
+    ensures { λ r. ⌜ r ≡ cond alternated (4 * half) (3 * half) ⌝ }
 {
-    match width {
-        32 => arranged::cosine_sums_32(x, row, sums, out),
-        128 => arranged::cosine_sums_128(x, row, sums, out),
-        _ => {}
+    if alternated {
+        return 4 * half;
     }
+    3 * half
 }
 
-fn taken_place(half: usize, odd: usize, l: usize) -> usize
-    requires { ⌜ (odd ≤ 1) × (l < half) × (half % 2 ≡ 0) ⌝ }
-    ensures { λ r. ⌜ (r ≡ takenPlace half odd l) × (r < half) ⌝ }
+// Every row sum of the cosine matrix with x, or with d·x.
+pub fn cosine_sums(alternated: bool, width: usize, t: &[i64], x: &[i64], room: &mut [i64])
+    requires { ⌜ 0 < halfWidth width ⌝ }
+    requires { ⌜ Filled width (now t) ⌝ }
+    requires { ⌜ (length (now x) ≡ halfWidth width) × (productRoom width ≤ length (now room)) ⌝ }
+    requires { ⌜ Within 268000000 (now x) ⌝ }
+    ensures { λ _. ⌜ CosineRows width (cond alternated (Rattle.rows.specs.Sums.alternated (now (x .entry))) (now (x .entry))) (now (room .exit)) ⌝ }
 {
-    if l % 2 == 0 {
-        return l + odd;
-    }
-    half - odd - l
-}
-
-// The list as the even rows of secants take it, or the odd ones.
-fn for_rows(odd: usize, x: &[i64], out: &mut [i64])
-    requires { ⌜ (odd ≤ 1) × (length (now out) ≡ length (now x)) × (length (now x) % 2 ≡ 0) ⌝ }
-    ensures { λ _. ⌜ now (out .exit) ≡ places (length (now (out .entry))) (λ l. at (now (x .entry)) (takenPlace (length (now (x .entry))) odd l)) ⌝ }
-{
-    let mut l = 0;
-    while l < out.len() {
-        out[l] = x[taken_place(x.len(), odd, l)];
-        l += 1;
-    }
+    let half = width / 2;
+    let from = 7 * half;
+    let middle = (from + t.len()) / 2;
+    let plain = 3 * half;
+    let signs = signs_at(alternated, half);
+    let end = signs + half;
+    order::gather(&t[width..plain], &t[signs..end], x, &mut room[..half]);
+    whole::product(&t[from..middle], room, half);
 }
 
 // Every row sum of the secants with x.
-pub fn secant_sums(width: usize, x: &[i64], row: &mut [i64], odd: &mut [i64], out: &mut [i64])
-    requires { ⌜ (0 < halfWidth width) × (8 < width) ⌝ }
-    requires { ⌜ (length (now x) ≡ halfWidth width) × (length (now row) ≡ halfWidth width) × (length (now odd) ≡ halfWidth width) × (length (now out) ≡ halfWidth width) ⌝ }
-    requires { ⌜ Within 10000000 (now x) ⌝ }
-    ensures { λ _. ⌜ now (out .exit) ≡ secantSums width (now (x .entry)) ⌝ }
+pub fn secant_sums(width: usize, t: &[i64], x: &[i64], room: &mut [i64])
+    requires { ⌜ 0 < halfWidth width ⌝ }
+    requires { ⌜ Filled width (now t) ⌝ }
+    requires { ⌜ (length (now x) ≡ halfWidth width) × (productRoom width ≤ length (now room)) ⌝ }
+    requires { ⌜ Within 6000000 (now x) ⌝ }
+    ensures { λ _. ⌜ SecantRows width (now (x .entry)) (now (room .exit)) ⌝ }
 {
-    for_rows(0, x, row);
-    for_rows(1, x, odd);
-    arranged::secant_windows(width, row, odd, out);
+    let half = width / 2;
+    let middle = (7 * half + t.len()) / 2;
+    let end = t.len();
+    order::secant_in(x, &mut room[..half]);
+    whole::product(&t[middle..end], room, half);
 }

@@ -5,22 +5,23 @@ use mathlib.Core.List.{List, [], _∷_, _++_}
 use Prim.Native.Nat.{ℕ, zero, suc, _+_, _-_, _*_, _≤_, _<_}
 use native.Mathlib.Nat.{mul-le-mul-right}
 use native.Mathlib.Omega.{arith}
-use lib.Dec.{lit≤}
-use lib.IntN.{ℤ}
+use lib.IntN.{ℤ, pos}
 use lib.ListN.{length, take, drop, length-append, length-drop}
 use lib.Seq.{length-take-le, drop-drop}
-use Rattle.tables.specs.Widths.{byWidth, halfWidth}
+use Rattle.tables.specs.Widths.{halfWidth}
 use Rattle.tables.proofs.ByWidth.{half-width-le}
-use Rattle.stages.specs.Expanded.{Width}
 use Rattle.lifting.specs.Gate.{first, beyond, firstBeyond}
 use Rattle.lifting.specs.declared.gate.Found.{Found}
 use Rattle.lifting.specs.declared.gate.Found.the-variants.{At, Nothing}
 use Rattle.steps.proofs.Undo.{width-half}
 use Rattle.run.specs.declared.gate.Fault.{Fault}
 use Rattle.run.specs.declared.gate.Fault.the-variants.{Dead, Beyond, Clear}
-use Rattle.run.specs.Gate.{firstDead, firstOut}
+use Rattle.run.specs.Gate.{inside, firstDead, firstOut}
 use Rattle.run.specs.Faults.{faultBy, faultOf, faultFrom, firstFault}
 use Rattle.run.specs.Ready.{Blocks}
+use Rattle.steps.specs.Limits.{readingLimit}
+use Rattle.run.proofs.GateLaws.{inside-take, inside-drop}
+use Rattle.run.proofs.AskLaws.{range-clear}
 
 -- ---- a fault's place is in its block
 unfoldable pub placeFound : Found → ℕ
@@ -64,10 +65,6 @@ width-le N w = omega (arith, width-half N w, half-width-le N)
 
 pub width-pos : (N : ℕ) → 0 < halfWidth N → 0 < N
 width-pos N w = omega (arith, width-half N w)
-
-pub width-8 : Width 8 4
-unfolding halfWidth byWidth
-width-8 = record { half-is = refl; wide = lit≤ tt }
 
 -- room for a width, and for half of it
 pub width-room : (N : ℕ) (xs : List ℤ) → 0 < halfWidth N → 128 ≡ length xs → N ≤ length xs
@@ -153,3 +150,10 @@ none-left N before left xs e = rw e
 pub beyond-at : (limit : ℤ) (xs : List ℤ) (place : ℕ) → firstBeyond limit xs 0 ≡ At place → place ≤ length xs
 unfolding placeFound
 beyond-at limit xs place e = omega (arith, found-place (beyond limit) xs 0, ap placeFound e)
+
+-- readings that are all in range have no fault
+pub none-at-all : (N before b : ℕ) (readings : List ℤ) → inside (pos readingLimit) readings ≡ true → firstFault N before b readings ≡ Clear
+unfolding firstFault faultFrom
+none-at-all N before zero readings e = refl
+none-at-all N before (suc b) readings e =
+    rw (sym (range-clear (take N readings) (inside-take readingLimit N readings e))) (none-at-all N (before + N) b (drop N readings) (inside-drop readingLimit N readings e))

@@ -1,10 +1,11 @@
 -- What the tests of the code decide of the gate's questions.
 use mathlib.Core.Path.{_≡_, refl, sym, ap, _∙_}
-use mathlib.Core.Bool.{Bool, true, false, _&&_, and-false}
+use mathlib.Core.Bool.{Bool, true, false, cond, _&&_, and-false}
 use mathlib.Core.List.{List, [], _∷_}
-use Prim.Native.Nat.{ℕ, _-_, _≤_, _<_, zero-le}
+use Prim.Native.Nat.{ℕ, _+_, _-_, _≤_, _<_, zero-le}
 use native.Mathlib.Omega.{arith}
-use borrow.Author.Tests.{eq-eqb, ne-eqb, lt-ltb, le-ltb, le-leb, lt-leb}
+use borrow.Author.Tests.{eqb-true, eqb-false, eq-eqb, ne-eqb, lt-ltb, le-ltb, le-leb, lt-leb}
+use lib.Dec.{eqb}
 use lib.Bits.{bitOr, or-add-and, and-le-l, and-le-r}
 use lib.IntN.{ℤ, pos, negsuc, natAbs}
 use lib.ListN.{length, take, drop, length-drop, take-append-drop}
@@ -16,13 +17,14 @@ use Rattle.integers.proofs.PlaceLaws.{within-all, within-up}
 use Rattle.integers.proofs.Products.{all-append, all-getD}
 use Rattle.tables.specs.Widths.{halfWidth}
 use Rattle.steps.specs.Limits.{readingLimit, foldedLimit}
-use Rattle.lifting.specs.Gate.{firstBeyond}
+use Rattle.lifting.specs.Gate.{beyond, firstBeyond}
 use Rattle.lifting.specs.declared.gate.Found.the-variants.{At, Nothing}
+use Rattle.lifting.proofs.GateLaws.{stops, goes-on, ends}
 use Rattle.run.specs.declared.record.Run.{Run}
-use Rattle.run.specs.Gate.{nothing, inside, every, sound, dead, firstDead}
+use Rattle.run.specs.Gate.{nothing, inside, every, sound, dead, firstDead, firstOut}
 use Rattle.run.proofs.StepLaws.{all-within}
 use Rattle.run.proofs.Searches.{All, none-found, inside-all, all-inside}
-use Rattle.run.proofs.RecordLaws.{all-take}
+use Rattle.run.proofs.RecordLaws.{all-take, all-drop}
 
 pub marked : (x : ℤ) → x ≡ negsuc 32767 → dead x ≡ true
 unfolding dead
@@ -49,6 +51,35 @@ outside limit xs i e = ap nothing e
 pub within : (limit : ℤ) (xs : List ℤ) → firstBeyond limit xs 0 ≡ Nothing → inside limit xs ≡ true
 unfolding inside nothing
 within limit xs e = ap nothing e
+
+-- ---- readings out of range, counted up to a place: where there is none yet, the search goes on from there
+pub record Counted (readings : List ℤ) (i out : ℕ) : Type 0 where
+  pub none : out ≡ 0 → firstOut readings 0 ≡ firstOut (drop i readings) i
+  pub some : (out ≡ 0 → ⊥) → inside (pos readingLimit) readings ≡ false
+
+pub counted-none : (readings : List ℤ) → Counted readings 0 0
+counted-none readings = record { none = λ e. refl; some = λ f. absurd (f refl) }
+
+pub counted-next : (readings : List ℤ) (i out r : ℕ) → i < length readings → r ≡ cond (beyond (pos readingLimit) (at readings i)) 1 0 → Counted readings i out → Counted readings (i + 1) (out + r)
+counted-next readings i out r l e c = by (beyond (pos readingLimit) (at readings i)) (eqb out 0) refl refl
+  where
+    by : (b t : Bool) → beyond (pos readingLimit) (at readings i) ≡ b → eqb out 0 ≡ t → Counted readings (i + 1) (out + r)
+    by true true b t =
+        let one : r ≡ 1 = e ∙ ap (λ x. cond x 1 0) b in
+        record { none = λ z. absurd (omega arith); some = λ f. outside _ readings i (c .none (eqb-true out 0 t) ∙ stops _ _ _ l b) }
+    by true false b t =
+        let one : r ≡ 1 = e ∙ ap (λ x. cond x 1 0) b in
+        record { none = λ z. absurd (omega arith); some = λ f. c .some (eqb-false out 0 t) }
+    by false t b u =
+        let zero : r ≡ 0 = e ∙ ap (λ x. cond x 1 0) b in
+        record { none = λ z. c .none (omega arith) ∙ goes-on _ _ _ l b; some = λ f. c .some (λ z. f (omega arith)) }
+
+pub counted-end : (readings : List ℤ) (i out : ℕ) → i ≡ length readings → Counted readings i out → eqb out 0 ≡ inside (pos readingLimit) readings
+counted-end readings i out l c = by (eqb out 0) refl
+  where
+    by : (t : Bool) → eqb out 0 ≡ t → t ≡ inside (pos readingLimit) readings
+    by true t = sym (within _ readings (c .none (eqb-true out 0 t) ∙ ends _ _ _ l))
+    by false t = sym (c .some (eqb-false out 0 t))
 
 -- ---- whether every number is zero
 pub not-clear : (xs : List ℤ) → (((k : ℕ) → at xs k ≡ pos 0) → ⊥) → inside (pos 0) xs ≡ false
@@ -80,6 +111,14 @@ same-answer false false h k = refl
 inside-up : (l m : ℕ) (xs : List ℤ) → l ≤ m → inside (pos l) xs ≡ true → inside (pos m) xs ≡ true
 unfolding inside
 inside-up l m xs h e = inside-all m xs (all-within m xs (within-up (within-all l xs (all-inside l xs e)) h))
+
+pub inside-take : (l n : ℕ) (xs : List ℤ) → inside (pos l) xs ≡ true → inside (pos l) (take n xs) ≡ true
+unfolding inside
+inside-take l n xs e = inside-all l (take n xs) (all-take l n xs (all-inside l xs e))
+
+pub inside-drop : (l n : ℕ) (xs : List ℤ) → inside (pos l) xs ≡ true → inside (pos l) (drop n xs) ≡ true
+unfolding inside
+inside-drop l n xs e = inside-all l (drop n xs) (all-drop l n xs (all-inside l xs e))
 
 inside-front : (l n : ℕ) (xs : List ℤ) → inside (pos 0) (drop n xs) ≡ true → inside (pos l) xs ≡ inside (pos l) (take n xs)
 unfolding inside

@@ -1,5 +1,6 @@
 pub mod GateLaws
 pub mod StepLaws
+pub mod RoomLaws
 pub mod Searches
 pub mod RecordLaws
 pub mod CallLaws

@@ -51,7 +51,8 @@ zero-within N = within-all readingLimit _ (zero-block N readingLimit .within)
 pub passed : (top : ℕ) → top ≤ frameLimit → (run : Run) (half : ℕ) → sound top run ≡ true → half ≡ halfWidth (run .width) → length (run .held) ≡ 64 → Ready run half
 unfolding sound inside
 passed top m run half e h l = record {
-  good = record { half-is = h; wide = ltb-true _ _ (every-answer _ e 0) };
+  half-is = h;
+  wide = ltb-true _ _ (every-answer _ e 0);
   below = let c = leb-true (run .count) top (every-answer _ e 1) in omega (arith, m, c);
   within = within-all foldedLimit (run .held) (all-inside foldedLimit (run .held) (every-answer _ e 2));
   rest =
@@ -71,12 +72,12 @@ module _ (run : Run) (half : ℕ) (ready : Ready run half) where
 
   -- the rest of the held values is zero
   pub rest-zero : drop half (run .held) ≡ zeros (64 - halfWidth N)
-  rest-zero = ap (λ n. drop n (run .held)) (ready .good .half-is) ∙ ready .rest
+  rest-zero = ap (λ n. drop n (run .held)) (ready .half-is) ∙ ready .rest
 
   pub run-is : run .finished ≡ false → half ≤ length (run .held) → run ≡ opened N (run .count) (take half (run .held))
   run-is o l =
       ap (λ (f : Bool). record { width = N; count = run .count; held = run .held; finished = f }) o
-      ∙ stored-opened N half (run .count) (run .held) (take half (run .held)) rest-zero (length-take-le half (run .held) l ∙ ready .good .half-is) (run .held) (sym (take-append-drop half (run .held)))
+      ∙ stored-opened N half (run .count) (run .held) (take half (run .held)) rest-zero (length-take-le half (run .held) l ∙ ready .half-is) (run .held) (sym (take-append-drop half (run .held)))
 
   module _ (block : List ℤ) where
     pub advanced-is : run .finished ≡ false → (xs : List ℤ) → xs ≡ held N block ++ drop half (run .held) → recordOf N (suc (run .count)) xs (run .finished) ≡ advanced run block
@@ -85,4 +86,4 @@ module _ (run : Run) (half : ℕ) (ready : Ready run half) where
 
     pub frame-on : frame N (take half (run .held)) block ≡ frameOn run block
     unfolding frameOn
-    frame-on = ap (λ n. frame N (take n (run .held)) block) (ready .good .half-is)
+    frame-on = ap (λ n. frame N (take n (run .held)) block) (ready .half-is)

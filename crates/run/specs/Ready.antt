@@ -7,12 +7,12 @@ use lib.ListN.{length, drop}
 use Rattle.integers.specs.Places.{Within}
 use Rattle.tables.specs.Widths.{halfWidth}
 use Rattle.steps.specs.Limits.{foldedLimit}
-use Rattle.stages.specs.Expanded.{Width}
 use Rattle.run.specs.declared.record.Run.{Run}
 use Rattle.run.specs.Record.{blockLimit, frameLimit, zeros}
 
 pub record Ready (run : Run) (half : ℕ) : Type 0 where
-  pub good : Width (run .width) half
+  pub half-is : half ≡ halfWidth (run .width)
+  pub wide : 0 < halfWidth (run .width)
   pub below : run .count ≤ frameLimit
   pub within : Within foldedLimit (run .held)
   pub rest : drop (halfWidth (run .width)) (run .held) ≡ zeros (64 - halfWidth (run .width))

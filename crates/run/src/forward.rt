@@ -10,9 +10,7 @@ use crate::in_place;
 use crate::record;
 use crate::record::Outcome;
 use crate::record::Run;
-use crate::step;
 use lifting::gate::Answer;
-use stages::room;
 use tables::widths;
 
 // A fresh run of a width.
@@ -51,15 +49,7 @@ fn close(run: Run, half: usize, frame: &mut [i32]) -> Run
     let width = run.width;
     let zeros = record::zero_block();
     let mut held = run.held;
-    let mut folded = room::of_128();
-    step::step(
-        width,
-        half,
-        &zeros[..width],
-        &mut held[..half],
-        &mut folded[..width],
-        frame,
-    );
+    in_place::step_in(width, &zeros[..width], &mut held[..half], frame);
     Run {
         width: width,
         count: run.count,

@@ -1,10 +1,12 @@
 // The gate's questions about a run record and about the readings of a block.
 ghost use mathlib.Core.Path.{_≡_};
+ghost use mathlib.Core.Bool.{cond};
 ghost use Prim.Native.Nat.{_%_, _≤_, _<_, _^_};
 ghost use lib.IntN.{pos, natAbs};
 ghost use lib.ListN.{length};
 ghost use lib.Signed.{_≤ℤ_};
 ghost use Rattle.steps.specs.Limits.{readingLimit};
+ghost use Rattle.lifting.specs.Gate.{beyond};
 ghost use Rattle.run.specs.Record.{recordOf};
 ghost use Rattle.run.specs.Gate.{firstDead};
 ghost use Rattle.run.specs.Faults.{faultOf};
@@ -116,22 +118,32 @@ fn searched(block: &[i32]) -> Fault
     fault_in(&wide[..n])
 }
 
-// The dead mark is out of range too, so that a block in range has no fault.
-fn in_range(block: &[i32]) -> bool
-    ensures { λ r. ⌜ r ≡ Rattle.run.specs.Gate.inside (pos readingLimit) (now (block .entry)) ⌝ }
+// 1 for a reading that is out of range, else 0.
+fn out_of_range(value: i32) -> u32
+    ensures { λ r. ⌜ r ≡ cond (beyond (pos readingLimit) value) 1 0 ⌝ }
 {
+    if 32767 < value {
+        return 1;
+    }
+    if value < -32767 {
+        return 1;
+    }
+    0
+}
+
+// The dead mark is out of range too, so that readings in range have no fault. Those beyond are counted without a branch, which the machine does
+// several at a time.
+pub fn in_range(readings: &[i32]) -> bool
+    requires { ⌜ length (now readings) ≤ 8388608 ⌝ }
+    ensures { λ r. ⌜ r ≡ Rattle.run.specs.Gate.inside (pos readingLimit) (now (readings .entry)) ⌝ }
+{
+    let mut out: u32 = 0;
     let mut i = 0;
-    while i < block.len() {
-        let value = block[i];
-        if 32767 < value {
-            return false;
-        }
-        if value < -32767 {
-            return false;
-        }
+    while i < readings.len() {
+        out += out_of_range(readings[i]);
         i += 1;
     }
-    true
+    out == 0
 }
 
 // Questions 8 and 9.

@@ -1,10 +1,9 @@
 // Taking a block where the held values of the record are lent, and stay where they lie.
 ghost use mathlib.Core.Path.{_≡_};
-ghost use Prim.Native.Nat.{_<_};
+ghost use Prim.Native.Nat.{_≤_, _<_};
 ghost use lib.ListN.{length};
 ghost use Rattle.integers.specs.Places.{Within};
 ghost use Rattle.tables.specs.Widths.{halfWidth};
-ghost use Rattle.stages.specs.Expanded.{Width};
 ghost use Rattle.steps.specs.Limits.{readingLimit, foldedLimit};
 ghost use Rattle.steps.specs.Steps.{held, frame};
 ghost use Rattle.lifting.specs.Gate.{told};
@@ -13,25 +12,80 @@ ghost use Rattle.run.specs.Forward.{taken};
 use crate::gate;
 use crate::gate::Fault;
 use crate::step;
+use constants::fill;
 use lifting::gate::Answer;
 use stages::room;
-use tables::widths;
 
-// Room is cleared for the width alone: at width 8, room for 128 costs as much as the step.
-fn step_in(width: usize, half: usize, block: &[i32], held: &mut [i64], frame: &mut [i32])
-    requires { ⌜ Width width half ⌝ }
+// Room is cleared when it is made, so there are two sizes: at width 8, room for 128 costs more than the step.
+fn in_small_room(width: usize, block: &[i32], held: &mut [i64], frame: &mut [i32])
+    requires { ⌜ width ≤ 32 ⌝ }
+    requires { ⌜ 0 < halfWidth width ⌝ }
     requires { ⌜ (length (now block) ≡ width) × (length (now held) ≡ halfWidth width) × (length (now frame) ≡ width) ⌝ }
     requires { ⌜ Within foldedLimit (now held) ⌝ }
     requires { ⌜ Within readingLimit (now block) ⌝ }
     ensures { λ _. ⌜ (now (held .exit) ≡ Rattle.steps.specs.Steps.held width (now (block .entry))) × (now (frame .exit) ≡ Rattle.steps.specs.Steps.frame width (now (held .entry)) (now (block .entry))) ⌝ }
 {
-    if width == 8 {
-        let mut folded = [0; 8];
-        step::step(8, 4, block, held, &mut folded, frame);
+    let half = width / 2;
+    let long = fill::tables_long(width);
+    let mut t = room::of_274();
+    let mut top = room::of_16();
+    let mut bottom = room::of_16();
+    let mut y = room::of_72();
+    let mut z = room::of_72();
+    fill::fill(width, &mut t[..long], &mut y);
+    step::step(
+        width,
+        &t[..long],
+        block,
+        held,
+        frame,
+        &mut top[..half],
+        &mut bottom[..half],
+        &mut y,
+        &mut z,
+    );
+}
+
+fn in_large_room(width: usize, block: &[i32], held: &mut [i64], frame: &mut [i32])
+    requires { ⌜ 0 < halfWidth width ⌝ }
+    requires { ⌜ (length (now block) ≡ width) × (length (now held) ≡ halfWidth width) × (length (now frame) ≡ width) ⌝ }
+    requires { ⌜ Within foldedLimit (now held) ⌝ }
+    requires { ⌜ Within readingLimit (now block) ⌝ }
+    ensures { λ _. ⌜ (now (held .exit) ≡ Rattle.steps.specs.Steps.held width (now (block .entry))) × (now (frame .exit) ≡ Rattle.steps.specs.Steps.frame width (now (held .entry)) (now (block .entry))) ⌝ }
+{
+    let half = width / 2;
+    let long = fill::tables_long(width);
+    let mut t = room::of_1906();
+    let mut top = room::of_64();
+    let mut bottom = room::of_64();
+    let mut y = room::of_648();
+    let mut z = room::of_648();
+    fill::fill(width, &mut t[..long], &mut y);
+    step::step(
+        width,
+        &t[..long],
+        block,
+        held,
+        frame,
+        &mut top[..half],
+        &mut bottom[..half],
+        &mut y,
+        &mut z,
+    );
+}
+
+pub fn step_in(width: usize, block: &[i32], held: &mut [i64], frame: &mut [i32])
+    requires { ⌜ 0 < halfWidth width ⌝ }
+    requires { ⌜ (length (now block) ≡ width) × (length (now held) ≡ halfWidth width) × (length (now frame) ≡ width) ⌝ }
+    requires { ⌜ Within foldedLimit (now held) ⌝ }
+    requires { ⌜ Within readingLimit (now block) ⌝ }
+    ensures { λ _. ⌜ (now (held .exit) ≡ Rattle.steps.specs.Steps.held width (now (block .entry))) × (now (frame .exit) ≡ Rattle.steps.specs.Steps.frame width (now (held .entry)) (now (block .entry))) ⌝ }
+{
+    if width <= 32 {
+        in_small_room(width, block, held, frame);
         return;
     }
-    let mut folded = room::of_128();
-    step::step(width, half, block, held, &mut folded[..width], frame);
+    in_large_room(width, block, held, frame);
 }
 
 // The record is handed back in the held values and, where the call has worked, in one more of the count.
@@ -66,8 +120,8 @@ pub fn take(
         Fault::Dead(place) => Answer::DeadMark(place),
         Fault::Beyond(place) => Answer::Range(place),
         Fault::Clear => {
-            let half = widths::half_width(width);
-            step_in(width, half, block, &mut held[..half], frame);
+            let half = width / 2;
+            step_in(width, block, &mut held[..half], frame);
             Answer::Done
         }
     }

@@ -1,32 +1,40 @@
 // One block forward: its frame, and what it holds for the next.
 ghost use mathlib.Core.Path.{_≡_};
+ghost use Prim.Native.Nat.{_<_};
 ghost use lib.ListN.{length};
 ghost use Rattle.integers.specs.Places.{Within};
 ghost use Rattle.tables.specs.Widths.{halfWidth};
+ghost use Rattle.constants.specs.Filled.{Filled};
 ghost use Rattle.steps.specs.Limits.{readingLimit, foldedLimit};
-ghost use Rattle.stages.specs.Expanded.{Width};
+ghost use Rattle.stages.specs.Expanded.{Halves, Room};
 ghost use Rattle.steps.specs.Steps.{held, frame};
 use lifting::folding;
-use lifting::transform;
 use stages::vectors;
 
-// The frame's folded values go to folded, which is room to work in.
+// t has what the width takes; what follows frame is room to work in.
 pub fn step(
     width: usize,
-    half: usize,
+    t: &[i64],
     block: &[i32],
     held: &mut [i64],
-    folded: &mut [i64],
     frame: &mut [i32],
+    top: &mut [i64],
+    bottom: &mut [i64],
+    y: &mut [i64],
+    z: &mut [i64],
 )
-    requires { ⌜ Width width half ⌝ }
-    requires { ⌜ (length (now block) ≡ width) × (length (now held) ≡ halfWidth width) × (length (now folded) ≡ width) × (length (now frame) ≡ width) ⌝ }
+    requires { ⌜ 0 < halfWidth width ⌝ }
+    requires { ⌜ Filled width (now t) ⌝ }
+    requires { ⌜ (length (now block) ≡ width) × (length (now held) ≡ halfWidth width) × (length (now frame) ≡ width) ⌝ }
+    requires { ⌜ Halves width (now top) (now bottom) ⌝ }
+    requires { ⌜ Room width (now y) (now z) ⌝ }
     requires { ⌜ Within foldedLimit (now held) ⌝ }
     requires { ⌜ Within readingLimit (now block) ⌝ }
     ensures { λ _. ⌜ (now (held .exit) ≡ Rattle.steps.specs.Steps.held width (now (block .entry))) × (now (frame .exit) ≡ Rattle.steps.specs.Steps.frame width (now (held .entry)) (now (block .entry))) ⌝ }
 {
-    vectors::copy(held, &mut folded[half..]);
-    folding::fold(width, half, block, &mut folded[..half], held);
-    transform::stages(width, half, folded);
-    vectors::narrow(folded, frame);
+    let half = width / 2;
+    folding::fold(width, &t[..half], &t[half..width], block, held, top, bottom);
+    stages::stages::forward(width, t, top, bottom, y, z);
+    vectors::narrow(top, &mut frame[..half]);
+    vectors::narrow(bottom, &mut frame[half..]);
 }

@@ -2,8 +2,8 @@
 ghost use mathlib.Core.Path.{_≡_};
 ghost use lib.ListN.{length};
 ghost use Rattle.lifting.specs.Gate.{told};
-ghost use Prim.Native.Nat.{_+_, _/_, _<_};
-ghost use Rattle.tables.specs.Widths.{halfWidth};
+ghost use Prim.Native.Nat.{_+_, _/_};
+ghost use Rattle.constants.specs.Filled.{Filled};
 ghost use Rattle.run.specs.Faults.{firstFault};
 ghost use Rattle.run.specs.declared.gate.Fault.the-variants.{Clear};
 ghost use Rattle.run.specs.Forward.{started};
@@ -14,12 +14,13 @@ use crate::gate;
 use crate::gate::Fault;
 use crate::record;
 use crate::step;
+use constants::fill;
 use lifting::gate::Answer;
 use stages::room;
 use tables::widths;
 
-// The first reading that a block refuses, its place counted through the run.
-fn first_fault(width: usize, readings: &[i32]) -> Fault
+// The search through the blocks of a run that has a fault.
+fn searched(width: usize, readings: &[i32]) -> Fault
     requires { ⌜ Blocks width (now readings) ⌝ }
     ensures { λ r. ⌜ r ≡ firstFault width 0 (length (now (readings .entry)) / width) (now (readings .entry)) ⌝ }
 {
@@ -43,27 +44,45 @@ fn first_fault(width: usize, readings: &[i32]) -> Fault
     Fault::Clear
 }
 
-// Each block is lent to the block step as it lies; the held values and the room are made once.
-fn frames_of(width: usize, half: usize, readings: &[i32], frames: &mut [i32])
-    requires { ⌜ half ≡ halfWidth width ⌝ }
+// The first reading that a block refuses, its place counted through the run.
+fn first_fault(width: usize, readings: &[i32]) -> Fault
+    requires { ⌜ Blocks width (now readings) ⌝ }
+    ensures { λ r. ⌜ r ≡ firstFault width 0 (length (now (readings .entry)) / width) (now (readings .entry)) ⌝ }
+{
+    if gate::in_range(readings) {
+        return Fault::Clear;
+    }
+    searched(width, readings)
+}
+
+// Each block is lent to the block step as it lies; t, the held values and the room are made once.
+fn frames_with(width: usize, t: &[i64], readings: &[i32], frames: &mut [i32])
+    requires { ⌜ Filled width (now t) ⌝ }
     requires { ⌜ Blocks width (now readings) ⌝ }
     requires { ⌜ length (now frames) ≡ length (now readings) + width ⌝ }
     requires { ⌜ firstFault width 0 (length (now readings) / width) (now readings) ≡ Clear ⌝ }
     ensures { λ _. ⌜ now (frames .exit) ≡ outputs (made (started width .1) (callsOf width (length (now (readings .entry)) / width) (now (readings .entry)) (now (frames .entry)))) ⌝ }
 {
+    let half = width / 2;
     let mut held = record::nothing_held();
-    let mut folded = room::of_128();
+    let mut top = room::of_64();
+    let mut bottom = room::of_64();
+    let mut y = room::of_648();
+    let mut z = room::of_648();
     let mut at = 0;
     let mut left = readings.len() / width;
     while 0 < left {
         let end = at + width;
         step::step(
             width,
-            half,
+            t,
             &readings[at..end],
             &mut held[..half],
-            &mut folded[..width],
             &mut frames[at..end],
+            &mut top[..half],
+            &mut bottom[..half],
+            &mut y,
+            &mut z,
         );
         at = end;
         left -= 1;
@@ -71,12 +90,28 @@ fn frames_of(width: usize, half: usize, readings: &[i32], frames: &mut [i32])
     let zeros = record::zero_block();
     step::step(
         width,
-        half,
+        t,
         &zeros[..width],
         &mut held[..half],
-        &mut folded[..width],
         &mut frames[at..],
+        &mut top[..half],
+        &mut bottom[..half],
+        &mut y,
+        &mut z,
     );
+}
+
+fn frames_of(width: usize, readings: &[i32], frames: &mut [i32])
+    requires { ⌜ Blocks width (now readings) ⌝ }
+    requires { ⌜ length (now frames) ≡ length (now readings) + width ⌝ }
+    requires { ⌜ firstFault width 0 (length (now readings) / width) (now readings) ≡ Clear ⌝ }
+    ensures { λ _. ⌜ now (frames .exit) ≡ outputs (made (started width .1) (callsOf width (length (now (readings .entry)) / width) (now (readings .entry)) (now (frames .entry)))) ⌝ }
+{
+    let long = fill::tables_long(width);
+    let mut t = room::of_1906();
+    let mut room = room::of_648();
+    fill::fill(width, &mut t[..long], &mut room);
+    frames_with(width, &t[..long], readings, frames);
 }
 
 // The whole run forward: every block's frame, and the finish's.
@@ -84,8 +119,7 @@ pub fn forward(width: usize, readings: &[i32], frames: &mut [i32]) -> Answer
     ensures { λ r. ⌜ (told r, now (frames .exit)) ≡ wholeForward width (now (readings .entry)) (now (frames .entry)) ⌝ }
     ensures { λ r. ⌜ (told r ≡ (0, 0) → WholeRun width (now (readings .entry)) (now (frames .exit))) ⌝ }
 {
-    let half = widths::half_width(width);
-    if half == 0 {
+    if widths::half_width(width) == 0 {
         return Answer::Width;
     }
     if readings.len() % width != 0 {
@@ -102,7 +136,7 @@ pub fn forward(width: usize, readings: &[i32], frames: &mut [i32]) -> Answer
         Fault::Dead(place) => Answer::DeadMark(place),
         Fault::Beyond(place) => Answer::Range(place),
         Fault::Clear => {
-            frames_of(width, half, readings, frames);
+            frames_of(width, readings, frames);
             Answer::Done
         }
     }

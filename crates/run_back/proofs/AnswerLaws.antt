@@ -69,7 +69,7 @@ place-either : (K : ℕ) (g h : Given) (b : Bool) → g .0 .1 ≤ K → h .0 .1 
 place-either K g h true k l = k
 place-either K g h false k l = l
 
-sound-wide : (top : ℕ) (run : Run) → sound top run ≡ true → 0 < halfWidth (run .width)
+pub sound-wide : (top : ℕ) (run : Run) → sound top run ≡ true → 0 < halfWidth (run .width)
 unfolding sound
 sound-wide top run e = ltb-true 0 _ (every-answer _ e 0)
 

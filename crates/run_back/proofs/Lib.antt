@@ -14,5 +14,4 @@ pub mod EndLaws
 pub mod PlacedLaws
 pub mod LoopLaws
 pub mod Undoing
-pub mod OverlayLaws
-pub mod LaidLaws
+pub mod RoomLaws

@@ -48,7 +48,7 @@ module _ (N : ℕ) (frames out : List ℤ) (f : Frames N frames) (r : length out
   pub one-block-less : length frames / N ≡ suc (length out / N)
   one-block-less = ap (λ (n : ℕ). n / N) (sym r) ∙ add-div-right (length out) (width-pos N (f .wide)) ∙ add-one (length out / N)
 
-  pub readings-whole : length out / N * N ≡ length out
+  readings-whole : length out / N * N ≡ length out
   readings-whole = let e = rw one-block-less at (f .whole) in omega (arith, e, r)
 
   rest-long : length (drop N frames) ≡ length out
@@ -142,10 +142,6 @@ module _ (N b : ℕ) (frames out : List ℤ) (l : length frames / N ≡ suc b) w
   pub first-yes : firstAnswer N frames out .0 ≡ 0 → first .0 .0 ≡ 0
   unfolding firstAnswer
   first-yes = here-taken N b (started N .1) frames (zeros N ++ out) l given 0
-
-  pub first-no : (first .0 .0 ≡ 0 → ⊥) → placed N 0 (first .0) ≡ firstAnswer N frames out
-  unfolding firstAnswer
-  first-no = answer-here N b (started N .1) frames (zeros N ++ out) l given 0
 
   module _ (after : Run) (r : after ≡ first .1) where
     pub first-behind : first .0 .0 ≡ 0 → firstAnswer N frames out ≡ answerFrom N (0 + N) after b (drop N frames) out

@@ -23,7 +23,7 @@ placed-zero : (N before : ℕ) (answer : ℕ × ℕ) → placed N before answer 
 unfolding placed
 placed-zero N before answer e = rw e
 
-pub answer-zero : (N b before : ℕ) (run : Run) (frames out : List ℤ) → answerFrom N before run b frames out .0 ≡ 0 → answerFrom N before run b frames out ≡ (0, 0)
+answer-zero : (N b before : ℕ) (run : Run) (frames out : List ℤ) → answerFrom N before run b frames out .0 ≡ 0 → answerFrom N before run b frames out ≡ (0, 0)
 unfolding answerFrom
 answer-zero N zero before run frames out e = placed-zero N _ (endedBack run .0) e
 answer-zero N (suc b) before run frames out e = by (eqb (takenBack run (take N frames) (take N out) .0 .0) 0) (answer-zero N b (before + N) _ (drop N frames) (drop N out)) e
@@ -38,7 +38,7 @@ unfolding firstAnswer
 first-zero N frames out e = answer-zero N (length frames / N) 0 (started N .1) frames (zeros N ++ out) e
 
 -- ---- the output's length alone counts
-pub answer-alike : (N b before : ℕ) (run : Run) (frames o p : List ℤ) → length o ≡ length p → answerFrom N before run b frames o ≡ answerFrom N before run b frames p
+answer-alike : (N b before : ℕ) (run : Run) (frames o p : List ℤ) → length o ≡ length p → answerFrom N before run b frames o ≡ answerFrom N before run b frames p
 unfolding answerFrom
 answer-alike N zero before run frames o p l = refl
 answer-alike N (suc b) before run frames o p l =
@@ -88,9 +88,6 @@ module _ (N : ℕ) (frames out : List ℤ) where
         pub lengths-passed : oneByOne N frames out ≡ wholeBack N frames out
         unfolding wholeBack
         lengths-passed = rw (ne-eqb _ _ w, eq-eqb _ _ e, le-leb _ _ few, lt-ltb _ _ some, eq-eqb _ _ room)
-
-        pub whole-refused : (firstAnswer N frames out .0 ≡ 0 → ⊥) → (firstAnswer N frames out, out) ≡ wholeBack N frames out
-        whole-refused n = ones-refused N frames out refl n ∙ lengths-passed
 
         pub whole-done : firstAnswer N frames out .0 ≡ 0 → (firstAnswer N frames out, drop N (allOutputs N frames out)) ≡ wholeBack N frames out
         whole-done n = ones-done N frames out refl _ n refl ∙ lengths-passed

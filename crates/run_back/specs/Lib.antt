@@ -3,4 +3,3 @@ pub mod Faults
 pub mod Whole
 pub mod Return
 pub mod Ready
-pub mod Overlay

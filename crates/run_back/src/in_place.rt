@@ -1,9 +1,9 @@
 // Taking a frame back where the held values of the record are lent, and stay where they lie.
 ghost use mathlib.Core.Path.{_≡_};
+ghost use Prim.Native.Nat.{_≤_, _<_};
 ghost use lib.ListN.{length};
 ghost use Rattle.integers.specs.Places.{Within};
 ghost use Rattle.tables.specs.Widths.{halfWidth};
-ghost use Rattle.stages.specs.Expanded.{Width};
 ghost use Rattle.steps.specs.Limits.{foldedLimit};
 ghost use Rattle.lifting.specs.Gate.{told};
 ghost use Rattle.run.specs.Record.{recordOf, nextCount, opened};
@@ -12,42 +12,100 @@ ghost use Rattle.run_back.specs.Faults.{toldFault, countAfter};
 use crate::back;
 use crate::undo;
 use crate::undo::Fault;
+use constants::fill;
 use lifting::gate::Answer;
 use run::gate;
 use stages::room;
-use tables::widths;
 
-// Room is cleared for the width alone: at width 8, room for 128 costs as much as the work in it.
-fn undo_in(
+// Room is cleared when it is made, so there are two sizes: at width 8, room for 128 costs more than the step.
+fn in_small_room(
     width: usize,
-    half: usize,
     count: usize,
     frame: &[i32],
     held: &mut [i64],
     block: &mut [i32],
 ) -> Fault
-    requires { ⌜ Width width half ⌝ }
+    requires { ⌜ width ≤ 32 ⌝ }
+    requires { ⌜ 0 < halfWidth width ⌝ }
     requires { ⌜ (length (now frame) ≡ width) × (length (now held) ≡ halfWidth width) × (length (now block) ≡ width) ⌝ }
     requires { ⌜ Within foldedLimit (now held) ⌝ }
     ensures { λ r. ⌜ (toldFault r, opened width (countAfter count r) (now (held .exit)), now (block .exit)) ≡ undoneIn (opened width count (now (held .entry))) (now (frame .entry)) (now (block .entry)) ⌝ }
 {
-    if width == 8 {
-        let mut folded = [0; 8];
-        let mut wide = [0; 8];
-        return undo::undo(8, 4, count, frame, held, &mut folded, &mut wide, block);
-    }
-    let mut folded = room::of_128();
-    let mut wide = room::of_128();
+    let half = width / 2;
+    let long = fill::tables_long(width);
+    let mut t = room::of_274();
+    let mut folded = room::of_36();
+    let mut wide = room::of_36();
+    let mut top = room::of_16();
+    let mut bottom = room::of_16();
+    let mut y = room::of_72();
+    let mut z = room::of_72();
+    fill::fill(width, &mut t[..long], &mut y);
     undo::undo(
         width,
-        half,
         count,
+        &t[..long],
         frame,
         held,
+        block,
         &mut folded[..width],
         &mut wide[..width],
-        block,
+        &mut top[..half],
+        &mut bottom[..half],
+        &mut y,
+        &mut z,
     )
+}
+
+fn in_large_room(
+    width: usize,
+    count: usize,
+    frame: &[i32],
+    held: &mut [i64],
+    block: &mut [i32],
+) -> Fault
+    requires { ⌜ width ≤ 128 ⌝ }
+    requires { ⌜ 0 < halfWidth width ⌝ }
+    requires { ⌜ (length (now frame) ≡ width) × (length (now held) ≡ halfWidth width) × (length (now block) ≡ width) ⌝ }
+    requires { ⌜ Within foldedLimit (now held) ⌝ }
+    ensures { λ r. ⌜ (toldFault r, opened width (countAfter count r) (now (held .exit)), now (block .exit)) ≡ undoneIn (opened width count (now (held .entry))) (now (frame .entry)) (now (block .entry)) ⌝ }
+{
+    let half = width / 2;
+    let long = fill::tables_long(width);
+    let mut t = room::of_1906();
+    let mut folded = room::of_128();
+    let mut wide = room::of_128();
+    let mut top = room::of_64();
+    let mut bottom = room::of_64();
+    let mut y = room::of_648();
+    let mut z = room::of_648();
+    fill::fill(width, &mut t[..long], &mut y);
+    undo::undo(
+        width,
+        count,
+        &t[..long],
+        frame,
+        held,
+        block,
+        &mut folded[..width],
+        &mut wide[..width],
+        &mut top[..half],
+        &mut bottom[..half],
+        &mut y,
+        &mut z,
+    )
+}
+
+fn undo_in(width: usize, count: usize, frame: &[i32], held: &mut [i64], block: &mut [i32]) -> Fault
+    requires { ⌜ 0 < halfWidth width ⌝ }
+    requires { ⌜ (length (now frame) ≡ width) × (length (now held) ≡ halfWidth width) × (length (now block) ≡ width) ⌝ }
+    requires { ⌜ Within foldedLimit (now held) ⌝ }
+    ensures { λ r. ⌜ (toldFault r, opened width (countAfter count r) (now (held .exit)), now (block .exit)) ≡ undoneIn (opened width count (now (held .entry))) (now (frame .entry)) (now (block .entry)) ⌝ }
+{
+    if width <= 32 {
+        return in_small_room(width, count, frame, held, block);
+    }
+    in_large_room(width, count, frame, held, block)
 }
 
 // The record is handed back in the held values and, where the call has worked, in one more of the count.
@@ -77,7 +135,7 @@ pub fn take(
     if block.len() != width {
         return Answer::OutputLength;
     }
-    let half = widths::half_width(width);
-    let fault = undo_in(width, half, count, frame, &mut held[..half], block);
+    let half = width / 2;
+    let fault = undo_in(width, count, frame, &mut held[..half], block);
     back::answered(fault)
 }

@@ -1,10 +1,12 @@
 // One frame back: its folded values, the block before it, and what it holds for the next.
 ghost use mathlib.Core.Path.{_≡_};
+ghost use Prim.Native.Nat.{_<_};
 ghost use lib.ListN.{length};
 ghost use Rattle.integers.specs.Places.{Within};
 ghost use Rattle.tables.specs.Widths.{halfWidth};
 ghost use Rattle.steps.specs.Limits.{foldedLimit};
-ghost use Rattle.stages.specs.Expanded.{Width};
+ghost use Rattle.constants.specs.Filled.{Filled};
+ghost use Rattle.stages.specs.Expanded.{Halves, Room};
 ghost use Rattle.run.specs.Record.{opened};
 ghost use Rattle.run_back.specs.Back.{unfoldedIn, undoneIn};
 ghost use Rattle.run_back.specs.Faults.{toldFault, countAfter};
@@ -26,19 +28,21 @@ pub enum Fault {
 // The first frame: question 11. A later one: its block, and question 12. Then the lower half is held.
 fn unfolded(
     width: usize,
-    half: usize,
     count: usize,
+    t: &[i64],
     folded: &[i64],
     held: &mut [i64],
     wide: &mut [i64],
     block: &mut [i32],
 ) -> Fault
-    requires { ⌜ Width width half ⌝ }
+    requires { ⌜ 0 < halfWidth width ⌝ }
+    requires { ⌜ Filled width (now t) ⌝ }
     requires { ⌜ (length (now folded) ≡ width) × (length (now held) ≡ halfWidth width) × (length (now wide) ≡ width) × (length (now block) ≡ width) ⌝ }
     requires { ⌜ Within foldedLimit (now folded) ⌝ }
     requires { ⌜ Within foldedLimit (now held) ⌝ }
     ensures { λ r. ⌜ (toldFault r, opened width (countAfter count r) (now (held .exit)), now (block .exit)) ≡ unfoldedIn (opened width count (now (held .entry))) (now (folded .entry)) (now (block .entry)) ⌝ }
 {
+    let half = width / 2;
     if count == 0 {
         let upper = gate::first_beyond(&folded[half..], 0);
         if let Found::At(place) = upper {
@@ -47,7 +51,14 @@ fn unfolded(
         vectors::copy(&folded[..half], held);
         return Fault::Clear;
     }
-    folding::unfold(width, half, held, &folded[half..], wide);
+    folding::unfold(
+        width,
+        &t[..half],
+        &t[half..width],
+        held,
+        &folded[half..],
+        wide,
+    );
     let beyond = gate::first_beyond(wide, 32767);
     if let Found::At(place) = beyond {
         return Fault::Unfolded(place);
@@ -57,19 +68,26 @@ fn unfolded(
     Fault::Clear
 }
 
-// Questions 9 to 12 of the frame behind count others, and the block before it; folded and wide are room to work in.
+// Questions 9 to 12 of the frame behind count others, and the block before it; t has what the width takes, and what follows block is room to work in.
 pub fn undo(
     width: usize,
-    half: usize,
     count: usize,
+    t: &[i64],
     frame: &[i32],
     held: &mut [i64],
+    block: &mut [i32],
     folded: &mut [i64],
     wide: &mut [i64],
-    block: &mut [i32],
+    top: &mut [i64],
+    bottom: &mut [i64],
+    y: &mut [i64],
+    z: &mut [i64],
 ) -> Fault
-    requires { ⌜ Width width half ⌝ }
+    requires { ⌜ 0 < halfWidth width ⌝ }
+    requires { ⌜ Filled width (now t) ⌝ }
     requires { ⌜ (length (now frame) ≡ width) × (length (now held) ≡ halfWidth width) × (length (now folded) ≡ width) × (length (now wide) ≡ width) × (length (now block) ≡ width) ⌝ }
+    requires { ⌜ Halves width (now top) (now bottom) ⌝ }
+    requires { ⌜ Room width (now y) (now z) ⌝ }
     requires { ⌜ Within foldedLimit (now held) ⌝ }
     ensures { λ r. ⌜ (toldFault r, opened width (countAfter count r) (now (held .exit)), now (block .exit)) ≡ undoneIn (opened width count (now (held .entry))) (now (frame .entry)) (now (block .entry)) ⌝ }
 {
@@ -78,10 +96,10 @@ pub fn undo(
     if let Found::At(place) = coefficient {
         return Fault::Range(place);
     }
-    transform::unstages(width, half, folded);
+    transform::unstages(width, t, folded, top, bottom, y, z);
     let value = gate::first_beyond(folded, 50000);
     if let Found::At(place) = value {
         return Fault::Folded(place);
     }
-    unfolded(width, half, count, folded, held, wide, block)
+    unfolded(width, count, t, folded, held, wide, block)
 }

@@ -1,26 +1,25 @@
 // A whole run back over lent slices, for any caller.
 ghost use mathlib.Core.Path.{_≡_};
-ghost use mathlib.Core.List.{map};
-ghost use Prim.Native.Nat.{_+_, _-_, _/_, _≤_};
+ghost use Prim.Native.Nat.{_+_, _-_, _/_, _≤_, _<_};
 ghost use lib.IntN.{pos};
 ghost use lib.ListN.{length, drop};
 ghost use Rattle.integers.specs.Places.{Within};
 ghost use Rattle.tables.specs.Widths.{halfWidth};
 ghost use Rattle.steps.specs.Limits.{foldedLimit};
-ghost use Rattle.stages.specs.Expanded.{Width};
+ghost use Rattle.constants.specs.Filled.{Filled};
+ghost use Rattle.stages.specs.Expanded.{Halves, Room};
 ghost use Rattle.lifting.specs.Gate.{told, firstBeyond};
 ghost use Rattle.run.specs.Record.{zeros, opened};
 ghost use Rattle.run.specs.Forward.{started};
 ghost use Rattle.run.specs.Ready.{Blocks};
 ghost use Rattle.run_back.specs.Back.{takenBack};
 ghost use Rattle.run_back.specs.Faults.{toldHeld};
-ghost use Rattle.run_back.specs.Overlay.{upper, lower};
 ghost use Rattle.run_back.specs.Whole;
 ghost use Rattle.run_back.specs.Whole.{answerFrom, outputsFrom, firstAnswer, allOutputs, oneByOne, wholeBack};
 ghost use Rattle.run_back.specs.Ready.{Frames};
 use crate::back;
-use crate::overlay;
 use crate::undo;
+use constants::fill;
 use lifting::gate;
 use lifting::gate::Answer;
 use lifting::gate::Found;
@@ -73,19 +72,26 @@ fn ended(offset: usize, held: &[i64]) -> Answer
     Answer::Done
 }
 
-// The answer of the first refused call of a fresh run, where block is room for what a frame writes.
+// The answer of the first refused call of a fresh run. block is room for what a frame writes, and what follows it is room to work in.
 fn answer_of(
     width: usize,
-    half: usize,
+    t: &[i64],
     frames: &[i32],
     held: &mut [i64],
+    block: &mut [i32],
     folded: &mut [i64],
     wide: &mut [i64],
-    block: &mut [i32],
+    top: &mut [i64],
+    bottom: &mut [i64],
+    y: &mut [i64],
+    z: &mut [i64],
 ) -> Answer
-    requires { ⌜ (half ≡ halfWidth width) × (now held ≡ zeros (halfWidth width)) ⌝ }
+    requires { ⌜ Filled width (now t) ⌝ }
+    requires { ⌜ now held ≡ zeros (halfWidth width) ⌝ }
     requires { ⌜ Frames width (now frames) ⌝ }
     requires { ⌜ (length (now folded) ≡ width) × (length (now wide) ≡ width) × (length (now block) ≡ width) ⌝ }
+    requires { ⌜ Halves width (now top) (now bottom) ⌝ }
+    requires { ⌜ Room width (now y) (now z) ⌝ }
     ensures { λ r. ⌜ told r ≡ firstAnswer width (now (frames .entry)) (zeros (length (now (frames .entry)) - width)) ⌝ }
 {
     let mut at = 0;
@@ -95,13 +101,17 @@ fn answer_of(
         let end = at + width;
         let fault = undo::undo(
             width,
-            half,
             count,
+            t,
             &frames[at..end],
             held,
+            block,
             folded,
             wide,
-            block,
+            top,
+            bottom,
+            y,
+            z,
         );
         let answer = back::answered(fault);
         if gate::number(answer) != 0 {
@@ -115,188 +125,179 @@ fn answer_of(
 }
 
 // The answer of the first refused call, with nothing written.
-fn first_answer(width: usize, half: usize, frames: &[i32]) -> Answer
-    requires { ⌜ half ≡ halfWidth width ⌝ }
+fn first_answer(width: usize, t: &[i64], frames: &[i32]) -> Answer
+    requires { ⌜ Filled width (now t) ⌝ }
     requires { ⌜ Frames width (now frames) ⌝ }
     ensures { λ r. ⌜ told r ≡ firstAnswer width (now (frames .entry)) (zeros (length (now (frames .entry)) - width)) ⌝ }
 {
+    let half = width / 2;
     let mut held = record::nothing_held();
+    let mut block = spare();
     let mut folded = room::of_128();
     let mut wide = room::of_128();
-    let mut block = spare();
+    let mut top = room::of_64();
+    let mut bottom = room::of_64();
+    let mut y = room::of_648();
+    let mut z = room::of_648();
     answer_of(
         width,
-        half,
+        t,
         frames,
         &mut held[..half],
+        &mut block[..width],
         &mut folded[..width],
         &mut wide[..width],
-        &mut block[..width],
+        &mut top[..half],
+        &mut bottom[..half],
+        &mut y,
+        &mut z,
     )
 }
 
 // The blocks before the frames that follow the first one. Each frame is lent to the frame step as it lies.
 fn blocks_before(
     width: usize,
-    half: usize,
+    t: &[i64],
     frames: &[i32],
     held: &mut [i64],
+    readings: &mut [i32],
     folded: &mut [i64],
     wide: &mut [i64],
-    readings: &mut [i32],
+    top: &mut [i64],
+    bottom: &mut [i64],
+    y: &mut [i64],
+    z: &mut [i64],
 )
-    requires { ⌜ half ≡ halfWidth width ⌝ }
+    requires { ⌜ Filled width (now t) ⌝ }
     requires { ⌜ Blocks width (now frames) ⌝ }
     requires { ⌜ (length (now held) ≡ halfWidth width) × (length (now folded) ≡ width) × (length (now wide) ≡ width) × (length (now readings) ≡ length (now frames)) ⌝ }
+    requires { ⌜ Halves width (now top) (now bottom) ⌝ }
+    requires { ⌜ Room width (now y) (now z) ⌝ }
     requires { ⌜ Within foldedLimit (now held) ⌝ }
     requires { ⌜ answerFrom width width (opened width 1 (now held)) (length (now frames) / width) (now frames) (now readings) .0 ≡ 0 ⌝ }
     ensures { λ _. ⌜ now (readings .exit) ≡ outputsFrom width (opened width 1 (now (held .entry))) (length (now (frames .entry)) / width) (now (frames .entry)) (now (readings .entry)) ⌝ }
 {
     let mut at = 0;
     let mut count = 1;
-    let mut left = frames.len() / width;
-    while 0 < left {
+    let mut blocks = frames.len() / width;
+    while 0 < blocks {
         let end = at + width;
         undo::undo(
             width,
-            half,
             count,
+            t,
             &frames[at..end],
             held,
+            &mut readings[at..end],
             folded,
             wide,
-            &mut readings[at..end],
+            top,
+            bottom,
+            y,
+            z,
         );
         at = end;
         count += 1;
-        left -= 1;
+        blocks -= 1;
     }
 }
 
 // The first frame of a fresh run, which writes nothing; what it holds for the next one.
-fn first_frame(width: usize, half: usize, frame: &[i32], held: &mut [i64]) -> Answer
-    requires { ⌜ Width width half ⌝ }
+fn first_frame(
+    width: usize,
+    t: &[i64],
+    frame: &[i32],
+    held: &mut [i64],
+    folded: &mut [i64],
+    wide: &mut [i64],
+    top: &mut [i64],
+    bottom: &mut [i64],
+    y: &mut [i64],
+    z: &mut [i64],
+)
+    requires { ⌜ 0 < halfWidth width ⌝ }
+    requires { ⌜ Filled width (now t) ⌝ }
     requires { ⌜ (length (now frame) ≡ width) × (now held ≡ zeros (halfWidth width)) ⌝ }
-    ensures { λ r. ⌜ told r ≡ Whole.placed width 0 (takenBack (started width .1) (now (frame .entry)) (zeros width) .0) ⌝ }
-    ensures { λ r. ⌜ (told r .0 ≡ 0 → (opened width 1 (now (held .exit)) ≡ takenBack (started width .1) (now (frame .entry)) (zeros width) .1) × Within foldedLimit (now (held .exit))) ⌝ }
+    requires { ⌜ (length (now folded) ≡ width) × (length (now wide) ≡ width) ⌝ }
+    requires { ⌜ Halves width (now top) (now bottom) ⌝ }
+    requires { ⌜ Room width (now y) (now z) ⌝ }
+    ensures { λ _. ⌜ (takenBack (started width .1) (now (frame .entry)) (zeros width) .0 .0 ≡ 0 → (opened width 1 (now (held .exit)) ≡ takenBack (started width .1) (now (frame .entry)) (zeros width) .1) × Within foldedLimit (now (held .exit))) ⌝ }
 {
-    let mut folded = room::of_128();
-    let mut wide = room::of_128();
     let mut block = spare();
-    let fault = undo::undo(
+    undo::undo(
         width,
-        half,
         0,
+        t,
         frame,
         held,
-        &mut folded[..width],
-        &mut wide[..width],
         &mut block[..width],
+        folded,
+        wide,
+        top,
+        bottom,
+        y,
+        z,
     );
-    placed(width, 0, back::answered(fault))
 }
 
 // The readings of a run that is accepted.
-fn readings_of(width: usize, half: usize, frames: &[i32], readings: &mut [i32])
-    requires { ⌜ half ≡ halfWidth width ⌝ }
+fn readings_of(width: usize, t: &[i64], frames: &[i32], readings: &mut [i32])
+    requires { ⌜ Filled width (now t) ⌝ }
     requires { ⌜ Frames width (now frames) ⌝ }
     requires { ⌜ length (now readings) + width ≡ length (now frames) ⌝ }
     requires { ⌜ firstAnswer width (now frames) (now readings) .0 ≡ 0 ⌝ }
     ensures { λ _. ⌜ now (readings .exit) ≡ drop width (allOutputs width (now (frames .entry)) (now (readings .entry))) ⌝ }
 {
+    let half = width / 2;
     let mut held = record::nothing_held();
-    first_frame(width, half, &frames[..width], &mut held[..half]);
     let mut folded = room::of_128();
     let mut wide = room::of_128();
+    let mut top = room::of_64();
+    let mut bottom = room::of_64();
+    let mut y = room::of_648();
+    let mut z = room::of_648();
+    first_frame(
+        width,
+        t,
+        &frames[..width],
+        &mut held[..half],
+        &mut folded[..width],
+        &mut wide[..width],
+        &mut top[..half],
+        &mut bottom[..half],
+        &mut y,
+        &mut z,
+    );
     blocks_before(
         width,
-        half,
+        t,
         &frames[width..],
         &mut held[..half],
+        readings,
         &mut folded[..width],
         &mut wide[..width],
-        readings,
+        &mut top[..half],
+        &mut bottom[..half],
+        &mut y,
+        &mut z,
     );
 }
 
-// The frames that follow the first one, each block laid over the output. What stood there stays the lower part.
-fn laid_over(
-    width: usize,
-    half: usize,
-    frames: &[i32],
-    held: &mut [i64],
-    folded: &mut [i64],
-    wide: &mut [i64],
-    block: &mut [i32],
-    readings: &mut [i32],
-) -> Answer
-    requires { ⌜ half ≡ halfWidth width ⌝ }
-    requires { ⌜ Blocks width (now frames) ⌝ }
-    requires { ⌜ (length (now held) ≡ halfWidth width) × (length (now folded) ≡ width) × (length (now wide) ≡ width) × (length (now block) ≡ width) × (length (now readings) ≡ length (now frames)) ⌝ }
-    requires { ⌜ Within foldedLimit (now held) ⌝ }
-    requires { ⌜ map lower (now readings) ≡ now readings ⌝ }
-    ensures { λ r. ⌜ told r ≡ answerFrom width width (opened width 1 (now (held .entry))) (length (now (frames .entry)) / width) (now (frames .entry)) (now (readings .entry)) ⌝ }
-    ensures { λ _. ⌜ map lower (now (readings .exit)) ≡ now (readings .entry) ⌝ }
-    ensures { λ r. ⌜ (told r .0 ≡ 0 → map upper (now (readings .exit)) ≡ outputsFrom width (opened width 1 (now (held .entry))) (length (now (frames .entry)) / width) (now (frames .entry)) (now (readings .entry))) ⌝ }
-{
-    let mut at = 0;
-    let mut count = 1;
-    let mut left = frames.len() / width;
-    while 0 < left {
-        let end = at + width;
-        let fault = undo::undo(
-            width,
-            half,
-            count,
-            &frames[at..end],
-            held,
-            folded,
-            wide,
-            block,
-        );
-        let answer = back::answered(fault);
-        if gate::number(answer) != 0 {
-            return placed(width, end, answer);
-        }
-        overlay::lay(block, &mut readings[at..end]);
-        at = end;
-        count += 1;
-        left -= 1;
-    }
-    ended(at, held)
-}
-
-// The run in one pass, over an output whose numbers have 16 bits: the readings at the end, or what stood there.
-fn one_pass(width: usize, half: usize, frames: &[i32], readings: &mut [i32]) -> Answer
-    requires { ⌜ half ≡ halfWidth width ⌝ }
+// Every frame is asked before a number is written: two passes over the frames.
+fn in_two_passes(width: usize, frames: &[i32], readings: &mut [i32]) -> Answer
     requires { ⌜ Frames width (now frames) ⌝ }
     requires { ⌜ length (now readings) + width ≡ length (now frames) ⌝ }
-    requires { ⌜ map lower (now readings) ≡ now readings ⌝ }
     ensures { λ r. ⌜ (told r, now (readings .exit)) ≡ oneByOne width (now (frames .entry)) (now (readings .entry)) ⌝ }
 {
-    let mut held = record::nothing_held();
-    let first = first_frame(width, half, &frames[..width], &mut held[..half]);
-    if gate::number(first) != 0 {
-        return first;
-    }
-    let mut folded = room::of_128();
-    let mut wide = room::of_128();
-    let mut block = spare();
-    let answer = laid_over(
-        width,
-        half,
-        &frames[width..],
-        &mut held[..half],
-        &mut folded[..width],
-        &mut wide[..width],
-        &mut block[..width],
-        readings,
-    );
+    let long = fill::tables_long(width);
+    let mut t = room::of_1906();
+    let mut room = room::of_648();
+    fill::fill(width, &mut t[..long], &mut room);
+    let answer = first_answer(width, &t[..long], frames);
     if gate::number(answer) != 0 {
-        overlay::keep_lower(readings);
         return answer;
     }
-    overlay::keep_upper(readings);
+    readings_of(width, &t[..long], frames, readings);
     answer
 }
 
@@ -304,8 +305,7 @@ fn one_pass(width: usize, half: usize, frames: &[i32], readings: &mut [i32]) -> 
 pub fn back(width: usize, frames: &[i32], readings: &mut [i32]) -> Answer
     ensures { λ r. ⌜ (told r, now (readings .exit)) ≡ wholeBack width (now (frames .entry)) (now (readings .entry)) ⌝ }
 {
-    let half = widths::half_width(width);
-    if half == 0 {
+    if widths::half_width(width) == 0 {
         return Answer::Width;
     }
     if frames.len() % width != 0 {
@@ -320,13 +320,5 @@ pub fn back(width: usize, frames: &[i32], readings: &mut [i32]) -> Answer
     if frames.len() - width != readings.len() {
         return Answer::OutputLength;
     }
-    if overlay::fits(readings) {
-        return one_pass(width, half, frames, readings);
-    }
-    let answer = first_answer(width, half, frames);
-    if gate::number(answer) != 0 {
-        return answer;
-    }
-    readings_of(width, half, frames, readings);
-    answer
+    in_two_passes(width, frames, readings)
 }

@@ -14,25 +14,25 @@ use Rattle.steps.proofs.Undo.{length-stage1, length-stage2, length-stage3, leng
 module _ (N : ℕ) (top bottom : List ℤ) where
   -- forward, from folded values within 50,000
   module _ (ht : Within 50000 top) (hb : Within 50000 bottom) where
-    pub within1 : Within 900000 (bottom1 N top bottom)
+    pub within1 : Within 650000 (bottom1 N top bottom)
     unfolding bottom1
     within1 = size1 N 50000 50000 top bottom false ht hb
 
-    pub within2 : Within 7250000 (top2 N top bottom)
+    pub within2 : Within 3950000 (top2 N top bottom)
     unfolding top2
-    within2 = size2 N 900000 50000 top (bottom1 N top bottom) false within1 ht
+    within2 = size2 N 650000 50000 top (bottom1 N top bottom) false within1 ht
 
-    pub within3 : Within 153150000 (bottom3 N top bottom)
+    pub within3 : Within 63850000 (bottom3 N top bottom)
     unfolding bottom3
-    within3 = size3 N 7250000 900000 (top2 N top bottom) (bottom1 N top bottom) false within2 within1
+    within3 = size3 N 3950000 650000 (top2 N top bottom) (bottom1 N top bottom) false within2 within1
 
-    pub within4 : Within 160400000 (top4 N top bottom)
+    pub within4 : Within 67800000 (top4 N top bottom)
     unfolding top4
-    within4 = size4 N 153150000 7250000 (top2 N top bottom) (bottom3 N top bottom) false within3 within2
+    within4 = size4 N 63850000 3950000 (top2 N top bottom) (bottom3 N top bottom) false within3 within2
 
-    pub within5 : Within 233350000 (bottom5 N top bottom)
+    pub within5 : Within 97750000 (bottom5 N top bottom)
     unfolding bottom5
-    within5 = size5 N 80200000 153150000 (top4 N top bottom) (bottom3 N top bottom) false within4 within3
+    within5 = size5 N 33900000 63850000 (top4 N top bottom) (bottom3 N top bottom) false within4 within3
 
   -- back, from coefficients within 1,048,576
   module _ (ht : Within 1048576 top) (hb : Within 1048576 bottom) where
@@ -44,17 +44,13 @@ module _ (N : ℕ) (top bottom : List ℤ) where
     unfolding untop4
     unwithin4 = size4 N 1572864 1048576 top (unbottom5 N top bottom) true unwithin5 ht
 
-    pub unwithin3 : Within 56623104 (unbottom3 N top bottom)
+    pub unwithin3 : Within 43515904 (unbottom3 N top bottom)
     unfolding unbottom3
     unwithin3 = size3 N 2621440 1572864 (untop4 N top bottom) (unbottom5 N top bottom) true unwithin4 unwithin5
 
-    pub unwithin2 : Within 455606272 (untop2 N top bottom)
+    pub unwithin2 : Within 263716864 (untop2 N top bottom)
     unfolding untop2
-    unwithin2 = size2 N 56623104 2621440 (untop4 N top bottom) (unbottom3 N top bottom) true unwithin3 unwithin4
-
-    pub unwithin1 : Within 7801929728 (unbottom1 N top bottom)
-    unfolding unbottom1
-    unwithin1 = size1 N 455606272 56623104 (untop2 N top bottom) (unbottom3 N top bottom) true unwithin2 unwithin3
+    unwithin2 = size2 N 43515904 2621440 (untop4 N top bottom) (unbottom3 N top bottom) true unwithin3 unwithin4
 
   pub long1 : length (bottom1 N top bottom) ≡ halfWidth N
   unfolding bottom1

@@ -1,8 +1,10 @@
+pub mod NumLaws
+pub mod FourLaws
+pub mod RowLaws
 pub mod MoveLaws
 pub mod SecantRows
-pub mod EightLaws
-pub mod StageLaws
 pub mod StageSizes
 pub mod TableSizes
-pub mod LiftLaws
 pub mod FrameSizes
+pub mod StageLaws
+pub mod PartLaws

@@ -1,8 +1,9 @@
 -- What the code does at one place, by its tests.
 use mathlib.Core.Path.{_≡_}
-use Prim.Native.Nat.{ℕ, _/_, _%_}
+use Prim.Native.Nat.{ℕ, _-_, _/_, _%_, _<_}
+use native.Mathlib.Omega.{arith}
 use borrow.Author.Tests.{eq-eqb, ne-eqb}
-use mathlib.Core.Bool.{true, false}
+use mathlib.Core.Bool.{Bool, true, false, cond}
 use mathlib.Core.List.{List}
 use lib.IntN.{ℤ, negℤ, negℤ-negℤ}
 use Rattle.integers.specs.Places.{at}
@@ -35,3 +36,8 @@ module _ (top bottom : List ℤ) (i : ℕ) where
   pub woven-bottom : (i % 2 ≡ 0 → ⊥) → wovenAt top bottom i ≡ at bottom (i / 2)
   unfolding wovenAt
   woven-bottom e = rw (ne-eqb (i % 2) 0 e)
+
+-- a place, or as far from the end
+pub mirror-in : (back : Bool) (n i : ℕ) → i < n → cond back (n - 1 - i) i < n
+mirror-in true n i h = omega arith
+mirror-in false n i h = h

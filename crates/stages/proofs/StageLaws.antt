@@ -1,119 +1,175 @@
--- What the work on vectors comes to: each stage of Steps, and its sizes.
-use mathlib.Core.Path.{_≡_, refl, ap, ap₂, _∙_}
+-- What the lifts come to: each stage of Steps, by one scale for all widths.
+use mathlib.Core.Path.{_≡_, refl, sym, ap, ap₂, _∙_}
 use mathlib.Core.Bool.{Bool, true, false, cond}
 use mathlib.Core.List.{List}
 use Prim.Native.Nat.{ℕ, _+_, _-_, _*_, _^_, _<_}
-use native.Mathlib.Nat.{pow-succ'}
-use native.Mathlib.Numerals.{add-one}
 use native.Mathlib.Omega.{arith}
 use lib.IntN.{ℤ, pos, negℤ, _+ℤ_, _-ℤ_, _*ℤ_}
 use lib.ListN.{length}
 use Rattle.integers.specs.Floor.{round}
 use Rattle.integers.specs.Places.{places, at, sum}
-use Rattle.integers.proofs.Ring.{ring}
-use Rattle.integers.proofs.Rounding.{round-whole}
-use Rattle.integers.proofs.PlaceLaws.{length-places, at-places, places-ext, sum-ext}
-use Rattle.tables.specs.Widths.{byWidth, halfWidth}
-use Rattle.tables.proofs.ByWidth.{at-each}
-use Rattle.steps.specs.Steps.{rootLog, cosine, secant, alternate, amount1, amount2, amount3, tangent, stage1, stage2, stage3, stage4, stage5, unstage1, unstage2, unstage3, unstage4, unstage5}
-use Rattle.stages.specs.Moves.{moved, flipped}
-use Rattle.rows.specs.Sums.{cosineSums, secantSums}
-use Rattle.stages.specs.Expanded.{third, thirdAmounts, sineLift, tangentLift}
+use Rattle.integers.proofs.Differences.{dif, zs}
+use Rattle.integers.proofs.Rounding.{round-scaled}
+use Rattle.integers.proofs.Ring.{ring, *ℤ-assoc}
+use Rattle.integers.proofs.PlaceLaws.{at-places, places-ext, sum-ext}
+use Rattle.tables.specs.Widths.{byWidth, halfWidth, scale}
+use Rattle.tables.proofs.ByWidth.{at-each, no-other}
+use Rattle.steps.specs.Steps.{rootLog, cosine, secant, alternate, amount1, amount2, amount3, tangent, sine, tangentAmount, sineAmount, stage1, stage2, stage3, stage4, stage5, unstage1, unstage2, unstage3, unstage4, unstage5}
+use Rattle.rows.specs.Sums.{cosineSums, secantSums, alternated}
+use Rattle.stages.specs.Moves.{moved, flipped, second, third}
+use Rattle.stages.specs.Expanded.{Halves}
+use Rattle.stages.proofs.MoveLaws.{mirror-in}
 
--- what `lift` and `alternate` give
-abbrev pub lifted : Bool → ℕ → List ℤ → List ℤ → List ℤ
-lifted undo k a y = places (length y) (λ i. moved undo (at y i) (round k (at a i)))
+-- ---- one scale for all widths
+round-first : (N : ℕ) → 0 < halfWidth N → (v : ℤ) → round 30 (pos (scale N) *ℤ v) ≡ round (27 + rootLog N) v
+unfolding scale rootLog byWidth
+round-first =
+    at-each (λ N l. 0 < halfWidth N → (v : ℤ) → round 30 (pos (scale N) *ℤ v) ≡ round (27 + l) v) 1 2 3 0
+    (λ z v. round-scaled 28 2 v (omega arith)) (λ z v. round-scaled 29 1 v (omega arith)) (λ z v. round-scaled 30 0 v (omega arith)) (λ N x y w z. absurd (no-other N z x y w))
 
-abbrev pub altered : Bool → List ℤ → List ℤ
-altered even y = places (length y) (λ i. flipped even i (at y i))
+round-second : (N : ℕ) → 0 < halfWidth N → (v : ℤ) → round 31 (pos (scale N) *ℤ v) ≡ round (28 + rootLog N) v
+unfolding scale rootLog byWidth
+round-second =
+    at-each (λ N l. 0 < halfWidth N → (v : ℤ) → round 31 (pos (scale N) *ℤ v) ≡ round (28 + l) v) 1 2 3 0
+    (λ z v. round-scaled 29 2 v (omega arith)) (λ z v. round-scaled 30 1 v (omega arith)) (λ z v. round-scaled 31 0 v (omega arith)) (λ N x y w z. absurd (no-other N z x y w))
 
--- a list by the places of another: what stands there may be said in another way
-pub respoken : (n : ℕ) (y : List ℤ) (f g : ℕ → ℤ) → length y ≡ n → ((i : ℕ) → i < n → f i ≡ g i) → places (length y) f ≡ places n g
-respoken n y f g l h = ap (λ k. places k f) l ∙ places-ext n f g h
+-- what stage 3 adds, in parts of 2^34, is that of Steps times a power of two
+module _ (S C T : ℤ) where
+  abbrev plain : ℕ → ℕ → ℤ
+  plain r M = negℤ S -ℤ pos r *ℤ C +ℤ pos M *ℤ T
 
--- ---- M and √M as powers of two
-pub half-power : (N : ℕ) → 0 < halfWidth N → 2 ^ (2 * rootLog N) ≡ halfWidth N
-unfolding rootLog halfWidth byWidth
-half-power = at-each (λ n M. 0 < M → 2 ^ (2 * byWidth 1 2 3 0 n) ≡ M) 4 16 64 0 (λ z. refl) (λ z. refl) (λ z. refl) (λ n x y w z. absurd (omega arith))
+  times-out : (c r M : ℕ) → negℤ (pos c *ℤ S) -ℤ pos (c * r) *ℤ C +ℤ pos (c * M) *ℤ T ≡ pos c *ℤ plain r M
+  times-out c r M = rw (dif S, dif C, dif T) (simp zs (omega arith))
 
-twice-root : (l : ℕ) → 2 ^ (l + 1) ≡ 2 * 2 ^ l
-twice-root l = rw add-one (pow-succ' 2 l)
+  third-is : (s c r M : ℕ) → s * s ≡ c → 16 * s ≡ c * r → 64 ≡ c * M → third (pos (s * s) *ℤ S) (pos s *ℤ C) T ≡ pos c *ℤ plain r M
+  unfolding third
+  third-is s c r M e f g =
+      ap (λ v. negℤ (pos (s * s) *ℤ S) -ℤ v +ℤ pos 64 *ℤ T) (sym (*ℤ-assoc (pos 16) (pos s) C))
+      ∙ ap₂ (λ a b. negℤ (pos a *ℤ S) -ℤ pos b *ℤ C +ℤ pos 64 *ℤ T) e f
+      ∙ ap (λ d. negℤ (pos c *ℤ S) -ℤ pos (c * r) *ℤ C +ℤ pos d *ℤ T) g
+      ∙ times-out c r M
+
+round-third : (N : ℕ) → 0 < halfWidth N → (S C T : ℤ) → round 34 (third (pos (scale N * scale N) *ℤ S) (pos (scale N) *ℤ C) T) ≡ round (28 + 2 * rootLog N) (plain S C T (2 * 2 ^ rootLog N) (halfWidth N))
+unfolding halfWidth scale rootLog byWidth
+round-third =
+    at-each (λ N l. 0 < halfWidth N → (S C T : ℤ) → round 34 (third (pos (scale N * scale N) *ℤ S) (pos (scale N) *ℤ C) T) ≡ round (28 + 2 * l) (plain S C T (2 * 2 ^ l) (halfWidth N))) 1 2 3 0
+    (λ z S C T. ap (round 34) (third-is S C T 4 16 4 4 refl refl refl) ∙ round-scaled 30 4 (plain S C T 4 4) (omega arith))
+    (λ z S C T. ap (round 34) (third-is S C T 2 4 8 16 refl refl refl) ∙ round-scaled 32 2 (plain S C T 8 16) (omega arith))
+    (λ z S C T. ap (round 34) (third-is S C T 1 1 16 64 refl refl refl) ∙ round-scaled 34 0 (plain S C T 16 64) (omega arith))
+    (λ N x y w z. absurd (no-other N z x y w))
 
 minus-inside : (s c p t x : ℤ) → negℤ s -ℤ c +ℤ p *ℤ (negℤ t *ℤ x) ≡ negℤ s -ℤ c -ℤ p *ℤ (t *ℤ x)
 minus-inside s c p t x = simp ring
 
-either-first : (x y z : ℤ) → x -ℤ y -ℤ z ≡ x -ℤ z -ℤ y
-either-first x y z = simp ring
+both-off : (x y z : ℤ) → x -ℤ (y +ℤ z) ≡ x -ℤ z -ℤ y
+both-off x y z = simp ring
 
--- ---- the amounts of stage 3 before rounding, as the code makes them
-abbrev pub amounts3 : ℕ → List ℤ → List ℤ
-amounts3 N top = thirdAmounts N (rootLog N) top (secantSums N top) (cosineSums N top)
+both-on : (x y z : ℤ) → x +ℤ (y +ℤ z) ≡ x +ℤ y +ℤ z
+both-on x y z = simp ring
 
--- ---- the stages
-module _ (N : ℕ) (top bottom : List ℤ) (ht : length top ≡ halfWidth N) (hb : length bottom ≡ halfWidth N) where
+-- a list by the places of another: what stands there may be said in another way
+respoken : (n : ℕ) (y : List ℤ) (f g : ℕ → ℤ) → length y ≡ n → ((i : ℕ) → i < n → f i ≡ g i) → places (length y) f ≡ places n g
+respoken n y f g l h = ap (λ k. places k f) l ∙ places-ext n f g h
+
+-- ---- the stages, with rows as the lifts read them
+module _ (N : ℕ) (z : 0 < halfWidth N) (top bottom : List ℤ) (h : Halves N top bottom) where
   abbrev M : ℕ
   M = halfWidth N
 
-  sums1 : (m : ℕ) → m < M → at (cosineSums N (altered false top)) m ≡ sum M (λ n. cosine N m n *ℤ alternate n (at top n))
-  unfolding cosineSums flipped
-  sums1 m l = at-places M _ m l ∙ sum-ext M _ _ (λ n k. ap (λ z. cosine N m n *ℤ z) (at-places (length top) _ n (omega arith)))
+  module _ (row : ℕ → ℤ) (r : (m : ℕ) → m < M → row m ≡ pos (scale N) *ℤ at (cosineSums N (alternated top)) m) where
+    amount1-is : (m : ℕ) → m < M → round 30 (row m) ≡ amount1 N top m
+    unfolding amount1 cosineSums
+    amount1-is m l =
+        ap (round 30) (r m l ∙ ap (λ v. pos (scale N) *ℤ v) (at-places M _ m l ∙ sum-ext M _ _ (λ n k. ap (λ v. cosine N m n *ℤ v) (at-places (length top) _ n (omega (arith, h .top-long))))))
+        ∙ round-first N z _
 
-  pub stage1-is : lifted false (27 + rootLog N) (cosineSums N (altered false top)) (lifted false 0 top bottom) ≡ stage1 N top bottom
-  unfolding stage1 amount1 moved
-  stage1-is =
-      respoken M (lifted false 0 top bottom) _ _ (length-places _ _ ∙ hb)
-      (λ m l. ap₂ _+ℤ_ (at-places (length bottom) _ m (omega arith) ∙ ap (λ z. at bottom m +ℤ z) (round-whole (at top m))) (ap (round (27 + rootLog N)) (sums1 m l)))
+    abbrev lifted1 : Bool → List ℤ
+    lifted1 undo = places (length bottom) (λ i. moved undo (at bottom i) (at top i +ℤ round 30 (row i)))
 
-  pub unstage1-is : lifted true (27 + rootLog N) (cosineSums N (altered false top)) (lifted true 0 top bottom) ≡ unstage1 N top bottom
-  unfolding unstage1 amount1 moved
-  unstage1-is =
-      respoken M (lifted true 0 top bottom) _ _ (length-places _ _ ∙ hb)
-      (λ m l.
-      ap₂ _-ℤ_ (at-places (length bottom) _ m (omega arith) ∙ ap (λ z. at bottom m -ℤ z) (round-whole (at top m))) (ap (round (27 + rootLog N)) (sums1 m l))
-      ∙ either-first (at bottom m) (at top m) (amount1 N top m))
+    same1 : (undo : Bool) → lifted1 undo ≡ cond undo (unstage1 N top bottom) (stage1 N top bottom)
+    unfolding stage1 unstage1 moved
+    same1 true = respoken M bottom _ _ (h .bottom-long) (λ m l. ap (λ v. at bottom m -ℤ (at top m +ℤ v)) (amount1-is m l) ∙ both-off (at bottom m) (at top m) (amount1 N top m))
+    same1 false = respoken M bottom _ _ (h .bottom-long) (λ m l. ap (λ v. at bottom m +ℤ (at top m +ℤ v)) (amount1-is m l) ∙ both-on (at bottom m) (at top m) (amount1 N top m))
 
-  -- the step or the step undone
-  pub either1-is : (undo : Bool) → lifted undo (27 + rootLog N) (cosineSums N (altered false top)) (lifted undo 0 top bottom) ≡ cond undo (unstage1 N top bottom) (stage1 N top bottom)
-  either1-is true = unstage1-is
-  either1-is false = stage1-is
+    pub stage1-is : (undo : Bool) {out : List ℤ} → out ≡ lifted1 undo → out ≡ cond undo (unstage1 N top bottom) (stage1 N top bottom)
+    stage1-is undo e = e ∙ same1 undo
 
-  sums2 : (m : ℕ) → m < M → round (28 + rootLog N) (at (cosineSums N bottom) m) ≡ amount2 N bottom m
-  unfolding cosineSums amount2
-  sums2 m l = ap (round (28 + rootLog N)) (at-places M _ m l)
+  module _ (row : ℕ → ℤ) (r : (m : ℕ) → m < M → row m ≡ pos (scale N) *ℤ at (cosineSums N bottom) m) where
+    amount2-is : (m : ℕ) → m < M → round 31 (row m) ≡ amount2 N bottom m
+    unfolding amount2 cosineSums
+    amount2-is m l = ap (round 31) (r m l ∙ ap (λ v. pos (scale N) *ℤ v) (at-places M _ m l)) ∙ round-second N z _
 
-  pub stage2-is : lifted false (28 + rootLog N) (cosineSums N bottom) (altered true top) ≡ stage2 N top bottom
-  unfolding stage2 moved flipped
-  stage2-is = respoken M (altered true top) _ _ (length-places _ _ ∙ ht) (λ m l. ap₂ _+ℤ_ (at-places (length top) _ m (omega arith)) (sums2 m l))
+    abbrev lifted2 : Bool → List ℤ
+    lifted2 undo = places (length top) (λ i. second undo i (at top i) (round 31 (row i)))
 
-  pub unstage2-is : altered true (lifted true (28 + rootLog N) (cosineSums N bottom) top) ≡ unstage2 N top bottom
-  unfolding unstage2 moved flipped
-  unstage2-is =
-      respoken M (lifted true (28 + rootLog N) (cosineSums N bottom) top) _ _ (length-places _ _ ∙ ht)
-      (λ m l. ap (λ z. negℤ (alternate m z)) (at-places (length top) _ m (omega arith) ∙ ap (λ z. at top m -ℤ z) (sums2 m l)))
+    same2 : (undo : Bool) → lifted2 undo ≡ cond undo (unstage2 N top bottom) (stage2 N top bottom)
+    unfolding stage2 unstage2 second flipped
+    same2 true = respoken M top _ _ (h .top-long) (λ m l. ap (λ v. negℤ (alternate m (at top m -ℤ v))) (amount2-is m l))
+    same2 false = respoken M top _ _ (h .top-long) (λ m l. ap (λ v. negℤ (alternate m (at top m)) +ℤ v) (amount2-is m l))
 
-  pub amounts3-at : (m : ℕ) → m < M → round (28 + 2 * rootLog N) (at (amounts3 N top) m) ≡ amount3 N top m
-  unfolding amount3 secantSums cosineSums third
-  amounts3-at m l =
-      let S = sum M (λ n. secant N m n *ℤ at top n) in
-      let C = sum M (λ n. cosine N m n *ℤ at top n) in
-      ap (round (28 + 2 * rootLog N))
-      (at-places M _ m l
-      ∙ ap₂ (λ s c. negℤ s -ℤ pos (2 ^ (rootLog N + 1)) *ℤ c +ℤ pos (2 ^ (2 * rootLog N)) *ℤ (negℤ (tangent N (M - 1 - m)) *ℤ at top (M - 1 - m))) (at-places M _ m l) (at-places M _ m l)
-      ∙ ap₂ (λ p q. negℤ S -ℤ pos p *ℤ C +ℤ pos q *ℤ (negℤ (tangent N (M - 1 - m)) *ℤ at top (M - 1 - m))) (twice-root (rootLog N)) (half-power N (omega arith))
-      ∙ minus-inside S (pos (2 * 2 ^ rootLog N) *ℤ C) (pos M) (tangent N (M - 1 - m)) (at top (M - 1 - m)))
+    pub stage2-is : (undo : Bool) {out : List ℤ} → out ≡ lifted2 undo → out ≡ cond undo (unstage2 N top bottom) (stage2 N top bottom)
+    stage2-is undo e = e ∙ same2 undo
 
-  pub stage3-is : (undo : Bool) → lifted undo (28 + 2 * rootLog N) (amounts3 N top) bottom ≡ cond undo (unstage3 N top bottom) (stage3 N top bottom)
-  unfolding stage3 unstage3 moved
-  stage3-is true = respoken M bottom _ _ hb (λ m l. ap (λ z. at bottom m -ℤ z) (amounts3-at m l))
-  stage3-is false = respoken M bottom _ _ hb (λ m l. ap (λ z. at bottom m +ℤ z) (amounts3-at m l))
+  module _ (sec cos : ℕ → ℤ) (p : (m : ℕ) → m < M → sec m ≡ pos (scale N * scale N) *ℤ at (secantSums N top) m) (q : (m : ℕ) → m < M → cos m ≡ pos (scale N) *ℤ at (cosineSums N top) m)
+      (c : List ℤ) (t : c ≡ places M (λ m. negℤ (tangent N m))) where
+    -- −t·top from the end
+    tangents-at : (m : ℕ) → m < M → at c (length bottom - 1 - m) *ℤ at top (length bottom - 1 - m) ≡ negℤ (tangent N (M - 1 - m)) *ℤ at top (M - 1 - m)
+    tangents-at m l =
+        ap (λ n. at c (n - 1 - m) *ℤ at top (n - 1 - m)) (h .bottom-long)
+        ∙ ap (λ v. v *ℤ at top (M - 1 - m)) (ap (λ xs. at xs (M - 1 - m)) t ∙ at-places M _ (M - 1 - m) (omega arith))
 
-module _ (N : ℕ) (top bottom : List ℤ) where
-  pub stage4-is : (undo : Bool) → sineLift N undo bottom top ≡ cond undo (unstage4 N top bottom) (stage4 N top bottom)
-  unfolding stage4 unstage4 moved
-  stage4-is true = refl
-  stage4-is false = refl
+    amount3-is : (m : ℕ) → m < M → round 34 (third (sec m) (cos m) (at c (length bottom - 1 - m) *ℤ at top (length bottom - 1 - m))) ≡ amount3 N top m
+    unfolding amount3 secantSums cosineSums
+    amount3-is m l =
+        let S = sum M (λ n. secant N m n *ℤ at top n) in
+        let C = sum M (λ n. cosine N m n *ℤ at top n) in
+        let T = tangent N (M - 1 - m) in
+        let x = at top (M - 1 - m) in
+        ap₂ (λ a b. round 34 (third a b (at c (length bottom - 1 - m) *ℤ at top (length bottom - 1 - m))))
+        (p m l ∙ ap (λ v. pos (scale N * scale N) *ℤ v) (at-places M _ m l)) (q m l ∙ ap (λ v. pos (scale N) *ℤ v) (at-places M _ m l))
+        ∙ ap (λ v. round 34 (third (pos (scale N * scale N) *ℤ S) (pos (scale N) *ℤ C) v)) (tangents-at m l)
+        ∙ round-third N z S C (negℤ T *ℤ x)
+        ∙ ap (round (28 + 2 * rootLog N)) (minus-inside S (pos (2 * 2 ^ rootLog N) *ℤ C) (pos M) T x)
 
-  pub stage5-is : (undo : Bool) → tangentLift N undo top bottom ≡ cond undo (unstage5 N top bottom) (stage5 N top bottom)
-  unfolding stage5 unstage5 moved
-  stage5-is true = refl
-  stage5-is false = refl
+    abbrev lifted3 : Bool → List ℤ
+    lifted3 undo = places (length bottom) (λ i. moved undo (at bottom i) (round 34 (third (sec i) (cos i) (at c (length bottom - 1 - i) *ℤ at top (length bottom - 1 - i)))))
+
+    same3 : (undo : Bool) → lifted3 undo ≡ cond undo (unstage3 N top bottom) (stage3 N top bottom)
+    unfolding stage3 unstage3 moved
+    same3 true = respoken M bottom _ _ (h .bottom-long) (λ m l. ap (λ v. at bottom m -ℤ v) (amount3-is m l))
+    same3 false = respoken M bottom _ _ (h .bottom-long) (λ m l. ap (λ v. at bottom m +ℤ v) (amount3-is m l))
+
+    pub stage3-is : (undo : Bool) {out : List ℤ} → out ≡ lifted3 undo → out ≡ cond undo (unstage3 N top bottom) (stage3 N top bottom)
+    stage3-is undo e = e ∙ same3 undo
+
+-- ---- lifts that read a list from its end
+module _ (N : ℕ) (top bottom : List ℤ) (h : Halves N top bottom) (c : List ℤ) where
+  lifted-by : (undo back : Bool) (x y : List ℤ) (f : ℕ → ℤ) → length y ≡ halfWidth N → c ≡ places (halfWidth N) f
+      → places (length y) (λ i. moved undo (at y i) (round 28 (at c (cond back (length y - 1 - i) i) *ℤ at x (length y - 1 - i))))
+      ≡ places (halfWidth N) (λ i. moved undo (at y i) (round 28 (f (cond back (halfWidth N - 1 - i) i) *ℤ at x (halfWidth N - 1 - i))))
+  lifted-by undo back x y f l t =
+      let M = halfWidth N in
+      ap (λ n. places n (λ i. moved undo (at y i) (round 28 (at c (cond back (n - 1 - i) i) *ℤ at x (n - 1 - i))))) l
+      ∙ places-ext M _ _ (λ i k. ap (λ z. moved undo (at y i) (round 28 (z *ℤ at x (M - 1 - i)))) (ap (λ xs. at xs (cond back (M - 1 - i) i)) t ∙ at-places M f _ (mirror-in back M i k)))
+
+  abbrev lifted4 : Bool → List ℤ
+  lifted4 undo = places (length top) (λ i. moved undo (at top i) (round 28 (at c (cond false (length top - 1 - i) i) *ℤ at bottom (length top - 1 - i))))
+
+  same4 : c ≡ places (halfWidth N) (sine N) → (undo : Bool) → lifted4 undo ≡ cond undo (unstage4 N top bottom) (stage4 N top bottom)
+  unfolding stage4 unstage4 sineAmount moved
+  same4 t true = lifted-by true false bottom top (sine N) (h .top-long) t
+  same4 t false = lifted-by false false bottom top (sine N) (h .top-long) t
+
+  pub stage4-is : c ≡ places (halfWidth N) (sine N) → (undo : Bool) {out : List ℤ} → out ≡ lifted4 undo → out ≡ cond undo (unstage4 N top bottom) (stage4 N top bottom)
+  stage4-is t undo e = e ∙ same4 t undo
+
+  abbrev lifted5 : Bool → List ℤ
+  lifted5 undo = places (length bottom) (λ i. moved undo (at bottom i) (round 28 (at c (cond true (length bottom - 1 - i) i) *ℤ at top (length bottom - 1 - i))))
+
+  same5 : c ≡ places (halfWidth N) (λ m. negℤ (tangent N m)) → (undo : Bool) → lifted5 undo ≡ cond undo (unstage5 N top bottom) (stage5 N top bottom)
+  unfolding stage5 unstage5 tangentAmount moved
+  same5 t true = lifted-by true true top bottom (λ m. negℤ (tangent N m)) (h .bottom-long) t
+  same5 t false = lifted-by false true top bottom (λ m. negℤ (tangent N m)) (h .bottom-long) t
+
+  pub stage5-is : c ≡ places (halfWidth N) (λ m. negℤ (tangent N m)) → (undo : Bool) {out : List ℤ} → out ≡ lifted5 undo → out ≡ cond undo (unstage5 N top bottom) (stage5 N top bottom)
+  stage5-is t undo e = e ∙ same5 t undo

@@ -1,3 +1,2 @@
 pub mod Moves
 pub mod Expanded
-pub mod Eight

@@ -1,13 +1,13 @@
 -- What the code does at one place.
 use mathlib.Core.Bool.{Bool, true, false, cond}
 use mathlib.Core.List.{List}
-use Prim.Native.Nat.{ℕ, _/_, _%_, _^_, _≤_}
+use Prim.Native.Nat.{ℕ, _/_, _%_, _^_, _≤_, _<_}
 use lib.Dec.{eqb}
 use lib.IntN.{ℤ, pos, negℤ, natAbs, _+ℤ_, _-ℤ_, _*ℤ_}
-use lib.ListN.{getD}
-use Rattle.integers.specs.Floor.{round}
-use Rattle.integers.specs.Places.{at}
+use lib.ListN.{length}
+use Rattle.integers.specs.Places.{at, Within}
 use Rattle.steps.specs.Steps.{alternate}
+use Rattle.rows.specs.Orders.{rowAt, secantOut}
 
 -- a step, or the step undone
 unfoldable pub moved : Bool → ℤ → ℤ → ℤ
@@ -22,6 +22,20 @@ flipped false i z = alternate i z
 unfoldable pub wovenAt : List ℤ → List ℤ → ℕ → ℤ
 wovenAt top bottom i = cond (eqb (i % 2) 0) (at top (i / 2)) (at bottom (i / 2))
 
--- what a lift by these amounts adds is small enough for 64 bits
-pub record Moves (k : ℕ) (amounts : List ℤ) : Type 0 where
-  pub small : (i : ℕ) → natAbs (round k (getD amounts i (pos 0))) ≤ 2 ^ 61
+-- stage 2 at a place: −d(i)·x and the amount, or x less the amount, and then −d(i)
+unfoldable pub second : Bool → ℕ → ℤ → ℤ → ℤ
+second true i x amount = flipped true i (x -ℤ amount)
+second false i x amount = flipped true i x +ℤ amount
+
+-- what stage 3 adds at a place, in parts of 2^34, from the secant sum 64/M times, the cosine sum 8/√M times, and −t·top
+unfoldable pub third : ℤ → ℤ → ℤ → ℤ
+third secants cosines tangent = negℤ secants -ℤ pos 16 *ℤ cosines +ℤ pos 64 *ℤ tangent
+
+-- sums so small that they fit 64 bits at the scale of all widths
+pub record Scaled (back flips y : List ℤ) : Type 0 where
+  pub small : (i : ℕ) → i < length y → natAbs (rowAt back flips y i) ≤ 2 ^ 62
+
+pub record Thirds (z back flips y : List ℤ) : Type 0 where
+  pub within-z : Within (2 ^ 62) z
+  pub secant : (i : ℕ) → i < length y → natAbs (secantOut (length y) (at z) i) ≤ 2 ^ 60
+  pub cosine : (i : ℕ) → i < length y → natAbs (rowAt back flips y i) ≤ 2 ^ 56

@@ -3,9 +3,8 @@ ghost use mathlib.Core.Path.{_≡_};
 ghost use Prim.Native.Nat.{_+_, _^_, _≤_, _<_};
 ghost use lib.IntN.{natAbs};
 ghost use lib.ListN.{length};
-ghost use Rattle.integers.specs.Floor.{round};
 ghost use Rattle.integers.specs.Places.{places, at, Within};
-ghost use Rattle.stages.specs.Moves.{moved, flipped, wovenAt, Moves};
+ghost use Rattle.stages.specs.Moves.{moved, flipped, wovenAt};
 
 // Each number to its own place.
 pub fn copy(x: &[i64], out: &mut [i64])
@@ -29,37 +28,6 @@ pub fn moved(undo: bool, y: i64, amount: i64) -> i64
     y + amount
 }
 
-fn lift_by(undo: bool, k: u32, amounts: &[i64], y: &mut [i64])
-    requires { ⌜ length (now amounts) ≡ length (now y) ⌝ }
-    requires { ⌜ Moves k (now amounts) ⌝ }
-    requires { ⌜ Within (2 ^ 61) (now y) ⌝ }
-    ensures { λ _. ⌜ now (y .exit) ≡ places (length (now (y .entry))) (λ i. Rattle.stages.specs.Moves.moved undo (at (now (y .entry)) i) (round k (at (now (amounts .entry)) i))) ⌝ }
-{
-    let mut i = 0;
-    while i < y.len() {
-        y[i] = moved(undo, y[i], integers::rounded(amounts[i], k));
-        i += 1;
-    }
-}
-
-// y takes the amounts / 2^k, rounded, or gives them back. Where k is written out, the division is by a number the compiler knows.
-pub fn lift(undo: bool, k: u32, amounts: &[i64], y: &mut [i64])
-    requires { ⌜ length (now amounts) ≡ length (now y) ⌝ }
-    requires { ⌜ Moves k (now amounts) ⌝ }
-    requires { ⌜ Within (2 ^ 61) (now y) ⌝ }
-    ensures { λ _. ⌜ now (y .exit) ≡ places (length (now (y .entry))) (λ i. Rattle.stages.specs.Moves.moved undo (at (now (y .entry)) i) (round k (at (now (amounts .entry)) i))) ⌝ }
-{
-    match k {
-        0 => lift_by(undo, 0, amounts, y),
-        29 => lift_by(undo, 29, amounts, y),
-        30 => lift_by(undo, 30, amounts, y),
-        31 => lift_by(undo, 31, amounts, y),
-        32 => lift_by(undo, 32, amounts, y),
-        34 => lift_by(undo, 34, amounts, y),
-        _ => lift_by(undo, k, amounts, y),
-    }
-}
-
 pub fn flipped(even: bool, i: usize, x: i64) -> i64
     requires { ⌜ natAbs x ≤ 2 ^ 61 ⌝ }
     ensures { λ r. ⌜ r ≡ Rattle.stages.specs.Moves.flipped even i x ⌝ }
@@ -74,18 +42,6 @@ pub fn flipped(even: bool, i: usize, x: i64) -> i64
         return 0 - x;
     }
     x
-}
-
-// The sign changed at the even places, or else at the odd ones.
-pub fn alternate(even: bool, y: &mut [i64])
-    requires { ⌜ Within (2 ^ 61) (now y) ⌝ }
-    ensures { λ _. ⌜ now (y .exit) ≡ places (length (now (y .entry))) (λ i. Rattle.stages.specs.Moves.flipped even i (at (now (y .entry)) i)) ⌝ }
-{
-    let mut i = 0;
-    while i < y.len() {
-        y[i] = flipped(even, i, y[i]);
-        i += 1;
-    }
 }
 
 fn woven(top: &[i64], bottom: &[i64], i: usize) -> i64

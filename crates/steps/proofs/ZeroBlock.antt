@@ -3,7 +3,8 @@ use mathlib.Core.Path.{_≡_, refl, sym, _∙_, ap, ap₂}
 use Prim.Native.Nat.{ℕ, zero, suc, _-_}
 use lib.IntN.{pos, negℤ, *ℤ-zero}
 use lib.ListN.{replicate, length-replicate}
-use Rattle.integers.specs.Floor.{round, floorDiv}
+use Rattle.integers.specs.Floor.{round}
+use Rattle.integers.proofs.Rounding.{round-zero}
 use Rattle.integers.proofs.PlaceLaws.{places-is}
 use Rattle.tables.specs.Widths.{halfWidth}
 use Rattle.steps.specs.Places.{at}
@@ -14,18 +15,14 @@ at-zeros zero i = refl
 at-zeros (suc n) zero = refl
 at-zeros (suc n) (suc i) = at-zeros n i
 
-round-zero : round 28 (pos 0) ≡ pos 0
-unfolding round floorDiv
-round-zero = refl
-
 module _ (N : ℕ) where
   tangent-zero : (m : ℕ) → tangentAmount N m (pos 0) ≡ pos 0
   unfolding tangentAmount
-  tangent-zero m = ap (round 28) (*ℤ-zero (negℤ (tangent N m))) ∙ round-zero
+  tangent-zero m = ap (round 28) (*ℤ-zero (negℤ (tangent N m))) ∙ round-zero 28
 
   sine-zero : (m : ℕ) → sineAmount N m (pos 0) ≡ pos 0
   unfolding sineAmount
-  sine-zero m = ap (round 28) (*ℤ-zero (sine N m)) ∙ round-zero
+  sine-zero m = ap (round 28) (*ℤ-zero (sine N m)) ∙ round-zero 28
 
   rotated-a-zero : (m : ℕ) → rotatedA N m (pos 0) (pos 0) ≡ pos 0
   unfolding rotatedA

@@ -49,3 +49,7 @@ half-width-le = at-each (λ n m. m ≤ 64) 4 16 64 0 (lit≤ tt) (lit≤ tt) (li
 pub half-width-ge : (n : ℕ) → 0 < halfWidth n → 4 ≤ halfWidth n
 unfolding halfWidth
 half-width-ge = at-each (λ n m. 0 < m → 4 ≤ m) 4 16 64 0 (λ z. lit≤ tt) (λ z. lit≤ tt) (λ z. lit≤ tt) (λ n x y w z. absurd (omega arith))
+
+pub no-other : (n : ℕ) → 0 < halfWidth n → (n ≡ 8 → ⊥) → (n ≡ 32 → ⊥) → (n ≡ 128 → ⊥) → ⊥
+unfolding halfWidth
+no-other n z f g h = let e : halfWidth n ≡ 0 = at-other 4 16 64 0 f g h in omega arith

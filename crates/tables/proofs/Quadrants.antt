@@ -2,7 +2,7 @@
 use mathlib.Core.Path.{_≡_, refl}
 use mathlib.Core.Bool.{Bool, true, false}
 use Prim.Native.Nat.{ℕ, _-_, _*_, _%_, _≤_, _<_}
-use native.Mathlib.Nat.{mod-lt}
+use native.Mathlib.Nat.{mod-lt, div-add-mod}
 use native.Mathlib.Omega.{arith}
 use borrow.Author.Tests.{le-leb, lt-leb, lt-ltb, le-ltb, leb-true, leb-false}
 use lib.Dec.{leb}
@@ -40,6 +40,24 @@ module _ (q x : ℕ) where
       by : (b : Bool) → leb (halfTurn q x) q ≡ b → reflected q x ≤ q
       by true e = let h = leb-true _ _ e in rw (quadrant-near h .0) h
       by false e = let h = leb-false _ _ e in rw (quadrant-past h .0) (omega (arith, half-le z))
+
+  -- an odd angle stays odd: turns and half turns have an even number of parts
+  half-odd : 0 < q → x % 2 ≡ 1 → halfTurn q x % 2 ≡ 1
+  half-odd z o = by (leb (x % (4 * q)) (2 * q)) refl
+    where
+      part : x % (4 * q) % 2 ≡ 1
+      part = omega (arith, div-add-mod x (4 * q))
+
+      by : (b : Bool) → leb (x % (4 * q)) (2 * q) ≡ b → halfTurn q x % 2 ≡ 1
+      by true e = rw (half-near (leb-true _ _ e)) part
+      by false e = rw (half-past (leb-false _ _ e)) (omega (arith, part, mod-lt x {m = 4 * q} (omega arith)))
+
+  pub reflected-odd : 0 < q → x % 2 ≡ 1 → reflected q x % 2 ≡ 1
+  reflected-odd z o = by (leb (halfTurn q x) q) refl
+    where
+      by : (b : Bool) → leb (halfTurn q x) q ≡ b → reflected q x % 2 ≡ 1
+      by true e = rw (quadrant-near (leb-true _ _ e) .0) (half-odd z o)
+      by false e = rw (quadrant-past (leb-false _ _ e) .0) (omega (arith, half-odd z o, half-le z))
 
 -- an angle counts by what is left of it within a turn
 pub same-turn : (q x y : ℕ) → x % (4 * q) ≡ y % (4 * q) → (reflected q x ≡ reflected q y) × (minus q x ≡ minus q y)

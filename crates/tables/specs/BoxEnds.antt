@@ -1,4 +1,4 @@
--- The ends of each box as numbers, for the checker to compute with: proofs/Boxes shows that they are those of `cosineBox`.
+-- The ends of each box as numbers, for the checker to compute with: proofs/BoxTable shows that they are those of `cosineBox`.
 use mathlib.Core.List.{List, [], _∷_}
 use Prim.Native.Nat.{ℕ}
 

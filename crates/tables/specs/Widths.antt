@@ -10,3 +10,7 @@ byWidth a b c other n = cond (eqb n 8) a (cond (eqb n 32) b (cond (eqb n 128) c 
 -- M, and 0 where there is no such width
 unfoldable pub halfWidth : ℕ → ℕ
 halfWidth = byWidth 4 16 64 0
+
+-- 8/√M, and 0 where there is no such width
+unfoldable pub scale : ℕ → ℕ
+scale = byWidth 4 2 1 0

@@ -1,11 +1,13 @@
 // Secants 1/cos(rπ/N), times 2^28.
 ghost use mathlib.Core.Path.{_≡_};
-ghost use lib.IntN.{pos, natAbs};
-ghost use lib.ListN.{getD};
+ghost use mathlib.Core.List.{map};
+ghost use Prim.Native.Nat.{_+_, _*_, _≤_, _<_};
+ghost use lib.IntN.{pos};
+ghost use lib.ListN.{length};
+ghost use Rattle.integers.specs.Places.{places};
+ghost use Rattle.tables.specs.Widths.{halfWidth};
 ghost use Rattle.tables.specs.Numbers.{secants, secantOf};
 use crate::angles;
-use crate::entries;
-use crate::widths;
 
 const SECANTS_8: [i64; 2] = [290552444, 701455651];
 
@@ -55,34 +57,54 @@ const SECANTS_128: [i64; 32] = [
     10938142553,
 ];
 
-// An entry of a width's table, and 0 where there is none.
-fn entry(width: usize, i: usize) -> i64
-    ensures { λ x. ⌜ x ≡ pos (getD (secants width) i 0) ⌝ }
+// The secants at r = 1, 3, 5, .. from the table of a width: that of the angle in the first quadrant, with the sign of the cosine.
+fn odd_ones(width: usize, table: &[i64], out: &mut [i64])
+    requires { ⌜ (0 < halfWidth width) × (now table ≡ map pos (secants width)) × (length (now out) ≤ 128) ⌝ }
+    ensures { λ _. ⌜ now (out .exit) ≡ places (length (now (out .entry))) (λ k. secantOf width (pos (2 * k + 1))) ⌝ }
 {
-    entries::at_width(width, &SECANTS_8, &SECANTS_32, &SECANTS_128, i)
+    let quarter = (width / 2) as u16;
+    let mut r: u16 = 1;
+    let mut k = 0;
+    while k < out.len() {
+        let folded = angles::first_quadrant(r, quarter);
+        let at = (folded.angle / 2) as usize;
+        out[k] = angles::signed(folded.minus, table[at]);
+        r += 2;
+        k += 1;
+    }
 }
 
-fn size(r: i16) -> u16
-    ensures { λ s. ⌜ s ≡ natAbs r ⌝ }
+// A function writes out the table that it names, so each table has its own.
+fn odd_ones_8(out: &mut [i64])
+    requires { ⌜ length (now out) ≤ 128 ⌝ }
+    ensures { λ _. ⌜ now (out .exit) ≡ places (length (now (out .entry))) (λ k. secantOf 8 (pos (2 * k + 1))) ⌝ }
 {
-    if r < 0 {
-        return (0 - (r as i32)) as u16;
-    }
-    r as u16
+    odd_ones(8, &SECANTS_8, out);
 }
 
-// The secant of a width at r: that of the size of r, with the sign of the cosine; 0 where there is no entry.
-pub fn secant(width: usize, r: i16) -> i64
-    ensures { λ x. ⌜ x ≡ secantOf width r ⌝ }
+fn odd_ones_32(out: &mut [i64])
+    requires { ⌜ length (now out) ≤ 128 ⌝ }
+    ensures { λ _. ⌜ now (out .exit) ≡ places (length (now (out .entry))) (λ k. secantOf 32 (pos (2 * k + 1))) ⌝ }
 {
-    let quarter = widths::half_width(width) as u16;
-    if quarter == 0 {
-        return 0;
+    odd_ones(32, &SECANTS_32, out);
+}
+
+fn odd_ones_128(out: &mut [i64])
+    requires { ⌜ length (now out) ≤ 128 ⌝ }
+    ensures { λ _. ⌜ now (out .exit) ≡ places (length (now (out .entry))) (λ k. secantOf 128 (pos (2 * k + 1))) ⌝ }
+{
+    odd_ones(128, &SECANTS_128, out);
+}
+
+// The secants of a width at r = 1, 3, 5, .., one to each place of out.
+pub fn secants(width: usize, out: &mut [i64])
+    requires { ⌜ (0 < halfWidth width) × (length (now out) ≤ 128) ⌝ }
+    ensures { λ _. ⌜ now (out .exit) ≡ places (length (now (out .entry))) (λ k. secantOf width (pos (2 * k + 1))) ⌝ }
+{
+    match width {
+        8 => odd_ones_8(out),
+        32 => odd_ones_32(out),
+        128 => odd_ones_128(out),
+        _ => {}
     }
-    let folded = angles::first_quadrant(size(r), quarter);
-    let k = folded.angle as usize;
-    if k % 2 == 0 {
-        return 0;
-    }
-    angles::signed(folded.minus, entry(width, k / 2))
 }

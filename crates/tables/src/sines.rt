@@ -1,15 +1,14 @@
 // Sines and cosines at multiples of π/512, times 2^28.
 ghost use mathlib.Core.Path.{_≡_};
 ghost use mathlib.Core.List.{map};
-ghost use Prim.Native.Nat.{_+_, _*_};
+ghost use Prim.Native.Nat.{_+_, _*_, _^_};
 ghost use lib.IntN.{pos};
 ghost use lib.ListN.{length};
 ghost use Rattle.integers.specs.Places.{places};
-ghost use Rattle.tables.specs.Numbers.{sines, cosineOf, sineOf};
+ghost use Rattle.tables.specs.Numbers.{sines, cosineOf};
 use crate::angles;
-use crate::entries;
 
-const SINES: [i64; 257] = [
+const SINES: [i32; 257] = [
     0,
     1647089,
     3294116,
@@ -269,41 +268,48 @@ const SINES: [i64; 257] = [
     268435456,
 ];
 
-// The cosine of jπ/512, from the table lent.
-fn cosine_from(table: &[i64], j: u16) -> i64
+// The table. A function writes out a constant that it names, so who needs more than one number takes it once and lends it.
+pub fn quarter() -> [i32; 257]
+    ensures { λ r. ⌜ r ≡ map pos sines ⌝ }
+{
+    SINES
+}
+
+// The cosine of jπ/512.
+fn cosine(table: &[i32], j: u16) -> i64
     requires { ⌜ now table ≡ map pos sines ⌝ }
     ensures { λ r. ⌜ r ≡ cosineOf j ⌝ }
 {
     let folded = angles::first_quadrant(j, 256);
     let at = 256 - folded.angle as usize;
-    angles::signed(folded.minus, entries::entry(table, at))
-}
-
-// The cosine of jπ/512.
-pub fn cosine(j: u16) -> i64
-    ensures { λ r. ⌜ r ≡ cosineOf j ⌝ }
-{
-    cosine_from(&SINES, j)
-}
-
-// The sine of jπ/512.
-pub fn sine(j: u16) -> i64
-    ensures { λ r. ⌜ r ≡ sineOf j ⌝ }
-{
-    cosine(angles::within_turn(j, 1024) + 768)
+    angles::signed(folded.minus, table[at] as i64)
 }
 
 // The cosines of first, first + step, first + 2·step, .. in parts of π/512, one to each place of out.
-pub fn cosines(first: u16, step: u16, out: &mut [i64])
+pub fn cosines(table: &[i32], first: u16, step: u16, out: &mut [i64])
+    requires { ⌜ now table ≡ map pos sines ⌝ }
     ensures { λ _. ⌜ now (out .exit) ≡ places (length (now (out .entry))) (λ e. cosineOf (first + e * step)) ⌝ }
 {
-    let table = SINES;
     let by = angles::within_turn(step, 1024);
     let mut j = angles::within_turn(first, 1024);
     let mut e = 0;
     while e < out.len() {
-        out[e] = cosine_from(&table, j);
+        out[e] = cosine(table, j);
         j = angles::within_turn(j + by, 1024);
+        e += 1;
+    }
+}
+
+// The cosines of first, 3·first, 9·first, ..
+pub fn cosines_by_threes(table: &[i32], first: u16, out: &mut [i64])
+    requires { ⌜ now table ≡ map pos sines ⌝ }
+    ensures { λ _. ⌜ now (out .exit) ≡ places (length (now (out .entry))) (λ e. cosineOf (3 ^ e * first)) ⌝ }
+{
+    let mut j = angles::within_turn(first, 1024);
+    let mut e = 0;
+    while e < out.len() {
+        out[e] = cosine(table, j);
+        j = angles::within_turn(3 * j, 1024);
         e += 1;
     }
 }

@@ -1,7 +1,11 @@
 // Half tangents tan((2m+1)π/(8N)), times 2^28.
 ghost use mathlib.Core.Path.{_≡_};
+ghost use Prim.Native.Nat.{_<_};
+ghost use lib.IntN.{negℤ};
+ghost use lib.ListN.{length};
+ghost use Rattle.integers.specs.Places.{places, at};
+ghost use Rattle.tables.specs.Widths.{halfWidth};
 ghost use Rattle.tables.specs.Numbers.{halfTangentOf};
-use crate::entries;
 
 const HALF_TANGENTS_8: [i64; 4] = [13187388, 39818638, 67239581, 96047742];
 
@@ -91,15 +95,50 @@ const HALF_TANGENTS_128: [i64; 64] = [
     110225980,
 ];
 
-// The half tangent of a width at m, and 0 where there is no entry.
-pub fn half_tangent(width: usize, m: usize) -> i64
-    ensures { λ r. ⌜ r ≡ halfTangentOf width m ⌝ }
+// Each number of a table with its sign changed.
+fn minus(table: &[i64], out: &mut [i64])
+    requires { ⌜ length (now out) ≡ length (now table) ⌝ }
+    requires { ⌜ Rattle.integers.specs.Places.Within 268435456 (now table) ⌝ }
+    ensures { λ _. ⌜ now (out .exit) ≡ places (length (now (out .entry))) (λ m. negℤ (at (now (table .entry)) m)) ⌝ }
 {
-    entries::at_width(
-        width,
-        &HALF_TANGENTS_8,
-        &HALF_TANGENTS_32,
-        &HALF_TANGENTS_128,
-        m,
-    )
+    let mut m = 0;
+    while m < out.len() {
+        out[m] = 0 - table[m];
+        m += 1;
+    }
+}
+
+// A function writes out the table that it names, so each table has its own.
+fn minus_8(out: &mut [i64])
+    requires { ⌜ length (now out) ≡ halfWidth 8 ⌝ }
+    ensures { λ _. ⌜ now (out .exit) ≡ places (halfWidth 8) (λ m. negℤ (halfTangentOf 8 m)) ⌝ }
+{
+    minus(&HALF_TANGENTS_8, out);
+}
+
+fn minus_32(out: &mut [i64])
+    requires { ⌜ length (now out) ≡ halfWidth 32 ⌝ }
+    ensures { λ _. ⌜ now (out .exit) ≡ places (halfWidth 32) (λ m. negℤ (halfTangentOf 32 m)) ⌝ }
+{
+    minus(&HALF_TANGENTS_32, out);
+}
+
+fn minus_128(out: &mut [i64])
+    requires { ⌜ length (now out) ≡ halfWidth 128 ⌝ }
+    ensures { λ _. ⌜ now (out .exit) ≡ places (halfWidth 128) (λ m. negℤ (halfTangentOf 128 m)) ⌝ }
+{
+    minus(&HALF_TANGENTS_128, out);
+}
+
+// −t(m), as the lifts take it.
+pub fn half_tangents(width: usize, out: &mut [i64])
+    requires { ⌜ (0 < halfWidth width) × (length (now out) ≡ halfWidth width) ⌝ }
+    ensures { λ _. ⌜ now (out .exit) ≡ places (halfWidth width) (λ m. negℤ (halfTangentOf width m)) ⌝ }
+{
+    match width {
+        8 => minus_8(out),
+        32 => minus_32(out),
+        128 => minus_128(out),
+        _ => {}
+    }
 }

@@ -18,7 +18,7 @@ use Rattle.run_back.proofs.UndoLaws.{same-taken-back}
 use Rattle.lapped.specs.Record.{isRecord, unpacked}
 use Rattle.lapped.specs.Calls.{lappedBackTake}
 use Rattle.lapped.proofs.RecordLaws.{has-room, rest-long, lent-is}
-use Rattle.lapped.proofs.CallLaws.{no-call, called}
+use Rattle.lapped.proofs.CallLaws.{no-call, count-stays, called}
 use Rattle.lapped.proofs.calls.lapped_back_take.Statement.{statement}
 use Rattle.lapped.proofs.calls.lapped_back_take.Tie as tie
 
@@ -94,7 +94,7 @@ take-requires c κs = let e = c .before .before .before .before in rest-long (nu
 store-count-requires : tie.Need-store-count-requires
 store-count-requires c κs =
     let t = c .before .before .before in
-    (few t, (read t .front .ensures .1, c .before .before .run .given .1 ∙ has-room (numbers (source t)) (is-record (passing t))))
+    (few t, (c .before .before .run .given .1 ∙ has-room (numbers (source t)) (is-record (passing t)), count-stays (numbers (source t)) (t .take .last .1 .1 .1 .0) (long (passing t)) ∙ read t .front .ensures .1))
 
 tell-requires-2 : tie.Need-tell-requires-2
 tell-requires-2 c κs = search needs

@@ -9,7 +9,7 @@ use lib.Signed.{natAbs-le}
 use mir.Syntax.{w64}
 use Rattle.integers.specs.Places.{at}
 use Rattle.integers.proofs.Held.{held-ok, asks-nat}
-use Rattle.lapped.proofs.RecordLaws.{has-room, has-width, has-count, some-record, small}
+use Rattle.lapped.proofs.RecordLaws.{has-room, has-width, has-count, some-record, natural}
 use Rattle.lapped.proofs.record.front.Statement.{statement}
 use Rattle.lapped.proofs.record.front.Tie as tie
 
@@ -45,7 +45,7 @@ returns c =
     let s = c .before .before .before in
     let l = numbers s in
     let count = held-ok w64 (at l 1) (c .before .t6 .given) .is in
-    (some-record l _ _ (held-ok w64 (at l 0) (c .before .before .t3 .given) .is) count (s .pre), rw count (small (at l 1) (has-count l (s .pre)) (c .before .t6 .given)))
+    (some-record l _ _ (held-ok w64 (at l 0) (c .before .before .t3 .given) .is) count (s .pre), rw count (natural (at l 1) (has-count l (s .pre))))
 
 pub front-spec : {M : Type 1} → statement M
 front-spec =

@@ -1,86 +1,215 @@
 -- `lifting::folding::fold` meets its contract.
-use borrow.Author.Needs.{needs}
-use mathlib.Core.Path.{_≡_, sym, ap, _∙_}
+use native.Mathlib.Omega.{arith}
+use mathlib.Core.Path.{_≡_, ap, _∙_}
 use mathlib.Core.List.{List}
-use Prim.Native.Nat.{ℕ}
+use Prim.Native.Nat.{ℕ, _+_, _-_, _*_, _/_, _≤_, _<_}
 use lib.IntN.{ℤ}
 use lib.ListN.{length}
-use Rattle.integers.specs.Places.{Within}
+use mir.Syntax.{w64}
+use Rattle.integers.specs.Places.{places}
+use Rattle.integers.proofs.Held.{held-ok}
+use Rattle.integers.proofs.Fills.{Filling, filling-none, filling-all}
 use Rattle.tables.specs.Widths.{halfWidth}
-use Rattle.steps.specs.Steps.{lower, held}
-use Rattle.stages.specs.Expanded.{Halves}
-use Rattle.rows.proofs.ArrangedLaws.{no-width}
+use Rattle.tables.proofs.ByWidth.{half-width-le}
+use Rattle.steps.specs.Steps.{held, topOf, bottomOf}
+use Rattle.lifting.proofs.FoldLaws.{Middle, middle-none, middle-all, filling-two, heldAt, topAt, bottomAt, quarter-is, top-next, bottom-next}
 use Rattle.lifting.proofs.folding.fold.Statement.{statement}
 use Rattle.lifting.proofs.folding.fold.Tie as tie
 
--- what holds at a width that is k, and what comes of it
-module _ (s : tie.Start) (k : ℕ) (w : s .args .width ≡ k) where
+abbrev Inv-loop : tie.InvT-loop
+Inv-loop width tangents sines block held₀ top₀ bottom₀ quarter k₀ held top bottom k =
+    (k ≤ quarter)
+    × Middle (topAt width block held₀) quarter k top
+    × Middle (bottomAt width block held₀) quarter k bottom
+    × Filling (heldAt width block) held₀ (2 * k) held
+
+abbrev μ-loop : tie.MeasureT-loop
+μ-loop width tangents sines block held₀ top₀ bottom₀ quarter k₀ held top bottom k = quarter - k
+
+module _ (s : tie.Start Inv-loop μ-loop) where
+  abbrev N : ℕ
+  N = s .args .width
+
+  abbrev q : ℕ
+  q = N / 4
+
   abbrev x : List ℤ
   x = s .args .block .now
 
-  asked : (length x ≡ k) × (Halves k (s .args .lower .now) (s .args .held .now) × Within 50000 x)
-  asked =
-      let l = s .pre .1 .1 .0 in
-      (s .pre .1 .0 ∙ w, (record { top-long = l .0 ∙ ap halfWidth w; bottom-long = l .1 ∙ ap halfWidth w }, s .pre .1 .1 .1))
+  abbrev kept : List ℤ
+  kept = s .args .held .now
 
-  gives : {y z : List ℤ} → (y ≡ lower k x) × (z ≡ held k x) → (y ≡ lower (s .args .width) x) × (z ≡ held (s .args .width) x)
-  gives e = (e .0 ∙ ap (λ n. lower n x) (sym w), e .1 ∙ ap (λ n. held n x) (sym w))
+  lengths : (q + q ≡ halfWidth N) × (halfWidth N ≤ 64) × (length kept ≡ halfWidth N) × (length (s .args .top .now) ≡ halfWidth N) × (length (s .args .bottom .now) ≡ halfWidth N)
+  lengths = let h = s .pre .1 .1 .1 .1 .0 in (quarter-is N (s .pre .0), half-width-le N, s .pre .1 .1 .1 .0 .1, h .top-long, h .bottom-long)
 
-fold-8-requires : tie.Need-fold-8-requires
-fold-8-requires c κs = asked (c .before .before .before) 8 (c .before .before .match .keys1)
+-- a turn
+module _ (i : tie.In-loop Inv-loop μ-loop) where
+  abbrev from : tie.Start Inv-loop μ-loop
+  from = i .before .before
 
-fold-32-requires : tie.Need-fold-32-requires
-fold-32-requires c κs = asked (c .before .before .before) 32 (c .before .before .match .keys2)
+  abbrev k : ℕ
+  k = i .before .loop .k
 
-fold-128-requires : tie.Need-fold-128-requires
-fold-128-requires c κs = asked (c .before .before .before) 128 (c .before .before .match .keys3)
+  below : (k < q from) × (q from + q from ≡ halfWidth (N from)) × (halfWidth (N from) ≤ 64)
+  below = (i .loop-test .taken, lengths from .0, lengths from .1)
 
-same-length : tie.Need-same-length
-same-length c = search needs
+-- what the three calls leave
+bottom-turn : (p : tie.After-put-two Inv-loop μ-loop) → let i = p .before .before .before .before .before .before in Middle (bottomAt (N (from i)) (x (from i)) (kept (from i))) (q (from i)) (k i + 1) (p .put-two .last .0)
+bottom-turn p =
+    let d = p .before .before .before .before .before in
+    let i = d .before in
+    let s = from i in
+    let h = i .before .loop .inv in
+    bottom-next (N s) (x s) (kept s) (below i .1) (below i .0) (h .3) (p .put-two .ensures) (h .2)
+    (held-ok w64 _ (p .before .struct-told .given .0 .1) .is ∙ d .pair-of .ensures .0)
+    (held-ok w64 _ (p .before .before .put-two-arg2 .given) .is)
 
-same-length-2 : tie.Need-same-length-2
-same-length-2 c = search needs
+top-turn : (p : tie.After-put-two2 Inv-loop μ-loop) → let i = p .before .before .before .before .before .before .before .before .before .before .before in Middle (topAt (N (from i)) (x (from i)) (kept (from i))) (q (from i)) (k i + 1) (p .put-two2 .last .0)
+top-turn p =
+    let d = p .before .before .before .before .before .before .before .before .before in
+    let i = d .before .before in
+    let s = from i in
+    let h = i .before .loop .inv in
+    top-next (N s) (x s) (kept s) (below i .1) (below i .0) (h .3) (p .put-two2 .ensures) (h .1)
+    (held-ok w64 _ (p .before .struct-told2 .given .0 .1) .is ∙ d .pair-of2 .ensures .0)
+    (held-ok w64 _ (p .before .before .put-two-arg4 .given) .is)
 
-returns : tie.Need-returns
-returns c = gives (c .before .before .before .before .before .before) 8 (c .before .before .before .before .before .match .keys1) (c .before .before .fold-8 .ensures)
+held-turn : (p : tie.After-put-two3 Inv-loop μ-loop) → let i = p .before .before .before .before .before .before .before .before .before .before .before .before .before .before .before .before in Filling (heldAt (N (from i)) (x (from i))) (kept (from i)) (2 * (k i + 1)) (p .put-two3 .last .0)
+held-turn p =
+    let d = p .before .before .before .before .before .before .before .before .before .before .before .before .before .before in
+    let i = d .before .before in
+    filling-two (i .before .loop .inv .3) (2 * (k i + 1)) (omega arith) (p .put-two3 .ensures)
+    (held-ok w64 _ (p .before .before .struct-told3 .given .1 .0 .1) .is ∙ d .before .pair-of .ensures .1)
+    (held-ok w64 _ (p .before .struct-told4 .given .1 .0 .1) .is ∙ d .pair-of2 .ensures .1)
 
-same-length-3 : tie.Need-same-length-3
-same-length-3 c = search needs
+loop-holds : tie.Need-loop-holds Inv-loop μ-loop
+loop-holds c = let l = lengths c in (omega arith, middle-none _ _ _ (omega (arith, l)), middle-none _ _ _ (omega (arith, l)), filling-none _ _)
 
-same-length-4 : tie.Need-same-length-4
-same-length-4 c = search needs
+mul-n : tie.Need-mul-n Inv-loop μ-loop
+mul-n c = omega (arith, below c)
 
-returns-2 : tie.Need-returns-2
-returns-2 c = gives (c .before .before .before .before .before .before) 32 (c .before .before .before .before .before .match .keys2) (c .before .before .fold-32 .ensures)
+pair-of-requires : tie.Need-pair-of-requires Inv-loop μ-loop
+pair-of-requires c κs = let p = from c .pre .1 in (omega (arith, below c), (p .0, (p .1 .0, (p .1 .1 .0 .0, p .1 .1 .1 .1))))
 
-same-length-5 : tie.Need-same-length-5
-same-length-5 c = search needs
+add-pair-of : tie.Need-add-pair-of Inv-loop μ-loop
+add-pair-of c = omega (arith, below (c .before))
 
-same-length-6 : tie.Need-same-length-6
-same-length-6 c = search needs
+pair-of-requires-2 : tie.Need-pair-of-requires-2 Inv-loop μ-loop
+pair-of-requires-2 c κs = let p = from (c .before) .pre .1 in (omega (arith, below (c .before)), (p .0, (p .1 .0, (p .1 .1 .0 .0, p .1 .1 .1 .1))))
 
-returns-3 : tie.Need-returns-3
-returns-3 c = gives (c .before .before .before .before .before .before) 128 (c .before .before .before .before .before .match .keys3) (c .before .before .fold-128 .ensures)
+sub-put-two : tie.Need-sub-put-two Inv-loop μ-loop
+sub-put-two c = omega (arith, below (c .before .before .before))
 
-returns-4 : tie.Need-returns-4
-returns-4 c =
-    let r = c .match .rest in
-    absurd (no-width (c .before .args .width) (r .0 .0 .1) (r .0 .1) (r .1) (c .before .pre .0 .wide))
+sub-put-two-2 : tie.Need-sub-put-two-2 Inv-loop μ-loop
+sub-put-two-2 c = omega (arith, below (c .before .before .before))
+
+add-put-two : tie.Need-add-put-two Inv-loop μ-loop
+add-put-two c = omega (arith, below (c .before .before .before))
+
+add-put-two-2 : tie.Need-add-put-two-2 Inv-loop μ-loop
+add-put-two-2 c = omega (arith, below (c .before .before .before))
+
+mul-put-two : tie.Need-mul-put-two Inv-loop μ-loop
+mul-put-two c = record { fits = omega (arith, below (c .before .before .before)) }
+
+slice-copy-out-put-two : tie.Need-slice-copy-out-put-two Inv-loop μ-loop
+slice-copy-out-put-two c = let i = c .before .before .before in omega (arith, below i, lengths (from i), i .before .loop .inv .3 .long)
+
+put-two-requires : tie.Need-put-two-requires Inv-loop μ-loop
+put-two-requires c κs = let i = c .before .before .before .before .before in (omega (arith, below i, i .before .loop .inv .2 .long), omega (arith, below i, i .before .loop .inv .2 .long))
+
+sub-put-two-3 : tie.Need-sub-put-two-3 Inv-loop μ-loop
+sub-put-two-3 c = omega (arith, below (c .before .before .before .before .before .before .before .before))
+
+sub-put-two-4 : tie.Need-sub-put-two-4 Inv-loop μ-loop
+sub-put-two-4 c = omega (arith, below (c .before .before .before .before .before .before .before .before))
+
+add-put-two-3 : tie.Need-add-put-two-3 Inv-loop μ-loop
+add-put-two-3 c = omega (arith, below (c .before .before .before .before .before .before .before .before))
+
+mul-put-two-2 : tie.Need-mul-put-two-2 Inv-loop μ-loop
+mul-put-two-2 c = record { fits = omega (arith, below (c .before .before .before .before .before .before .before .before)) }
+
+slice-copy-out-put-two-2 : tie.Need-slice-copy-out-put-two-2 Inv-loop μ-loop
+slice-copy-out-put-two-2 c = let i = c .before .before .before .before .before .before .before .before in omega (arith, below i, lengths (from i), i .before .loop .inv .3 .long)
+
+put-two-requires-2 : tie.Need-put-two-requires-2 Inv-loop μ-loop
+put-two-requires-2 c κs = let i = c .before .before .before .before .before .before .before .before .before .before in (omega (arith, below i, i .before .loop .inv .1 .long), omega (arith, below i, i .before .loop .inv .1 .long))
+
+add-put-two-4 : tie.Need-add-put-two-4 Inv-loop μ-loop
+add-put-two-4 c = omega (arith, below (c .before .before .before .before .before .before .before .before .before .before .before .before .before))
+
+put-two-requires-3 : tie.Need-put-two-requires-3 Inv-loop μ-loop
+put-two-requires-3 c κs =
+    let i = c .before .before .before .before .before .before .before .before .before .before .before .before .before .before .before in
+    (omega (arith, below i, lengths (from i), i .before .loop .inv .3 .long), omega (arith, below i, lengths (from i), i .before .loop .inv .3 .long))
+
+add-k : tie.Need-add-k Inv-loop μ-loop
+add-k c = let i = c .before .before .before .before .before .before .before .before .before .before .before .before .before .before .before .before .before in omega (arith, below i)
+
+loop-less : tie.Need-loop-less Inv-loop μ-loop
+loop-less c = let i = c .before .before .before .before .before .before .before .before .before .before .before .before .before .before .before .before .before in omega (arith, below i)
+
+loop-again : tie.Need-loop-again Inv-loop μ-loop
+loop-again c =
+    let p = c .before in
+    let t = p .before .before .before .before .before in
+    let b = t .before .before .before .before .before in
+    (omega (arith, below (b .before .before .before .before .before .before)), top-turn t, bottom-turn b, held-turn p)
+
+same-length : tie.Need-same-length Inv-loop μ-loop
+same-length c = c .before .loop .inv .3 .long
+
+same-length-2 : tie.Need-same-length-2 Inv-loop μ-loop
+same-length-2 c = omega (arith, c .before .loop .inv .1 .long, lengths (c .before .before))
+
+same-length-3 : tie.Need-same-length-3 Inv-loop μ-loop
+same-length-3 c = omega (arith, c .before .loop .inv .2 .long, lengths (c .before .before))
+
+returns : tie.Need-returns Inv-loop μ-loop
+unfolding held topOf bottomOf
+returns c =
+    let l = c .before in
+    let s = l .before in
+    let g = lengths s in
+    let e : l .loop .k ≡ q s = omega (arith, l .loop .inv .0, c .loop-test .left) in (
+      filling-all (l .loop .inv .3) (omega (arith, g, e)) ∙ ap (λ n. places n (heldAt (N s) (x s))) (g .2),
+      (
+        middle-all (l .loop .inv .1) (omega (arith, e)) ∙ ap (λ n. places n (topAt (N s) (x s) (kept s))) (g .0),
+        middle-all (l .loop .inv .2) (omega (arith, e)) ∙ ap (λ n. places n (bottomAt (N s) (x s) (kept s))) (g .0),
+      ),
+    )
 
 pub fold-spec : {M : Type 1} → statement M
 fold-spec =
     tie.close
     (tie.spec
-    fold-8-requires
-    fold-32-requires
-    fold-128-requires
+    Inv-loop
+    μ-loop
+    loop-holds
+    mul-n
+    pair-of-requires
+    add-pair-of
+    pair-of-requires-2
+    sub-put-two
+    sub-put-two-2
+    add-put-two
+    add-put-two-2
+    mul-put-two
+    slice-copy-out-put-two
+    put-two-requires
+    sub-put-two-3
+    sub-put-two-4
+    add-put-two-3
+    mul-put-two-2
+    slice-copy-out-put-two-2
+    put-two-requires-2
+    add-put-two-4
+    put-two-requires-3
+    add-k
+    loop-less
+    loop-again
     same-length
     same-length-2
-    returns
     same-length-3
-    same-length-4
-    returns-2
-    same-length-5
-    same-length-6
-    returns-3
-    returns-4)
+    returns)

@@ -41,20 +41,8 @@ module _ (c : tie.After-enum-told) where
   inside : Within 50000 (values (from (c .before .before)))
   inside = none-within 50000 _ none
 
-made : (c : tie.After-stages) → c .stages .last .1 .1 .0 ≡ stages (N (from (c .before .before .before .before))) (values (from (c .before .before .before .before)))
-made c = c .stages .ensures ∙ ap (stages (N (from (c .before .before .before .before)))) (wide (c .before .before .before .before))
-
-widen-requires : tie.Need-widen-requires
-widen-requires c κs = search needs
-
-first-beyond-requires : tie.Need-first-beyond-requires
-first-beyond-requires c κs = search needs
-
-enum-known-beyond : tie.Need-enum-known-beyond
-enum-known-beyond c = search needs
-
-same-length : tie.Need-same-length
-same-length c = search needs
+made : (c : tie.After-alone) → c .alone .last .1 .1 .0 ≡ stages (N (from (c .before .before .before .before))) (values (from (c .before .before .before .before)))
+made c = c .alone .ensures ∙ ap (stages (N (from (c .before .before .before .before)))) (wide (c .before .before .before .before))
 
 returns : tie.Need-returns
 returns c = let f = c .before .before .before in stages-refused (N (from f)) (values (from f)) (from f .args .frame .now) _ (seen f ∙ c .before .beyond .given .1)
@@ -62,8 +50,8 @@ returns c = let f = c .before .before .before in stages-refused (N (from f)) (va
 enum-told : tie.Need-enum-told
 enum-told c = search needs
 
-stages-requires : tie.Need-stages-requires
-stages-requires c κs =
+alone-requires : tie.Need-alone-requires
+alone-requires c κs =
     let f = c .before .before .before in
     let s = from f in
     (s .pre .0, (ap length (wide f) ∙ s .pre .1 .0, subst (Within 50000) (sym (wide f)) (inside (c .before))))
@@ -72,16 +60,10 @@ narrow-requires : tie.Need-narrow-requires
 narrow-requires c κs =
     let g = c .before .before .before in
     let s = from (g .before .before .before .before) in
-    let half = width-half (N s) (s .pre .0 .wide) in (
+    let half = width-half (N s) (s .pre .0) in (
       ap length (made g) ∙ length-stages (N s) (values s) ∙ half ∙ sym (s .pre .1 .2),
       subst (Within (2 ^ 30)) (sym (made g)) (stages-within (N s) (values s) (s .pre .1 .0) half (inside (g .before .before))),
     )
-
-same-length-2 : tie.Need-same-length-2
-same-length-2 c = search needs
-
-same-length-3 : tie.Need-same-length-3
-same-length-3 c = search needs
 
 returns-2 : tie.Need-returns-2
 returns-2 c =
@@ -93,14 +75,14 @@ pub staged-spec : {M : Type 1} → statement M
 staged-spec =
     tie.close
     (tie.spec
-    widen-requires
-    first-beyond-requires
-    enum-known-beyond
-    same-length
+    (λ c κs. search needs)
+    (λ c κs. search needs)
+    (λ c. search needs)
+    (λ c. search needs)
     returns
     enum-told
-    stages-requires
+    alone-requires
     narrow-requires
-    same-length-2
-    same-length-3
+    (λ c. search needs)
+    (λ c. search needs)
     returns-2)

@@ -47,8 +47,8 @@ module _ (h : tie.After-first-beyond2) where
   abbrev source : tie.Start
   source = from (h .before .before .before .before .before .before .before)
 
-  made : h .before .before .before .unstages .last .1 .1 .0 ≡ unstages (N source) (values source)
-  made = h .before .before .before .unstages .ensures ∙ ap (unstages (N source)) (wide (h .before .before .before .before .before .before .before))
+  made : h .before .before .before .alone .last .1 .1 .0 ≡ unstages (N source) (values source)
+  made = h .before .before .before .alone .ensures ∙ ap (unstages (N source)) (wide (h .before .before .before .before .before .before .before))
 
   seen2 : firstBeyond (pos 50000) (unstages (N source) (values source)) 0 ≡ h .first-beyond2 .result
   seen2 = sym (h .first-beyond2 .ensures ∙ ap (λ l. firstBeyond (pos 50000) l 0) made)
@@ -56,47 +56,23 @@ module _ (h : tie.After-first-beyond2) where
 none2 : (d : tie.After-enum-told2) → firstBeyond (pos 50000) (unstages (N (source (d .before .before))) (values (source (d .before .before)))) 0 ≡ Nothing
 none2 d = seen2 (d .before .before) ∙ d .enum-told2 .given .1
 
-widen-requires : tie.Need-widen-requires
-widen-requires c κs = search needs
-
-first-beyond-requires : tie.Need-first-beyond-requires
-first-beyond-requires c κs = search needs
-
-enum-known-coefficient : tie.Need-enum-known-coefficient
-enum-known-coefficient c = search needs
-
-same-length : tie.Need-same-length
-same-length c = search needs
-
 returns : tie.Need-returns
 returns c = let f = c .before .before .before in unstages-refused (N (from f)) (values (from f)) (from f .args .folded .now) _ (seen f ∙ c .before .coefficient .given .1)
 
 enum-told : tie.Need-enum-told
 enum-told c = search needs
 
-unstages-requires : tie.Need-unstages-requires
-unstages-requires c κs =
+alone-requires : tie.Need-alone-requires
+alone-requires c κs =
     let f = c .before .before .before in
     let s = from f in
     (s .pre .0, (ap length (wide f) ∙ s .pre .1 .0, subst (Within 1048576) (sym (wide f)) (inside (c .before))))
-
-first-beyond-requires-2 : tie.Need-first-beyond-requires-2
-first-beyond-requires-2 c κs = search needs
-
-enum-known-value : tie.Need-enum-known-value
-enum-known-value c = search needs
-
-same-length-2 : tie.Need-same-length-2
-same-length-2 c = search needs
 
 returns-2 : tie.Need-returns-2
 returns-2 c =
     let h = c .before .before .before in
     let s = source h in
     unstaged-refused (N s) (values s) (s .args .folded .now) (none (h .before .before .before .before .before)) _ (seen2 h ∙ c .before .value .given .1)
-
-enum-told-2 : tie.Need-enum-told-2
-enum-told-2 c = search needs
 
 narrow-requires : tie.Need-narrow-requires
 narrow-requires c κs =
@@ -106,12 +82,6 @@ narrow-requires c κs =
       ap length (made h) ∙ length-unstages (N s) (values s) ∙ sym (s .pre .1 .2),
       subst (Within (2 ^ 30)) (sym (made h)) (within-up (none-within 50000 _ (none2 d)) (omega arith)),
     )
-
-same-length-3 : tie.Need-same-length-3
-same-length-3 c = search needs
-
-same-length-4 : tie.Need-same-length-4
-same-length-4 c = search needs
 
 returns-3 : tie.Need-returns-3
 returns-3 c =
@@ -124,19 +94,19 @@ pub unstaged-spec : {M : Type 1} → statement M
 unstaged-spec =
     tie.close
     (tie.spec
-    widen-requires
-    first-beyond-requires
-    enum-known-coefficient
-    same-length
+    (λ c κs. search needs)
+    (λ c κs. search needs)
+    (λ c. search needs)
+    (λ c. search needs)
     returns
     enum-told
-    unstages-requires
-    first-beyond-requires-2
-    enum-known-value
-    same-length-2
+    alone-requires
+    (λ c κs. search needs)
+    (λ c. search needs)
+    (λ c. search needs)
     returns-2
-    enum-told-2
+    (λ c. search needs)
     narrow-requires
-    same-length-3
-    same-length-4
+    (λ c. search needs)
+    (λ c. search needs)
     returns-3)

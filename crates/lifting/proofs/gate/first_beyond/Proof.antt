@@ -44,9 +44,6 @@ sub-low c = asks-minus (limit c) (low-fits c)
 loop-holds : tie.Need-loop-holds Inv-loop μ-loop
 loop-holds c = (omega arith, refl)
 
-mul-value : tie.Need-mul-value Inv-loop μ-loop
-mul-value c = search needs
-
 shared-slice-copy-out-value : tie.Need-shared-slice-copy-out-value Inv-loop μ-loop
 shared-slice-copy-out-value c = omega arith
 
@@ -90,7 +87,7 @@ first-beyond-spec =
     μ-loop
     sub-low
     loop-holds
-    mul-value
+    (λ c. search needs)
     shared-slice-copy-out-value
     returns
     returns-2

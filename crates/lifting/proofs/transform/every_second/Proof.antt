@@ -31,9 +31,6 @@ mul-out-2 c = omega (arith, c .before .loop .inv .1 .long, c .before .before .pr
 shared-slice-copy-out-out : tie.Need-shared-slice-copy-out-out Inv-loop μ-loop
 shared-slice-copy-out-out c = omega (arith, c .before .loop .inv .1 .long, c .before .before .pre)
 
-mul-t11 : tie.Need-mul-t11 Inv-loop μ-loop
-mul-t11 c = search needs
-
 slice-set-from-out : tie.Need-slice-set-from-out Inv-loop μ-loop
 slice-set-from-out c = omega arith
 
@@ -63,7 +60,7 @@ every-second-spec =
     add-out
     mul-out-2
     shared-slice-copy-out-out
-    mul-t11
+    (λ c. search needs)
     slice-set-from-out
     add-i
     loop-less

@@ -3,20 +3,12 @@ use borrow.Author.Needs.{needs}
 use native.Mathlib.Omega.{arith}
 use mathlib.Core.Path.{_≡_, ap, _∙_}
 use mathlib.Core.List.{List}
-use Prim.Native.Nat.{_≤_}
 use lib.IntN.{ℤ}
 use lib.ListN.{length, drop}
-use Rattle.tables.proofs.ByWidth.{half-width-le}
-use Rattle.steps.proofs.Undo.{width-half}
 use Rattle.lifting.proofs.Parts.{part-long, front, front-long, front-le}
+use Rattle.lifting_cases.proofs.Lent.{width-le}
 use Rattle.lifting_cases.proofs.block.fold.Statement.{statement}
 use Rattle.lifting_cases.proofs.block.fold.Tie as tie
-
-half-le : (s : tie.Start) → s .args .half ≤ 64
-half-le s = rw (s .pre .0 .half-is) (half-width-le (s .args .width))
-
-width-le : (s : tie.Start) → s .args .width ≤ 128
-width-le s = omega (arith, width-half (s .args .width) (s .pre .0 .wide), half-width-le (s .args .width))
 
 module _ (w : tie.After-widen) where
   abbrev from : tie.Start
@@ -29,19 +21,19 @@ module _ (w : tie.After-widen) where
   rest = drop (from .args .width) (w .before .before .of-128 .result)
 
   wide-long : length wide ≡ from .args .width
-  wide-long = ap length (w .widen .ensures) ∙ from .pre .1 .0
+  wide-long = ap length (w .widen .ensures) ∙ from .pre .1 .1 .0
 
 of-128-requires : tie.Need-of-128-requires
 of-128-requires c κs = search needs
 
 array-borrow-prefix-wide : tie.Need-array-borrow-prefix-wide
-array-borrow-prefix-wide c = omega (arith, c .of-128 .ensures, width-le (c .before))
+array-borrow-prefix-wide c = omega (arith, c .of-128 .ensures, width-le _ _ (c .before .pre .0))
 
 slice-aggregate-widen : tie.Need-slice-aggregate-widen
-slice-aggregate-widen c = part-long _ (c .before .of-128 .result) (omega (arith, c .before .of-128 .ensures, width-le (c .before .before)))
+slice-aggregate-widen c = part-long _ (c .before .of-128 .result) (omega (arith, c .before .of-128 .ensures, width-le _ _ (c .before .before .pre .0)))
 
 widen-requires : tie.Need-widen-requires
-widen-requires c κs = c .before .before .pre .1 .0 ∙ part-long _ (c .before .of-128 .result) (omega (arith, c .before .of-128 .ensures, width-le (c .before .before)))
+widen-requires c κs = c .before .before .pre .1 .1 .0 ∙ part-long _ (c .before .of-128 .result) (omega (arith, c .before .of-128 .ensures, width-le _ _ (c .before .before .pre .0)))
 
 array-share-prefix-wide : tie.Need-array-share-prefix-wide
 array-share-prefix-wide c = let w = c .before in front-le _ (wide w) (rest w) (wide-long w)
@@ -50,7 +42,7 @@ slice-aggregate-fold-wide : tie.Need-slice-aggregate-fold-wide
 slice-aggregate-fold-wide c = let w = c .before .before in front-long _ (wide w) (rest w) (wide-long w)
 
 fold-wide-requires : tie.Need-fold-wide-requires
-fold-wide-requires c κs = let w = c .before .before .before .before in (from w .pre .0, (front _ (wide w) (rest w) (wide-long w) ∙ w .widen .ensures, from w .pre .1))
+fold-wide-requires c κs = let w = c .before .before .before .before in (from w .pre .0, (from w .pre .1 .0, (front _ (wide w) (rest w) (wide-long w) ∙ w .widen .ensures, from w .pre .1 .1)))
 
 same-length : tie.Need-same-length
 same-length c = search needs

@@ -3,20 +3,17 @@ use borrow.Author.Needs.{needs}
 use native.Mathlib.Omega.{arith}
 use mathlib.Core.Path.{_≡_, sym, _∙_}
 use mathlib.Core.List.{List}
-use Prim.Native.Nat.{_+_, _≤_}
+use Prim.Native.Nat.{_≤_}
 use lib.IntN.{ℤ}
 use lib.ListN.{length, take, drop, length-append}
-use Rattle.steps.proofs.Undo.{width-half}
 use Rattle.lifting.proofs.Parts.{part-long}
+use Rattle.lifting_cases.proofs.Lent.{half-in}
 use Rattle.lifting_cases.proofs.block.there_and_back.Statement.{statement}
 use Rattle.lifting_cases.proofs.block.there_and_back.Tie as tie
 
 module _ (s : tie.Start) where
-  twice : s .args .half + s .args .half ≡ s .args .width
-  twice = rw (s .pre .0 .half-is) (width-half (s .args .width) (s .pre .0 .wide))
-
   half-below : s .args .half ≤ length (s .args .folded .now)
-  half-below = omega (arith, twice, s .pre .1 .1)
+  half-below = omega (arith, half-in _ _ (s .pre .0), s .pre .1 .1 .1)
 
   part : s .args .half ≡ length (take (s .args .half) (s .args .folded .now))
   part = part-long _ (s .args .folded .now) half-below
@@ -27,7 +24,7 @@ module _ (g : tie.After-folded2) where
   from = g .before .before .before .before .before .before .before .before .before .before .before .before .before .before .before .before .before .before .before
 
   abbrev lower : List ℤ
-  lower = g .before .before .before .before .before .before .before .before .before .before .before .before .before .before .before .before .fold .last .1 .1 .1 .0
+  lower = g .before .before .before .before .before .before .before .before .before .before .before .before .before .before .before .before .fold .last .1 .1 .1 .1 .0
 
   abbrev rest : List ℤ
   rest = drop (from .args .half) (from .args .folded .now)
@@ -45,7 +42,7 @@ slice-aggregate-fold : tie.Need-slice-aggregate-fold
 slice-aggregate-fold c = part (c .before)
 
 fold-requires : tie.Need-fold-requires
-fold-requires c κs = let s = c .before .before in (s .pre .0, (s .pre .1 .0, sym (part s) ∙ s .pre .0 .half-is, s .pre .1 .2))
+fold-requires c κs = let s = c .before .before in (s .pre .0, (s .pre .1 .0, (s .pre .1 .1 .0, sym (part s) ∙ s .pre .0 .0, s .pre .1 .1 .2)))
 
 numbers-requires : tie.Need-numbers-requires
 numbers-requires c κs = search needs
@@ -69,7 +66,7 @@ slice-aggregate-unfold : tie.Need-slice-aggregate-unfold
 slice-aggregate-unfold c = again-part (c .before)
 
 unfold-requires : tie.Need-unfold-requires
-unfold-requires c κs = let s = c .before .before .before .before .before .before .before .before .before .before .before .before .before .before .before .before .before .before .before .before .before .before in (s .pre .0, (c .before .before .before .before .before .before .before .before .before .coefficients .given ∙ s .pre .1 .3, sym (again-part (c .before .before .before)) ∙ s .pre .0 .half-is, c .before .before .before .before .before .before .before .before .before .before .before .before .before .before .before .before .before .held .given ∙ s .pre .1 .2))
+unfold-requires c κs = let s = c .before .before .before .before .before .before .before .before .before .before .before .before .before .before .before .before .before .before .before .before .before .before in (s .pre .0, (s .pre .1 .0, (c .before .before .before .before .before .before .before .before .before .coefficients .given ∙ s .pre .1 .1 .3, sym (again-part (c .before .before .before)) ∙ s .pre .0 .0, c .before .before .before .before .before .before .before .before .before .before .before .before .before .before .before .before .before .held .given ∙ s .pre .1 .1 .2)))
 
 numbers-requires-4 : tie.Need-numbers-requires-4
 numbers-requires-4 c κs = search needs

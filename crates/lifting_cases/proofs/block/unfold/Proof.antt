@@ -3,20 +3,12 @@ use borrow.Author.Needs.{needs}
 use native.Mathlib.Omega.{arith}
 use mathlib.Core.Path.{_≡_, sym, ap, _∙_}
 use mathlib.Core.List.{List}
-use Prim.Native.Nat.{_≤_}
 use lib.IntN.{ℤ}
 use lib.ListN.{length, drop}
-use Rattle.tables.proofs.ByWidth.{half-width-le}
-use Rattle.steps.proofs.Undo.{width-half}
 use Rattle.lifting.proofs.Parts.{part-long, front-long, front-le}
+use Rattle.lifting_cases.proofs.Lent.{half-le}
 use Rattle.lifting_cases.proofs.block.unfold.Statement.{statement}
 use Rattle.lifting_cases.proofs.block.unfold.Tie as tie
-
-half-le : (s : tie.Start) → s .args .half ≤ 64
-half-le s = rw (s .pre .0 .half-is) (half-width-le (s .args .width))
-
-width-le : (s : tie.Start) → s .args .width ≤ 128
-width-le s = omega (arith, width-half (s .args .width) (s .pre .0 .wide), half-width-le (s .args .width))
 
 module _ (w : tie.After-widen2) where
   abbrev from : tie.Start
@@ -35,10 +27,10 @@ module _ (w : tie.After-widen2) where
   high-rest = drop (from .args .half) (w .before .before .before .before .before .of-642 .result)
 
   low-long : length low ≡ from .args .half
-  low-long = ap length (w .before .before .before .widen .ensures) ∙ from .pre .1 .1 ∙ sym (from .pre .0 .half-is)
+  low-long = ap length (w .before .before .before .widen .ensures) ∙ from .pre .1 .1 .1 ∙ sym (from .pre .0 .0)
 
   high-long : length high ≡ from .args .half
-  high-long = ap length (w .widen2 .ensures) ∙ from .pre .1 .2 ∙ sym (from .pre .0 .half-is)
+  high-long = ap length (w .widen2 .ensures) ∙ from .pre .1 .1 .2 ∙ sym (from .pre .0 .0)
 
 of-64-requires : tie.Need-of-64-requires
 of-64-requires c κs = search needs
@@ -47,22 +39,22 @@ of-64-requires-2 : tie.Need-of-64-requires-2
 of-64-requires-2 c κs = search needs
 
 array-borrow-prefix-low : tie.Need-array-borrow-prefix-low
-array-borrow-prefix-low c = omega (arith, c .before .of-64 .ensures, half-le (c .before .before))
+array-borrow-prefix-low c = omega (arith, c .before .of-64 .ensures, half-le _ _ (c .before .before .pre .0))
 
 slice-aggregate-widen : tie.Need-slice-aggregate-widen
-slice-aggregate-widen c = part-long _ (c .before .before .of-64 .result) (omega (arith, c .before .before .of-64 .ensures, half-le (c .before .before .before)))
+slice-aggregate-widen c = part-long _ (c .before .before .of-64 .result) (omega (arith, c .before .before .of-64 .ensures, half-le _ _ (c .before .before .before .pre .0)))
 
 widen-requires : tie.Need-widen-requires
-widen-requires c κs = let s = c .before .before .before in s .pre .1 .1 ∙ sym (s .pre .0 .half-is) ∙ part-long _ (c .before .before .of-64 .result) (omega (arith, c .before .before .of-64 .ensures, half-le s))
+widen-requires c κs = let s = c .before .before .before in s .pre .1 .1 .1 ∙ sym (s .pre .0 .0) ∙ part-long _ (c .before .before .of-64 .result) (omega (arith, c .before .before .of-64 .ensures, half-le _ _ (s .pre .0)))
 
 array-borrow-prefix-high : tie.Need-array-borrow-prefix-high
-array-borrow-prefix-high c = omega (arith, c .before .before .before .of-642 .ensures, half-le (c .before .before .before .before .before))
+array-borrow-prefix-high c = omega (arith, c .before .before .before .of-642 .ensures, half-le _ _ (c .before .before .before .before .before .pre .0))
 
 slice-aggregate-widen-2 : tie.Need-slice-aggregate-widen-2
-slice-aggregate-widen-2 c = part-long _ (c .before .before .before .before .of-642 .result) (omega (arith, c .before .before .before .before .of-642 .ensures, half-le (c .before .before .before .before .before .before)))
+slice-aggregate-widen-2 c = part-long _ (c .before .before .before .before .of-642 .result) (omega (arith, c .before .before .before .before .of-642 .ensures, half-le _ _ (c .before .before .before .before .before .before .pre .0)))
 
 widen-requires-2 : tie.Need-widen-requires-2
-widen-requires-2 c κs = let s = c .before .before .before .before .before .before in s .pre .1 .2 ∙ sym (s .pre .0 .half-is) ∙ part-long _ (c .before .before .before .before .of-642 .result) (omega (arith, c .before .before .before .before .of-642 .ensures, half-le s))
+widen-requires-2 c κs = let s = c .before .before .before .before .before .before in s .pre .1 .1 .2 ∙ sym (s .pre .0 .0) ∙ part-long _ (c .before .before .before .before .of-642 .result) (omega (arith, c .before .before .before .before .of-642 .ensures, half-le _ _ (s .pre .0)))
 
 array-share-prefix-low : tie.Need-array-share-prefix-low
 array-share-prefix-low c = let w = c .before in front-le _ (low w) (low-rest w) (low-long w)
@@ -80,7 +72,7 @@ unfold-wide-requires : tie.Need-unfold-wide-requires
 unfold-wide-requires c κs =
     let w = c .before .before .before .before in
     let s = from w in
-    (s .pre .0, (s .pre .1 .0, sym (front-long _ (low w) (low-rest w) (low-long w)) ∙ s .pre .0 .half-is, sym (front-long _ (high w) (high-rest w) (high-long w)) ∙ s .pre .0 .half-is))
+    (s .pre .0, (s .pre .1 .0, (s .pre .1 .1 .0, sym (front-long _ (low w) (low-rest w) (low-long w)) ∙ s .pre .0 .0, sym (front-long _ (high w) (high-rest w) (high-long w)) ∙ s .pre .0 .0)))
 
 same-length : tie.Need-same-length
 same-length c = search needs

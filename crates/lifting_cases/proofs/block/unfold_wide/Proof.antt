@@ -6,28 +6,29 @@ use mathlib.Core.List.{List}
 use Prim.Native.Nat.{_≤_}
 use lib.IntN.{ℤ}
 use lib.ListN.{length, drop}
-use Rattle.tables.proofs.ByWidth.{half-width-le}
-use Rattle.steps.proofs.Undo.{width-half, length-unfolded}
+use Rattle.steps.proofs.Undo.{length-unfolded}
 use Rattle.lifting.proofs.Parts.{part-long, front-long, front-le}
 use Rattle.lifting.proofs.GateLaws.{none-within}
+use Rattle.lifting_cases.proofs.Lent.{width-le, half-in, half-below, width-below, tangents-at, sines-at}
 use Rattle.lifting_cases.proofs.block.unfold_wide.Statement.{statement}
 use Rattle.lifting_cases.proofs.block.unfold_wide.Tie as tie
 
-half-le : (s : tie.Start) → s .args .half ≤ 64
-half-le s = rw (s .pre .0 .half-is) (half-width-le (s .args .width))
+module _ (r : tie.After-of-128) where
+  abbrev begun : tie.Start
+  begun = r .before .before .before .before .before .before .before
 
-width-le : (s : tie.Start) → s .args .width ≤ 128
-width-le s = omega (arith, width-half (s .args .width) (s .pre .0 .wide), half-width-le (s .args .width))
+  room-le : begun .args .width ≤ length (r .of-128 .result)
+  room-le = omega (arith, r .of-128 .ensures, width-le _ _ (begun .pre .0))
 
 module _ (u : tie.After-unfold) where
   abbrev from : tie.Start
-  from = u .before .before .before .before .before .before .before .before .before
+  from = begun (u .before .before .before .before)
 
   abbrev wide : List ℤ
-  wide = u .«unfold» .last .1 .1 .1 .1 .0
+  wide = u .«unfold» .last .1 .1 .1 .1 .1 .0
 
   abbrev rest : List ℤ
-  rest = drop (from .args .width) (u .before .before .of-128 .result)
+  rest = drop (from .args .width) (u .before .before .before .before .of-128 .result)
 
   wide-long : length wide ≡ from .args .width
   wide-long = ap length (u .«unfold» .ensures) ∙ length-unfolded (from .args .width) (from .args .low .now) (from .args .high .now)
@@ -59,23 +60,45 @@ enum-told-4 c = search needs
 of-128-requires : tie.Need-of-128-requires
 of-128-requires c κs = search needs
 
-array-borrow-prefix-wide : tie.Need-array-borrow-prefix-wide
-array-borrow-prefix-wide c = omega (arith, c .of-128 .ensures, width-le (c .before .before .before .before .before .before .before))
-
 slice-aggregate-unfold : tie.Need-slice-aggregate-unfold
-slice-aggregate-unfold c = part-long _ (c .before .of-128 .result) (omega (arith, c .before .of-128 .ensures, width-le (c .before .before .before .before .before .before .before .before)))
+slice-aggregate-unfold c = let s = begun (c .before) in part-long _ (s .args .t .now) (half-below _ _ (s .pre .0) _ (s .pre .1 .0))
+
+mul-unfold : tie.Need-mul-unfold
+mul-unfold c = search needs
+
+sub-unfold : tie.Need-sub-unfold
+sub-unfold c = half-in _ _ (begun (c .before) .pre .0)
+
+part-unfold-start : tie.Need-part-unfold-start
+part-unfold-start c = half-in _ _ (begun (c .before) .pre .0)
+
+part-unfold-end : tie.Need-part-unfold-end
+part-unfold-end c = let s = begun (c .before) in width-below _ _ (s .pre .0) _ (s .pre .1 .0)
+
+array-borrow-prefix-wide : tie.Need-array-borrow-prefix-wide
+array-borrow-prefix-wide c = room-le (c .before .before)
+
+slice-aggregate-unfold-2 : tie.Need-slice-aggregate-unfold-2
+slice-aggregate-unfold-2 c = part-long _ _ (room-le (c .before .before .before))
 
 unfold-requires : tie.Need-unfold-requires
 unfold-requires c κs =
-    let s = c .before .before .before .before .before .before .before .before in (
-      s .pre .0,
+    let r = c .before .before .before in
+    let s = begun r in (
+      s .pre .0 .1,
       (
-        record { top-long = s .pre .1 .1; bottom-long = s .pre .1 .2 },
+        tangents-at _ _ (s .pre .0) _ (s .pre .1 .0),
         (
-          sym (part-long _ (c .before .of-128 .result) (omega (arith, c .before .of-128 .ensures, width-le s))),
+          sines-at _ _ (s .pre .0) _ (s .pre .1 .0),
           (
-            none-within 50000 _ (sym (c .before .before .before .before .before .before .before .first-beyond .ensures) ∙ c .before .before .before .before .before .enum-told2 .given .1),
-            none-within 50000 _ (sym (c .before .before .before .before .first-beyond2 .ensures) ∙ c .before .before .enum-told4 .given .1),
+            record { top-long = s .pre .1 .1 .1; bottom-long = s .pre .1 .1 .2 },
+            (
+              sym (part-long _ _ (room-le r)),
+              (
+                none-within 50000 _ (sym (r .before .before .before .before .before .before .first-beyond .ensures) ∙ r .before .before .before .before .enum-told2 .given .1),
+                none-within 50000 _ (sym (r .before .before .before .first-beyond2 .ensures) ∙ r .before .enum-told4 .given .1),
+              ),
+            ),
           ),
         ),
       ),
@@ -88,7 +111,7 @@ slice-aggregate-narrowed : tie.Need-slice-aggregate-narrowed
 slice-aggregate-narrowed c = let u = c .before .before in front-long _ (wide u) (rest u) (wide-long u)
 
 narrowed-requires : tie.Need-narrowed-requires
-narrowed-requires c κs = let u = c .before .before .before in sym (front-long _ (wide u) (rest u) (wide-long u)) ∙ sym (from u .pre .1 .0)
+narrowed-requires c κs = let u = c .before .before .before in sym (front-long _ (wide u) (rest u) (wide-long u)) ∙ sym (from u .pre .1 .1 .0)
 
 same-length : tie.Need-same-length
 same-length c = search needs
@@ -109,8 +132,13 @@ unfold-wide-spec =
     returns-2
     enum-told-4
     of-128-requires
-    array-borrow-prefix-wide
     slice-aggregate-unfold
+    mul-unfold
+    sub-unfold
+    part-unfold-start
+    part-unfold-end
+    array-borrow-prefix-wide
+    slice-aggregate-unfold-2
     unfold-requires
     array-share-prefix-wide
     slice-aggregate-narrowed

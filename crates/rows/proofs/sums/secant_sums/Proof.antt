@@ -1,92 +1,107 @@
 -- `rows::sums::secant_sums` meets its contract.
-use borrow.Author.Needs.{needs}
 use native.Mathlib.Omega.{arith}
-use mathlib.Core.Path.{_≡_, refl, sym, ap, subst, _∙_}
-use Prim.Native.Nat.{ℕ, _%_}
+use mathlib.Core.Path.{_≡_, sym, ap, ap₂, _∙_}
+use mathlib.Core.List.{List, _++_}
+use Prim.Native.Nat.{ℕ, _/_, _≤_}
 use lib.IntN.{ℤ}
-use lib.ListN.{length}
-use Rattle.integers.specs.Places.{places, at, Within}
-use Rattle.integers.proofs.PlaceLaws.{length-places, within-places}
+use lib.ListN.{length, take, drop}
+use lib.Seq.{length-take-le, length-front}
+use Rattle.integers.specs.Places.{places, at}
+use Rattle.integers.proofs.PlaceLaws.{length-places, within-up}
 use Rattle.tables.specs.Widths.{halfWidth}
-use Rattle.steps.proofs.Undo.{width-half}
-use Rattle.rows.specs.Sums.{takenPlace}
-use Rattle.rows.proofs.CosineOrder.{half-in-fours}
-use Rattle.rows.proofs.SumLaws.{secant-rows}
+use Rattle.constants.specs.Filled.{productRoom}
+use Rattle.rows.specs.Orders.{secantIn}
+use Rattle.rows.proofs.Parts.{Widths, widths, secant-lists}
+use Rattle.rows.proofs.SecantOrder.{secant-given, secant-rows}
+use borrow.Author.Needs.{needs}
 use Rattle.rows.proofs.sums.secant_sums.Statement.{statement}
 use Rattle.rows.proofs.sums.secant_sums.Tie as tie
 
 module _ (s : tie.Start) where
-  abbrev half : ℕ
-  half = halfWidth (s .args .width)
+  abbrev N : ℕ
+  N = s .args .width
 
-  x-long : length (s .args .x .now) ≡ half
-  x-long = s .pre .1 .0 .0
+  abbrev room : List ℤ
+  room = s .args .room .now
 
-  even : length (s .args .x .now) % 2 ≡ 0
-  even = omega (arith, half-in-fours (s .args .width), x-long)
+  known : Widths N (s .args .t .now)
+  known = widths (s .pre .0) (s .pre .1 .0)
 
-  -- the list as a row takes it
-  abbrev taken : ℕ → ℕ → ℤ
-  taken o l = at (s .args .x .now) (takenPlace half o l)
+  front-le : N / 2 ≤ length room
+  front-le = let w = known in omega (arith, s .pre .1 .1 .0 .1)
 
-  taken-within : (o : ℕ) → Within 10000000 (places half (taken o))
-  taken-within o = within-places half 10000000 (taken o) (λ l h. s .pre .1 .1 .size (takenPlace half o l))
+  front-long : N / 2 ≡ length (take (N / 2) room)
+  front-long = sym (length-take-le (N / 2) room front-le)
 
-  filled : (n o : ℕ) → n ≡ half → places n (λ l. at (s .args .x .now) (takenPlace (length (s .args .x .now)) o l)) ≡ places half (taken o)
-  filled n o e = ap (λ k. places k (λ l. at (s .args .x .now) (takenPlace (length (s .args .x .now)) o l))) e ∙ ap (λ k. places half (λ l. at (s .args .x .now) (takenPlace k o l))) x-long
-
-module _ (f : tie.After-for-rows) where
-  row-is : f .for-rows .last .1 .1 .0 ≡ places (half (f .before .before)) (taken (f .before .before) 0)
-  row-is = f .for-rows .ensures ∙ filled (f .before .before) _ 0 (f .before .before .pre .1 .0 .1)
-
-module _ (g : tie.After-for-rows2) where
+-- the front is filled
+module _ (p : tie.After-secant-in) where
   abbrev start : tie.Start
-  start = g .before .before .before .before .before
+  start = p .before .before
 
-  odd-is : g .for-rows2 .last .1 .1 .0 ≡ places (half start) (taken start 1)
-  odd-is = g .for-rows2 .ensures ∙ filled start _ 1 (start .pre .1 .0 .2)
+  abbrev new : List ℤ
+  new = p .secant-in .last .1 .0
 
-for-rows-requires : tie.Need-for-rows-requires
-for-rows-requires c κs = let s = c .before in (omega arith, s .pre .1 .0 .1 ∙ sym (x-long s), even s)
+  abbrev rest : List ℤ
+  rest = drop (N start / 2) (room start)
 
-for-rows-requires-2 : tie.Need-for-rows-requires-2
-for-rows-requires-2 c κs = let s = c .before .before .before .before in (omega arith, s .pre .1 .0 .2 ∙ sym (x-long s), even s)
+  new-is : new ≡ places (N start / 2) (secantIn (halfWidth (N start)) (at (start .args .x .now)))
+  new-is = p .secant-in .ensures ∙ ap₂ (λ n k. places n (secantIn k (at (start .args .x .now)))) (sym (front-long start)) (start .pre .1 .1 .0 .0)
 
-secant-windows-requires : tie.Need-secant-windows-requires
-secant-windows-requires c κs =
-    let s = c .before .before .before .before .before .before .before .before .before in
-    let f = c .before .before .before .before .before .before .before in
-    let g = c .before .before .before .before in (
-      s .pre .0,
-      (
-        (ap length (row-is f) ∙ length-places _ _, ap length (odd-is g) ∙ length-places _ _, s .pre .1 .0 .3),
-        (subst (Within 10000000) (sym (row-is f)) (taken-within s 0), subst (Within 10000000) (sym (odd-is g)) (taken-within s 1)),
-      ),
-    )
+  enough : productRoom (N start) ≤ length (new ++ rest)
+  enough = omega (arith, start .pre .1 .1 .0 .1, length-front (room start) new (N start / 2) (ap length (p .secant-in .ensures) ∙ length-places _ _))
 
-same-length : tie.Need-same-length
-same-length c = search needs
+mul-middle : tie.Need-mul-middle
+mul-middle c = let w = known c in omega arith
 
-same-length-2 : tie.Need-same-length-2
-same-length-2 c = search needs
+add-middle : tie.Need-add-middle
+add-middle c = let w = known c in omega arith
 
-same-length-3 : tie.Need-same-length-3
-same-length-3 c = search needs
+slice-relend-prefix-secant-in : tie.Need-slice-relend-prefix-secant-in
+slice-relend-prefix-secant-in c = front-le c
+
+slice-aggregate-secant-in : tie.Need-slice-aggregate-secant-in
+slice-aggregate-secant-in c = front-long (c .before)
+
+secant-in-requires : tie.Need-secant-in-requires
+secant-in-requires c κs =
+    let s = c .before in
+    let w = known s in
+    ((sym (front-long s) ∙ w .half ∙ sym (s .pre .1 .1 .0 .0), omega (arith, s .pre .1 .1 .0 .0, w .most)), within-up (s .pre .1 .1 .1) (omega arith))
+
+mul-product : tie.Need-mul-product
+mul-product c = let w = known (c .before .before .before) in omega arith
+
+sub-product : tie.Need-sub-product
+sub-product c = let w = known (c .before .before .before) in omega arith
+
+part-product-start : tie.Need-part-product-start
+part-product-start c = sub-product c
+
+product-requires : tie.Need-product-requires
+product-requires c κs =
+    let p = c .before .before .before in
+    let s = start p in
+    secant-given (N s) (N s / 2) (s .pre .0) (known s .half) (rest p) (secant-lists (s .pre .0) (s .pre .1 .0)) (s .pre .1 .1 .1) (new-is p) (enough p)
 
 returns : tie.Need-returns
 returns c =
-    let s = c .before .before .before .before .before .before .before .before .before .before .before in
-    let N = s .args .width in
-    c .before .secant-windows .ensures ∙ secant-rows N _ (s .args .x .now) refl _ _ (half-in-fours N) (width-half N (s .pre .0 .0)) (row-is (c .before .before .before .before .before .before .before .before .before)) (odd-is (c .before .before .before .before .before .before))
+    let p = c .before .before .before .before .before in
+    let s = start p in
+    secant-rows (N s) (N s / 2) (s .pre .0) (known s .half) (rest p) (secant-lists (s .pre .0) (s .pre .1 .0)) (s .pre .1 .1 .1) (new-is p) (enough p) (c .before .product .last .1 .0) (c .before .product .ensures)
 
 pub secant-sums-spec : {M : Type 1} → statement M
 secant-sums-spec =
     tie.close
     (tie.spec
-    for-rows-requires
-    for-rows-requires-2
-    secant-windows-requires
-    same-length
-    same-length-2
-    same-length-3
+    mul-middle
+    add-middle
+    slice-relend-prefix-secant-in
+    slice-aggregate-secant-in
+    secant-in-requires
+    mul-product
+    sub-product
+    part-product-start
+    (λ c. search needs)
+    product-requires
+    (λ c. search needs)
     returns)

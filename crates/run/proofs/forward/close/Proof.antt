@@ -28,92 +28,63 @@ module _ (s : tie.Start) where
   held-long = search needs
 
   half-le : s .args .half ≤ length before
-  half-le = half-room N (s .args .half) before (s .pre .0 .good .half-is) held-long
+  half-le = half-room N (s .args .half) before (s .pre .0 .half-is) held-long
 
--- the room lent, and a block of zeros, as long as the width
-module _ (c : tie.After-of-128) where
+-- a block of zeros, as long as the width
+module _ (z : tie.After-zero-block) where
   abbrev from : tie.Start
-  from = c .before .before .before
+  from = z .before
 
-  folded-le : N from ≤ length (c .of-128 .result)
-  folded-le = width-room (N from) (c .of-128 .result) (from .pre .0 .good .wide) (c .of-128 .ensures)
+  zeros-le : N from ≤ length (z .zero-block .result)
+  zeros-le = width-room (N from) (z .zero-block .result) (from .pre .0 .wide) (sym (ap length (z .zero-block .ensures) ∙ length-replicate 128 (pos 0)))
 
-  zeros-le : N from ≤ length (c .before .before .zero-block .result)
-  zeros-le = width-room (N from) (c .before .before .zero-block .result) (from .pre .0 .good .wide) (sym (ap length (c .before .before .zero-block .ensures) ∙ length-replicate 128 (pos 0)))
-
-  block-is : take (N from) (c .before .before .zero-block .result) ≡ zeros (N from)
-  block-is = zero-part (N from) _ (from .pre .0 .good .wide) (c .before .before .zero-block .ensures)
-
-zero-block-requires : tie.Need-zero-block-requires
-zero-block-requires c κs = search needs
-
-of-128-requires : tie.Need-of-128-requires
-of-128-requires c κs = search needs
+  block-is : take (N from) (z .zero-block .result) ≡ zeros (N from)
+  block-is = zero-part (N from) _ (from .pre .0 .wide) (z .zero-block .ensures)
 
 array-share-prefix-zeros : tie.Need-array-share-prefix-zeros
-array-share-prefix-zeros c = zeros-le c
+array-share-prefix-zeros c = zeros-le (c .before)
 
-slice-aggregate-step : tie.Need-slice-aggregate-step
-slice-aggregate-step c = part-long _ (c .before .before .before .zero-block .result) (zeros-le (c .before))
+slice-aggregate-step-in : tie.Need-slice-aggregate-step-in
+slice-aggregate-step-in c = let z = c .before .before in part-long _ (z .zero-block .result) (zeros-le z)
 
 array-borrow-prefix-held : tie.Need-array-borrow-prefix-held
-array-borrow-prefix-held c = half-le (from (c .before))
+array-borrow-prefix-held c = half-le (from (c .before .before))
 
-slice-aggregate-step-2 : tie.Need-slice-aggregate-step-2
-slice-aggregate-step-2 c = let s = from (c .before .before) in part-long _ (before s) (half-le s)
+slice-aggregate-step-in-2 : tie.Need-slice-aggregate-step-in-2
+slice-aggregate-step-in-2 c = let s = from (c .before .before .before) in part-long _ (before s) (half-le s)
 
-array-borrow-prefix-folded : tie.Need-array-borrow-prefix-folded
-array-borrow-prefix-folded c = folded-le (c .before .before)
-
-slice-aggregate-step-3 : tie.Need-slice-aggregate-step-3
-slice-aggregate-step-3 c = part-long _ (c .before .before .before .of-128 .result) (folded-le (c .before .before .before))
-
-step-requires : tie.Need-step-requires
-step-requires c κs =
-    let r = c .before .before .before .before in
-    let s = from r in
+step-in-requires : tie.Need-step-in-requires
+step-in-requires c κs =
+    let z = c .before .before .before .before in
+    let s = from z in
     let ready = s .pre .0 in (
-      ready .good,
+      ready .wide,
       (
-        (
-          sym (part-long _ (r .before .before .zero-block .result) (zeros-le r)),
-          sym (part-long _ (before s) (half-le s)) ∙ ready .good .half-is,
-          sym (part-long _ (r .of-128 .result) (folded-le r)),
-          s .pre .1,
-        ),
-        (take-within (N s) foldedLimit (before s) (ready .within) (s .args .half), subst (Within readingLimit) (sym (block-is r)) (zero-within (N s))),
+        (sym (part-long _ (z .zero-block .result) (zeros-le z)), sym (part-long _ (before s) (half-le s)) ∙ ready .half-is, s .pre .1),
+        (take-within (N s) foldedLimit (before s) (ready .within) (s .args .half), subst (Within readingLimit) (sym (block-is z)) (zero-within (N s))),
       ),
     )
-
-nothing-held-requires : tie.Need-nothing-held-requires
-nothing-held-requires c κs = search needs
-
-same-length : tie.Need-same-length
-same-length c = search needs
 
 returns : tie.Need-returns
 unfolding closed
 returns c =
-    let t = c .before .before .before .before in
-    let r = t .before .before .before .before .before in
-    let s = from r in (
+    let t = c .before .before .before in
+    let z = t .before .before .before .before .before in
+    let s = from z in (
       ap (λ (h : List ℤ). record { width = N s; count = s .args .run .count; held = h; finished = true }) (c .nothing-held .ensures),
-      t .step .ensures .1 ∙ ap (frame (N s) (take (s .args .half) (before s))) (block-is r) ∙ frame-on (s .args .run) (s .args .half) (s .pre .0) (zeros (N s)),
+      t .step-in .ensures .1 ∙ ap (frame (N s) (take (s .args .half) (before s))) (block-is z) ∙ frame-on (s .args .run) (s .args .half) (s .pre .0) (zeros (N s)),
     )
 
 pub close-spec : {M : Type 1} → statement M
 close-spec =
     tie.close
     (tie.spec
-    zero-block-requires
-    of-128-requires
+    (λ c κs. search needs)
     array-share-prefix-zeros
-    slice-aggregate-step
+    slice-aggregate-step-in
     array-borrow-prefix-held
-    slice-aggregate-step-2
-    array-borrow-prefix-folded
-    slice-aggregate-step-3
-    step-requires
-    nothing-held-requires
-    same-length
+    slice-aggregate-step-in-2
+    step-in-requires
+    (λ c κs. search needs)
+    (λ c. search needs)
     returns)

@@ -31,9 +31,6 @@ module _ (s : tie.Start) where
 is-sound : (e : tie.Else1) → sound blockLimit (run (e .before .before)) ≡ true
 is-sound e = sym (e .before .sound .ensures) ∙ not-false _ (e .if1 .left)
 
-sound-requires : tie.Need-sound-requires
-sound-requires c κs = search needs
-
 returns : tie.Need-returns
 unfolding ended
 returns c = let s = c .before .before in record-refused blockLimit (run s) (out s) _ (sym (c .before .sound .ensures) ∙ not-true _ (c .if1 .taken))
@@ -45,18 +42,12 @@ returns-2 c = let e = c .before in let s = e .before .before in closed-refused b
 returns-3 : tie.Need-returns-3
 returns-3 c = let e = c .before .before in let s = e .before .before in end-output-refused (run s) (out s) (is-sound e) (c .before .if2 .left) (c .if3 .taken)
 
-half-width-requires : tie.Need-half-width-requires
-half-width-requires c κs = search needs
-
 close-requires : tie.Need-close-requires
 close-requires c κs =
     let l = c .before .before in
     let e = l .before .before in
     let s = e .before .before in
     (passed blockLimit (omega arith) (run s) _ (is-sound e) (c .before .half-width .ensures) (held-long s), l .if3 .left)
-
-same-length : tie.Need-same-length
-same-length c = search needs
 
 returns-4 : tie.Need-returns-4
 returns-4 c =
@@ -70,11 +61,11 @@ pub finish-spec : {M : Type 1} → statement M
 finish-spec =
     tie.close
     (tie.spec
-    sound-requires
+    (λ c κs. search needs)
     returns
     returns-2
     returns-3
-    half-width-requires
+    (λ c κs. search needs)
     close-requires
-    same-length
+    (λ c. search needs)
     returns-4)

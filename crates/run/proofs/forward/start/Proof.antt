@@ -5,12 +5,6 @@ use Rattle.run.proofs.AskLaws.{start-refused, start-done}
 use Rattle.run.proofs.forward.start.Statement.{statement}
 use Rattle.run.proofs.forward.start.Tie as tie
 
-nothing-held-requires : tie.Need-nothing-held-requires
-nothing-held-requires c κs = search needs
-
-half-width-requires : tie.Need-half-width-requires
-half-width-requires c κs = search needs
-
 returns : tie.Need-returns
 returns c = start-refused (c .before .before .before .args .width) _ (c .before .before .nothing-held .ensures) (sym (c .before .half-width .ensures) ∙ c .if1 .taken)
 
@@ -18,4 +12,4 @@ returns-2 : tie.Need-returns-2
 returns-2 c = start-done (c .before .before .before .args .width) _ (c .before .before .nothing-held .ensures) (λ h. c .if1 .left (c .before .half-width .ensures ∙ h))
 
 pub start-spec : {M : Type 1} → statement M
-start-spec = tie.close (tie.spec nothing-held-requires half-width-requires returns returns-2)
+start-spec = tie.close (tie.spec (λ c κs. search needs) (λ c κs. search needs) returns returns-2)

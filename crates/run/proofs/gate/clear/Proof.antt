@@ -32,9 +32,6 @@ zero = held-ok w64 (pos 0) (omega arith)
 loop-holds : tie.Need-loop-holds Inv-loop μ-loop
 loop-holds c = (omega arith, (λ e. below-none _), (λ h. refl))
 
-mul-any : tie.Need-mul-any Inv-loop μ-loop
-mul-any c = search needs
-
 shared-slice-copy-out-any : tie.Need-shared-slice-copy-out-any Inv-loop μ-loop
 shared-slice-copy-out-any c = omega arith
 
@@ -69,7 +66,7 @@ clear-spec =
     Inv-loop
     μ-loop
     loop-holds
-    mul-any
+    (λ c. search needs)
     shared-slice-copy-out-any
     add-i
     loop-less

@@ -10,29 +10,14 @@ use Rattle.run.proofs.gate.fault_in.Tie as tie
 none-dead : (c : tie.After-enum-told) → firstDead (c .before .before .before .args .block .now) 0 ≡ Nothing
 none-dead c = sym (c .before .before .first-dead .ensures) ∙ c .enum-told .given .1
 
-first-dead-requires : tie.Need-first-dead-requires
-first-dead-requires c κs = search needs
-
-enum-known-dead : tie.Need-enum-known-dead
-enum-known-dead c = search needs
-
 returns : tie.Need-returns
 returns c = let f = c .before .before .before in dead-found (f .before .args .block .now) _ (sym (f .first-dead .ensures) ∙ c .before .dead .given .1)
 
 enum-told : tie.Need-enum-told
 enum-told c = search needs
 
-first-beyond-requires : tie.Need-first-beyond-requires
-first-beyond-requires c κs = search needs
-
-enum-known-beyond : tie.Need-enum-known-beyond
-enum-known-beyond c = search needs
-
 returns-2 : tie.Need-returns-2
 returns-2 c = let f = c .before .before .before in beyond-found (f .before .before .before .before .args .block .now) (none-dead (f .before)) _ (sym (f .first-beyond .ensures) ∙ c .before .beyond .given .1)
-
-enum-told-2 : tie.Need-enum-told-2
-enum-told-2 c = search needs
 
 returns-3 : tie.Need-returns-3
 returns-3 c = let f = c .before .before in none-found (f .before .before .before .before .args .block .now) (none-dead (f .before)) (sym (f .first-beyond .ensures) ∙ c .enum-told2 .given .1)
@@ -41,12 +26,12 @@ pub fault-in-spec : {M : Type 1} → statement M
 fault-in-spec =
     tie.close
     (tie.spec
-    first-dead-requires
-    enum-known-dead
+    (λ c κs. search needs)
+    (λ c. search needs)
     returns
     enum-told
-    first-beyond-requires
-    enum-known-beyond
+    (λ c κs. search needs)
+    (λ c. search needs)
     returns-2
-    enum-told-2
+    (λ c. search needs)
     returns-3)

@@ -5,17 +5,11 @@ use Rattle.run.proofs.AskLaws.{range-clear}
 use Rattle.run.proofs.gate.fault_of.Statement.{statement}
 use Rattle.run.proofs.gate.fault_of.Tie as tie
 
-in-range-requires : tie.Need-in-range-requires
-in-range-requires c κs = search needs
-
 returns : tie.Need-returns
 returns c = range-clear _ (sym (c .before .in-range .ensures) ∙ c .if1 .taken)
-
-searched-requires : tie.Need-searched-requires
-searched-requires c κs = search needs
 
 returns-2 : tie.Need-returns-2
 returns-2 c = search needs
 
 pub fault-of-spec : {M : Type 1} → statement M
-fault-of-spec = tie.close (tie.spec in-range-requires returns searched-requires returns-2)
+fault-of-spec = tie.close (tie.spec (λ c κs. search needs) returns (λ c κs. search needs) (λ c. search needs))

@@ -31,9 +31,6 @@ mark = held-ok w64 (negsuc 32767) (omega arith)
 loop-holds : tie.Need-loop-holds Inv-loop μ-loop
 loop-holds c = (omega arith, refl)
 
-mul-if1 : tie.Need-mul-if1 Inv-loop μ-loop
-mul-if1 c = search needs
-
 shared-slice-copy-out-if1 : tie.Need-shared-slice-copy-out-if1 Inv-loop μ-loop
 shared-slice-copy-out-if1 c = omega arith
 
@@ -61,7 +58,7 @@ first-dead-spec =
     Inv-loop
     μ-loop
     loop-holds
-    mul-if1
+    (λ c. search needs)
     shared-slice-copy-out-if1
     returns
     add-i

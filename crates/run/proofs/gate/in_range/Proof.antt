@@ -1,58 +1,51 @@
--- `run::gate::in_range` meets its contract: the search of the whole slice is the search from i on.
+-- `run::gate::in_range` meets its contract.
 use borrow.Author.Needs.{needs}
 use native.Mathlib.Omega.{arith}
-use mathlib.Core.Path.{_≡_, refl, sym, _∙_}
-use Prim.Native.Nat.{_≤_, _-_}
-use lib.IntN.{pos, negsuc}
-use lib.ListN.{length, drop}
-use lib.Signed.{_≤ℤ_}
+use mathlib.Core.Path.{_≡_, ap, _∙_}
+use mathlib.Core.Bool.{Bool, true, false, cond}
+use Prim.Native.Nat.{ℕ, _≤_, _-_}
+use lib.IntN.{ℤ, pos}
+use lib.ListN.{length}
 use mir.Syntax.{w32}
-use mir.Val.{ofZ}
 use Rattle.integers.specs.Places.{at}
-use Rattle.integers.proofs.Held.{Held, held-ok, h-lt}
-use Rattle.lifting.proofs.GateLaws.{above, below, neither, stops, goes-on, ends}
-use Rattle.run.specs.Gate.{firstOut}
-use Rattle.run.proofs.GateLaws.{outside, within}
+use Rattle.integers.proofs.Held.{held-ok}
+use Rattle.steps.specs.Limits.{readingLimit}
+use Rattle.lifting.specs.Gate.{beyond}
+use Rattle.run.proofs.GateLaws.{Counted, counted-none, counted-next, counted-end}
 use Rattle.run.proofs.gate.in_range.Statement.{statement}
 use Rattle.run.proofs.gate.in_range.Tie as tie
 
 abbrev Inv-loop : tie.InvT-loop
-Inv-loop block i₀ i = (i ≤ length block) × (firstOut block 0 ≡ firstOut (drop i block) i)
+Inv-loop readings out₀ i₀ out i = (i ≤ length readings) × (out ≤ i) × Counted readings i out
 
 abbrev μ-loop : tie.MeasureT-loop
-μ-loop block i₀ i = length block - i
+μ-loop readings out₀ i₀ out i = length readings - i
 
--- the reading at i, and the limits
-value : (a : tie.After-value Inv-loop μ-loop) → Held w32 (ofZ w32 (at (a .before .before .before .args .block .now) (a .before .before .loop .i))) (at (a .before .before .before .args .block .now) (a .before .before .loop .i))
-value a = held-ok w32 _ (a .value .given)
+one-at-most : (b : Bool) → cond b 1 0 ≤ 1
+one-at-most true = omega arith
+one-at-most false = omega arith
 
-high : Held w32 (ofZ w32 (pos 32767)) (pos 32767)
-high = held-ok w32 (pos 32767) (omega arith)
+-- what a turn counts
+module _ (c : tie.After-out-of-range Inv-loop μ-loop) where
+  abbrev value : ℤ
+  value = at (c .before .before .before .before .args .readings .now) (c .before .before .before .loop .i)
 
-low : Held w32 (ofZ w32 (negsuc 32766)) (negsuc 32766)
-low = held-ok w32 (negsuc 32766) (omega arith)
+  told : c .out-of-range .result ≡ cond (beyond (pos readingLimit) value) 1 0
+  told = c .out-of-range .ensures ∙ ap (λ v. cond (beyond (pos readingLimit) v) 1 0) (held-ok w32 value (c .before .out-of-range-arg .given) .is)
 
-not-below : pos 0 ≤ℤ pos 32767
-not-below = record { le = tt }
+  one : c .out-of-range .result ≤ 1
+  one = omega (arith, told, one-at-most (beyond (pos readingLimit) value))
 
 loop-holds : tie.Need-loop-holds Inv-loop μ-loop
-loop-holds c = (omega arith, refl)
+loop-holds c = (omega arith, omega arith, counted-none _)
 
-mul-value : tie.Need-mul-value Inv-loop μ-loop
-mul-value c = search needs
+shared-slice-copy-out-out-of-range : tie.Need-shared-slice-copy-out-out-of-range Inv-loop μ-loop
+shared-slice-copy-out-out-of-range c = omega arith
 
-shared-slice-copy-out-value : tie.Need-shared-slice-copy-out-value Inv-loop μ-loop
-shared-slice-copy-out-value c = omega arith
-
-returns : tie.Need-returns Inv-loop μ-loop
-returns c =
-    let a = c .before in
-    sym (outside _ _ _ (a .before .before .loop .inv .1 ∙ stops _ _ _ (a .before .loop-test .taken) (above _ _ not-below (h-lt high (value a) (c .if1 .taken)))))
-
-returns-2 : tie.Need-returns-2 Inv-loop μ-loop
-returns-2 c =
-    let a = c .before .before in
-    sym (outside _ _ _ (a .before .before .loop .inv .1 ∙ stops _ _ _ (a .before .loop-test .taken) (below _ _ not-below (h-lt (value a) low (c .if2 .taken)))))
+add-out : tie.Need-add-out Inv-loop μ-loop
+add-out c =
+    let l = c .before .before .before in
+    record { fits = omega (arith, one c, l .loop .inv .1, c .before .before .loop-test .taken, l .before .pre) }
 
 add-i : tie.Need-add-i Inv-loop μ-loop
 add-i c = omega arith
@@ -62,15 +55,12 @@ loop-less c = omega arith
 
 loop-again : tie.Need-loop-again Inv-loop μ-loop
 loop-again c =
-    let a = c .before .before in (
-      omega arith,
-      a .before .before .loop .inv .1 ∙ goes-on _ _ _ (a .before .loop-test .taken) (neither _ _ not-below (h-lt high (value a) (c .before .if1 .left)) (h-lt (value a) low (c .if2 .left))),
-    )
+    let l = c .before .before .before in
+    let readings = l .before .args .readings .now in
+    (omega arith, omega (arith, one c), counted-next readings (l .loop .i) (l .loop .out) (c .out-of-range .result) (c .before .before .loop-test .taken) (told c) (l .loop .inv .2))
 
-returns-3 : tie.Need-returns-3 Inv-loop μ-loop
-returns-3 c =
-    let e : c .before .loop .i ≡ length (c .before .before .args .block .now) = omega arith in
-    sym (within _ _ (c .before .loop .inv .1 ∙ ends _ _ _ e))
+returns : tie.Need-returns Inv-loop μ-loop
+returns c = counted-end _ _ _ (omega arith) (c .before .loop .inv .2)
 
 pub in-range-spec : {M : Type 1} → statement M
 in-range-spec =
@@ -79,11 +69,11 @@ in-range-spec =
     Inv-loop
     μ-loop
     loop-holds
-    mul-value
-    shared-slice-copy-out-value
-    returns
-    returns-2
+    (λ c. search needs)
+    shared-slice-copy-out-out-of-range
+    (λ c κs. search needs)
+    add-out
     add-i
     loop-less
     loop-again
-    returns-3)
+    returns)

@@ -12,20 +12,14 @@ use Rattle.run.proofs.gate.inside.Tie as tie
 seen : (f : tie.After-first-beyond) → firstBeyond (f .before .args .limit) (f .before .args .x .now) 0 ≡ f .first-beyond .result
 seen f = let s = f .before in ap (λ (l : ℤ). firstBeyond l (s .args .x .now) 0) (sym (held w64 (s .args .limit) (s .fits .limit) .is)) ∙ sym (f .first-beyond .ensures)
 
-first-beyond-requires : tie.Need-first-beyond-requires
-first-beyond-requires c κs = search needs
-
 enum-told : tie.Need-enum-told
 enum-told c = search needs
 
 returns : tie.Need-returns
 returns c = sym (outside _ _ _ (seen (c .before .before) ∙ c .enum-told .given .1))
 
-enum-told-2 : tie.Need-enum-told-2
-enum-told-2 c = search needs
-
 returns-2 : tie.Need-returns-2
 returns-2 c = sym (within _ _ (seen (c .before .before) ∙ c .enum-told2 .given .1))
 
 pub inside-spec : {M : Type 1} → statement M
-inside-spec = tie.close (tie.spec first-beyond-requires enum-told returns enum-told-2 returns-2)
+inside-spec = tie.close (tie.spec (λ c κs. search needs) enum-told returns (λ c. search needs) returns-2)

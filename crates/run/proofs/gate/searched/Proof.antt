@@ -27,12 +27,6 @@ module _ (w : tie.After-widen) where
   wide-front : take (length (block from)) (w .widen .last .1 .0 ++ drop (length (block from)) (w .before .before .of-128 .result)) ≡ block from
   wide-front = front (length (block from)) _ _ wide-long ∙ w .widen .ensures
 
-of-128-requires : tie.Need-of-128-requires
-of-128-requires c κs = search needs
-
-array-borrow-prefix-wide : tie.Need-array-borrow-prefix-wide
-array-borrow-prefix-wide c = search needs
-
 slice-aggregate-widen : tie.Need-slice-aggregate-widen
 slice-aggregate-widen c = room (c .before)
 
@@ -45,9 +39,6 @@ array-share-prefix-wide c = let w = c .before in front-le (length (block (from w
 slice-aggregate-fault-in : tie.Need-slice-aggregate-fault-in
 slice-aggregate-fault-in c = sym (ap length (wide-front (c .before .before)))
 
-fault-in-requires : tie.Need-fault-in-requires
-fault-in-requires c κs = search needs
-
 returns : tie.Need-returns
 returns c = let w = c .before .before .before in c .fault-in .ensures ∙ ap faultOf (wide-front w)
 
@@ -55,11 +46,11 @@ pub searched-spec : {M : Type 1} → statement M
 searched-spec =
     tie.close
     (tie.spec
-    of-128-requires
-    array-borrow-prefix-wide
+    (λ c κs. search needs)
+    (λ c. search needs)
     slice-aggregate-widen
     widen-requires
     array-share-prefix-wide
     slice-aggregate-fault-in
-    fault-in-requires
+    (λ c κs. search needs)
     returns)

@@ -56,9 +56,6 @@ module _ (i : tie.After-clear) where
   rest-seen : inside (pos 0) (drop (halfWidth (N first)) (held first)) ≡ i .clear .result
   rest-seen = sym (i .clear .ensures ∙ ap (inside (pos 0)) (rest-is first))
 
-half-width-requires : tie.Need-half-width-requires
-half-width-requires c κs = search needs
-
 returns : tie.Need-returns
 returns c = let s = c .before .before in no-width (s .args .top) (run s) (sym (c .before .half-width .ensures) ∙ c .if1 .taken)
 
@@ -74,12 +71,6 @@ sub-clear c = half-le (c .before)
 part-clear-start : tie.Need-part-clear-start
 part-clear-start c = half-le (c .before)
 
-part-clear-end : tie.Need-part-clear-end
-part-clear-end c = search needs
-
-clear-requires : tie.Need-clear-requires
-clear-requires c κs = search needs
-
 returns-3 : tie.Need-returns-3
 returns-3 c =
     let i = c .before in
@@ -88,9 +79,6 @@ returns-3 c =
 
 slice-aggregate-clear : tie.Need-slice-aggregate-clear
 slice-aggregate-clear c = let e = first (c .before .before .before) in part-long _ (held e) (half-le e)
-
-clear-requires-2 : tie.Need-clear-requires-2
-clear-requires-2 c κs = search needs
 
 returns-4 : tie.Need-returns-4
 returns-4 c =
@@ -102,9 +90,6 @@ returns-4 c =
 slice-aggregate-clear-2 : tie.Need-slice-aggregate-clear-2
 slice-aggregate-clear-2 c = let e = first (c .before .before .before .before) in part-long _ (held e) (half-le e)
 
-clear-requires-3 : tie.Need-clear-requires-3
-clear-requires-3 c κs = search needs
-
 returns-5 : tie.Need-returns-5
 returns-5 c =
     let f = c .before .before .before .before in
@@ -114,9 +99,6 @@ returns-5 c =
 
 slice-aggregate-inside : tie.Need-slice-aggregate-inside
 slice-aggregate-inside c = let e = first (c .before .before .before .before) in part-long _ (held e) (half-le e)
-
-inside-requires : tie.Need-inside-requires
-inside-requires c κs = search needs
 
 returns-6 : tie.Need-returns-6
 returns-6 c =
@@ -129,21 +111,21 @@ pub sound-held-spec : {M : Type 1} → statement M
 sound-held-spec =
     tie.close
     (tie.spec
-    half-width-requires
+    (λ c κs. search needs)
     returns
     returns-2
     mul-clear
     sub-clear
     part-clear-start
-    part-clear-end
-    clear-requires
+    (λ c. search needs)
+    (λ c κs. search needs)
     returns-3
     slice-aggregate-clear
-    clear-requires-2
+    (λ c κs. search needs)
     returns-4
     slice-aggregate-clear-2
-    clear-requires-3
+    (λ c κs. search needs)
     returns-5
     slice-aggregate-inside
-    inside-requires
+    (λ c κs. search needs)
     returns-6)

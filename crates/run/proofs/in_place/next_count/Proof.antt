@@ -6,9 +6,6 @@ use Rattle.run.proofs.Refusals.{count-kept, count-raised}
 use Rattle.run.proofs.in_place.next_count.Statement.{statement}
 use Rattle.run.proofs.in_place.next_count.Tie as tie
 
-number-requires : tie.Need-number-requires
-number-requires c κs = search needs
-
 returns : tie.Need-returns
 returns c = count-kept _ _ (λ e. c .if1 .taken (c .before .number .ensures ∙ e))
 
@@ -19,4 +16,4 @@ returns-2 : tie.Need-returns-2
 returns-2 c = count-raised _ _ (sym (c .before .number .ensures) ∙ c .if1 .left)
 
 pub next-count-spec : {M : Type 1} → statement M
-next-count-spec = tie.close (tie.spec number-requires returns add-result returns-2)
+next-count-spec = tie.close (tie.spec (λ c κs. search needs) returns add-result returns-2)

@@ -5,10 +5,11 @@ use native.Mathlib.Omega.{arith}
 use mathlib.Core.Path.{_≡_, refl, sym, ap, ap₂, _∙_}
 use mathlib.Core.Bool.{true}
 use mathlib.Core.List.{List, _++_}
-use Prim.Native.Nat.{ℕ, _≤_}
+use Prim.Native.Nat.{ℕ, _/_, _≤_, _<_}
 use lib.IntN.{ℤ}
 use lib.ListN.{length, drop}
 use Rattle.tables.specs.Widths.{halfWidth}
+use Rattle.tables.proofs.Reading.{half-is}
 use Rattle.steps.specs.Limits.{foldedLimit}
 use Rattle.lifting.specs.Gate.{told}
 use Rattle.lifting.specs.declared.gate.Answer.the-variants.{Done}
@@ -62,151 +63,116 @@ module _ (l : tie.Else5) where
   asked = lengths-passed blockLimit (run from) (block from) (out from) (next from) (is-sound first) (l .before .before .before .if2 .left) (l .before .before .if3 .left) (l .before .if4 .left) (l .if5 .left)
 
 -- and 8 and 9
-module _ (h : tie.After-half-width) where
+module _ (n : tie.After-enum-told) where
   abbrev passing : tie.Else5
-  passing = h .before .before .before .before
+  passing = n .before .before .before
+
+  abbrev half : ℕ
+  half = from passing .args .width / 2
 
   clear : faultOf (block (from passing)) ≡ Clear
-  clear = sym (h .before .before .before .fault-of .ensures) ∙ h .before .enum-told .given .1
+  clear = sym (n .before .before .fault-of .ensures) ∙ n .enum-told .given .1
 
-  set : Ready (run (from passing)) (h .half-width .result)
-  set = ready passing _ (h .half-width .ensures)
+  wide : 0 < halfWidth (from passing .args .width)
+  wide = ready passing _ refl .wide
 
-  half-le : h .half-width .result ≤ length (from passing .args .held .now)
-  half-le = half-room (from passing .args .width) _ (from passing .args .held .now) (h .half-width .ensures) (from passing .pre)
+  set : Ready (run (from passing)) half
+  set = ready passing half (half-is (from passing .args .width) wide)
 
-sound-held-requires : tie.Need-sound-held-requires
-sound-held-requires c κs = search needs
-
-same-length : tie.Need-same-length
-same-length c = search needs
+  half-le : half ≤ length (from passing .args .held .now)
+  half-le = half-room (from passing .args .width) half (from passing .args .held .now) (set .half-is) (from passing .pre)
 
 returns : tie.Need-returns
 unfolding taken admitted told nextCount
 returns c = let s = c .before .before .before in record-refused blockLimit (run s) (out s) _ (sym (c .before .sound-held .ensures) ∙ not-true _ (c .if1 .taken))
 
-same-length-2 : tie.Need-same-length-2
-same-length-2 c = search needs
-
 returns-2 : tie.Need-returns-2
 unfolding taken admitted told nextCount
 returns-2 c = let e = c .before in let s = start e in closed-refused blockLimit (run s) (out s) _ (is-sound e) (c .if2 .taken)
-
-same-length-3 : tie.Need-same-length-3
-same-length-3 c = search needs
 
 returns-3 : tie.Need-returns-3
 unfolding taken told nextCount
 returns-3 c = let e = c .before .before in let s = start e in full-refused blockLimit (run s) (block s) (out s) (next s) (is-sound e) (c .before .if2 .left) (c .if3 .taken)
 
-same-length-4 : tie.Need-same-length-4
-same-length-4 c = search needs
-
 returns-4 : tie.Need-returns-4
 unfolding taken told nextCount
 returns-4 c = let e = c .before .before .before in let s = start e in input-refused blockLimit (run s) (block s) (out s) (next s) (is-sound e) (c .before .before .if2 .left) (c .before .if3 .left) (c .if4 .taken)
-
-same-length-5 : tie.Need-same-length-5
-same-length-5 c = search needs
 
 returns-5 : tie.Need-returns-5
 unfolding taken told nextCount
 returns-5 c = let e = c .before .before .before .before in let s = start e in output-refused blockLimit (run s) (block s) (out s) (next s) (is-sound e) (c .before .before .before .if2 .left) (c .before .before .if3 .left) (c .before .if4 .left) (c .if5 .taken)
 
 fault-of-requires : tie.Need-fault-of-requires
-fault-of-requires c κs = omega (arith, c .before .if4 .left, width-le (from c .args .width) (ready c _ refl .good .wide))
-
-enum-known-fault : tie.Need-enum-known-fault
-enum-known-fault c = search needs
-
-enum-known-fault-2 : tie.Need-enum-known-fault-2
-enum-known-fault-2 c = search needs
+fault-of-requires c κs = omega (arith, c .before .if4 .left, width-le (from c .args .width) (ready c _ refl .wide))
 
 enum-told : tie.Need-enum-told
 enum-told c = search needs
-
-half-width-requires : tie.Need-half-width-requires
-half-width-requires c κs = search needs
 
 slice-relend-prefix-step-in : tie.Need-slice-relend-prefix-step-in
 slice-relend-prefix-step-in c = half-le c
 
 slice-aggregate-step-in : tie.Need-slice-aggregate-step-in
-slice-aggregate-step-in c = let h = c .before in part-long _ (from (passing h) .args .held .now) (half-le h)
+slice-aggregate-step-in c = let n = c .before in part-long _ (from (passing n) .args .held .now) (half-le n)
 
 step-in-requires : tie.Need-step-in-requires
 step-in-requires c κs =
-    let h = c .before .before in
-    let l = passing h in
+    let n = c .before .before in
+    let l = passing n in
     let s = from l in (
-      set h .good,
+      wide n,
       (
-        (l .before .if4 .left, sym (part-long _ (s .args .held .now) (half-le h)) ∙ set h .good .half-is, l .if5 .left),
-        (take-within (s .args .width) foldedLimit (s .args .held .now) (set h .within) (h .half-width .result), clear-within (block s) (clear h)),
+        (l .before .if4 .left, sym (part-long _ (s .args .held .now) (half-le n)) ∙ set n .half-is, l .if5 .left),
+        (take-within (s .args .width) foldedLimit (s .args .held .now) (set n .within) (half n), clear-within (block s) (clear n)),
       ),
     )
-
-same-length-6 : tie.Need-same-length-6
-same-length-6 c = search needs
 
 returns-6 : tie.Need-returns-6
 unfolding told nextCount
 returns-6 c = let f = c .before .before .before in let s = from (f .before) in dead-refused (run s) (block s) (out s) _ (sym (f .fault-of .ensures) ∙ c .before .fault .given .1) ∙ asked (f .before)
 
-same-length-7 : tie.Need-same-length-7
-same-length-7 c = search needs
-
 returns-7 : tie.Need-returns-7
 unfolding told nextCount
 returns-7 c = let f = c .before .before .before in let s = from (f .before) in range-refused (run s) (block s) (out s) _ (sym (f .fault-of .ensures) ∙ c .before .fault2 .given .1) ∙ asked (f .before)
-
-same-length-8 : tie.Need-same-length-8
-same-length-8 c = search needs
-
-same-length-9 : tie.Need-same-length-9
-same-length-9 c = search needs
 
 returns-8 : tie.Need-returns-8
 unfolding told nextCount
 returns-8 c =
     let t = c .before .before in
-    let h = t .before .before .before in
-    let l = passing h in
+    let n = t .before .before .before in
+    let l = passing n in
     let s = from l in
-    let half = h .half-width .result in
     ap₂ (λ (r : Run) (f : List ℤ). (told Done, r, f))
-    (advanced-is (run s) half (set h) (block s) (l .before .before .before .if2 .left) _ (ap (λ (low : List ℤ). low ++ drop half (s .args .held .now)) (t .step-in .ensures .0)))
-    (t .step-in .ensures .1 ∙ frame-on (run s) half (set h) (block s))
-    ∙ taken-done (run s) (block s) (out s) (clear h)
+    (advanced-is (run s) (half n) (set n) (block s) (l .before .before .before .if2 .left) _ (ap (λ (low : List ℤ). low ++ drop (half n) (s .args .held .now)) (t .step-in .ensures .0)))
+    (t .step-in .ensures .1 ∙ frame-on (run s) (half n) (set n) (block s))
+    ∙ taken-done (run s) (block s) (out s) (clear n)
     ∙ asked l
 
 pub take-spec : {M : Type 1} → statement M
 take-spec =
     tie.close
     (tie.spec
-    sound-held-requires
-    same-length
+    (λ c κs. search needs)
+    (λ c. search needs)
     returns
-    same-length-2
+    (λ c. search needs)
     returns-2
-    same-length-3
+    (λ c. search needs)
     returns-3
-    same-length-4
+    (λ c. search needs)
     returns-4
-    same-length-5
+    (λ c. search needs)
     returns-5
     fault-of-requires
-    enum-known-fault
-    enum-known-fault-2
+    (λ c. search needs)
+    (λ c. search needs)
     enum-told
-    half-width-requires
     slice-relend-prefix-step-in
     slice-aggregate-step-in
     step-in-requires
-    same-length-6
+    (λ c. search needs)
     returns-6
-    same-length-7
+    (λ c. search needs)
     returns-7
-    same-length-8
-    same-length-9
+    (λ c. search needs)
+    (λ c. search needs)
     returns-8)

@@ -59,9 +59,6 @@ module _ (f : tie.After-first-fault) where
 clear : (c : tie.After-enum-told) → let s = from (c .before .before) in firstFault (N s) 0 (length (readings s) / N s) (readings s) ≡ Clear
 clear c = seen (c .before .before) ∙ c .enum-told .given .1
 
-half-width-requires : tie.Need-half-width-requires
-half-width-requires c κs = search needs
-
 returns : tie.Need-returns
 unfolding told
 returns c = let s = c .before .before in (whole-width-refused (N s) (readings s) (out s) (sym (c .before .half-width .ensures) ∙ c .if1 .taken), λ e. absurd (numbered 0 0 e))
@@ -93,12 +90,6 @@ returns-4 c =
 first-fault-requires : tie.Need-first-fault-requires
 first-fault-requires c κs = blocks (c .before)
 
-enum-known-fault : tie.Need-enum-known-fault
-enum-known-fault c = search needs
-
-enum-known-fault-2 : tie.Need-enum-known-fault-2
-enum-known-fault-2 c = search needs
-
 enum-told : tie.Need-enum-told
 enum-told c = search needs
 
@@ -107,7 +98,7 @@ frames-of-requires c κs =
     let n = c .before in
     let f = n .before .before in
     let l = third f in
-    (first l .before .half-width .ensures, (blocks l, (f .before .if4 .left, clear n)))
+    (blocks l, (f .before .if4 .left, clear n))
 
 returns-5 : tie.Need-returns-5
 unfolding told toldFault
@@ -129,9 +120,6 @@ returns-6 c =
       λ d. absurd (numbered 8 _ d),
     )
 
-same-length : tie.Need-same-length
-same-length c = search needs
-
 returns-7 : tie.Need-returns-7
 unfolding told
 returns-7 c =
@@ -148,7 +136,7 @@ pub forward-spec : {M : Type 1} → statement M
 forward-spec =
     tie.close
     (tie.spec
-    half-width-requires
+    (λ c κs. search needs)
     returns
     rem-if2
     returns-2
@@ -157,11 +145,11 @@ forward-spec =
     add-if4
     returns-4
     first-fault-requires
-    enum-known-fault
-    enum-known-fault-2
+    (λ c. search needs)
+    (λ c. search needs)
     enum-told
     frames-of-requires
     returns-5
     returns-6
-    same-length
+    (λ c. search needs)
     returns-7)

@@ -1,309 +1,71 @@
--- `run::whole::frames_of` meets its contract: what is written, and what the calls left give, is what all calls give.
-use native.Mathlib.Omega.{arith}
-use mathlib.Core.Path.{_≡_, refl, sym, ap, subst, _∙_}
+-- `run::whole::frames_of` meets its contract.
+use borrow.Author.Needs.{needs}
 use mathlib.Core.List.{List}
-use Prim.Native.Nat.{ℕ, _+_, _-_, _*_, _≤_}
-use lib.IntN.{ℤ, pos}
-use lib.ListN.{length, take, drop, length-drop, length-replicate}
-use Rattle.integers.specs.Places.{Within}
-use Rattle.steps.specs.Limits.{readingLimit}
-use Rattle.steps.specs.Steps.{held, frame}
-use Rattle.steps.proofs.Undo.{length-held}
-use Rattle.lifting.proofs.Parts.{part-long, front}
-use Rattle.run.specs.Record.{zeros}
-use Rattle.run.proofs.GateLaws.{rest-part}
-use Rattle.run.proofs.FaultLaws.{width-pos, width-room, half-room, front-same, few-readings, block-next, block-in, no-block, block-long, part-is}
-use Rattle.run.proofs.ReadyLaws.{zero-part, zero-within}
-use Rattle.run.proofs.Stepping.{Stepping, stepping-first, kept-within, next-within, stepping-next, stepping-end}
+use lib.IntN.{ℤ}
+use Rattle.constants.specs.Filled.{Filled}
+use Rattle.lifting.proofs.Parts.{part-long}
+use Rattle.lifting.proofs.RoomLaws.{filled-le, filled-long, filled-lent}
+use Rattle.run.proofs.RoomLaws.{Wide, large-room, tables-in, fill-asks}
 use Rattle.run.proofs.whole.frames_of.Statement.{statement}
 use Rattle.run.proofs.whole.frames_of.Tie as tie
 
-abbrev Inv-loop : tie.InvT-loop
-Inv-loop width half readings frames₀ held₀ folded₀ at₀ left₀ frames held folded at left =
-    (at + left * width ≡ length readings)
-    × (length frames ≡ length readings + width)
-    × (length held ≡ 64)
-    × (128 ≡ length folded)
-    × Stepping width half at left readings frames₀ frames held
+module _ (r : tie.After-of-648) where
+  abbrev from : tie.Start
+  from = r .before .before .before
 
-abbrev μ-loop : tie.MeasureT-loop
-μ-loop width half readings frames₀ held₀ folded₀ at₀ left₀ frames held folded at left =
-    left
+  abbrev array : List ℤ
+  array = r .before .of-1906 .result
 
-module _ (s : tie.Start Inv-loop μ-loop) where
-  abbrev N : ℕ
-  N = s .args .width
+  fits : Wide (from .args .width) 1906 64 648
+  fits = large-room (from .args .width) (from .pre .0 .wide)
 
-  abbrev half : ℕ
-  half = s .args .half
+-- all that the width takes is filled in
+module _ (f : tie.After-fill) where
+  abbrev room : tie.After-of-648
+  room = f .before .before .before
 
-  abbrev readings : List ℤ
-  readings = s .args .readings .now
+  abbrev tables : List ℤ
+  tables = f .fill .last .1 .0
 
-module _ (k : tie.At-loop Inv-loop μ-loop) where
-  abbrev from : tie.Start Inv-loop μ-loop
-  from = k .before .before .before
+  filled : Filled (from room .args .width) tables
+  filled = f .fill .ensures
 
-  abbrev place : ℕ
-  place = k .loop .at
+array-borrow-prefix-t : tie.Need-array-borrow-prefix-t
+array-borrow-prefix-t c = tables-in (fits c) _ (c .before .before .tables-long .ensures) (array c) (c .before .of-1906 .ensures)
 
-  abbrev frames : List ℤ
-  frames = k .loop .frames
+slice-aggregate-fill : tie.Need-slice-aggregate-fill
+slice-aggregate-fill c = let r = c .before in part-long _ (array r) (array-borrow-prefix-t r)
 
-  abbrev kept : List ℤ
-  kept = k .loop .held
+fill-requires : tie.Need-fill-requires
+fill-requires c κs = let r = c .before .before in fill-asks (fits r) _ (r .before .before .tables-long .ensures) (array r) (r .of-648 .result) (r .before .of-1906 .ensures) (r .of-648 .ensures)
 
-  place-le : place ≤ 8388608
-  place-le = omega (arith, k .loop .inv .0, few-readings (N from) (readings from) (from .pre .1 .0))
+array-share-prefix-t : tie.Need-array-share-prefix-t
+array-share-prefix-t c = let f = c .before .before in filled-le _ (room f .before .before .tables-long .ensures) (tables f) _ (filled f)
 
-  -- the room lent
-  held-le : half from ≤ length kept
-  held-le = half-room (N from) (half from) kept (from .pre .0) (k .loop .inv .2)
+slice-aggregate-frames-with : tie.Need-slice-aggregate-frames-with
+slice-aggregate-frames-with c = let f = c .before .before .before in filled-long _ (room f .before .before .tables-long .ensures) (tables f) _ (filled f)
 
-  folded-le : N from ≤ length (k .loop .folded)
-  folded-le = width-room (N from) (k .loop .folded) (from .pre .1 .0 .wide) (k .loop .inv .3)
+frames-with-requires : tie.Need-frames-with-requires
+frames-with-requires c κs =
+    let f = c .before .before .before .before in
+    (filled-lent _ (room f .before .before .tables-long .ensures) (tables f) _ (filled f), from (room f) .pre)
 
--- a block is left
-module _ (i : tie.In-loop Inv-loop μ-loop) where
-  abbrev at : tie.At-loop Inv-loop μ-loop
-  at = i .before
-
-  abbrev block : List ℤ
-  block = take (N (from at)) (drop (place at) (readings (from at)))
-
-  in-readings : place at + N (from at) ≤ length (readings (from at))
-  in-readings = block-in (place at) (at .loop .left) (N (from at)) _ (at .loop .inv .0) (i .loop-test .taken)
-
-  in-frames : place at + N (from at) ≤ length (frames at)
-  in-frames = omega (arith, in-readings, at .loop .inv .1)
-
-  end-le : place at + N (from at) ≤ 8388608
-  end-le = omega (arith, in-readings, few-readings (N (from at)) (readings (from at)) (from at .pre .1 .0))
-
--- none is left: the finish's block is zeros
-module _ (z : tie.After-zero-block Inv-loop μ-loop) where
-  abbrev over : tie.At-loop Inv-loop μ-loop
-  over = z .before .before
-
-  none : over .loop .left ≡ 0
-  none = omega (arith, z .before .loop-test .left)
-
-  zeros-le : N (from over) ≤ length (z .zero-block .result)
-  zeros-le = width-room (N (from over)) (z .zero-block .result) (from over .pre .1 .0 .wide) (sym (ap length (z .zero-block .ensures) ∙ length-replicate 128 (pos 0)))
-
-  last-is : take (N (from over)) (z .zero-block .result) ≡ zeros (N (from over))
-  last-is = zero-part (N (from over)) (z .zero-block .result) (from over .pre .1 .0 .wide) (z .zero-block .ensures)
-
-  last-at : place over + N (from over) ≡ length (frames over)
-  last-at = omega (arith, no-block (place over) (over .loop .left) (N (from over)) _ (over .loop .inv .0) none, over .loop .inv .1)
-
-  last-long : length (take (length (frames over) - place over) (drop (place over) (frames over))) ≡ N (from over)
-  last-long = ap length (rest-part (length (frames over)) (place over) (place over) (frames over) refl refl) ∙ omega (arith, length-drop (place over) (frames over), last-at)
-
-nothing-held-requires : tie.Need-nothing-held-requires Inv-loop μ-loop
-nothing-held-requires c κs = tt
-
-of-128-requires : tie.Need-of-128-requires Inv-loop μ-loop
-of-128-requires c κs = tt
-
-div-left : tie.Need-div-left Inv-loop μ-loop
-div-left c = let s = c .before .before in width-pos (N s) (s .pre .1 .0 .wide)
-
-loop-holds : tie.Need-loop-holds Inv-loop μ-loop
-loop-holds c =
-    let s = c .before .before in
-    let h = c .before in (
-      omega (arith, s .pre .1 .0 .whole),
-      s .pre .1 .1 .0,
-      ap length (h .nothing-held .ensures) ∙ length-replicate 64 (pos 0),
-      c .of-128 .ensures,
-      stepping-first (N s) (half s) (readings s) (s .args .frames .now) (h .nothing-held .result) (s .pre .0) (s .pre .1 .0) (s .pre .1 .1 .1) (h .nothing-held .ensures),
-    )
-
-add-end : tie.Need-add-end Inv-loop μ-loop
-add-end c = record { fits = omega (arith, end-le c) }
-
-mul-step : tie.Need-mul-step Inv-loop μ-loop
-mul-step c = record { fits = omega (arith, end-le c) }
-
-sub-step : tie.Need-sub-step Inv-loop μ-loop
-sub-step c = omega arith
-
-part-step-start : tie.Need-part-step-start Inv-loop μ-loop
-part-step-start c = omega arith
-
-part-step-end : tie.Need-part-step-end Inv-loop μ-loop
-part-step-end c = in-readings c
-
-array-borrow-prefix-held : tie.Need-array-borrow-prefix-held Inv-loop μ-loop
-array-borrow-prefix-held c = held-le (c .before .before)
-
-slice-aggregate-step : tie.Need-slice-aggregate-step Inv-loop μ-loop
-slice-aggregate-step c = part-long _ (kept (c .before .before .before)) (held-le (c .before .before .before))
-
-array-borrow-prefix-folded : tie.Need-array-borrow-prefix-folded Inv-loop μ-loop
-array-borrow-prefix-folded c = folded-le (c .before .before .before)
-
-slice-aggregate-step-2 : tie.Need-slice-aggregate-step-2 Inv-loop μ-loop
-slice-aggregate-step-2 c = part-long _ (c .before .before .before .before .loop .folded) (folded-le (c .before .before .before .before))
-
-mul-step-2 : tie.Need-mul-step-2 Inv-loop μ-loop
-mul-step-2 c = record { fits = omega (arith, place-le (c .before .before .before .before)) }
-
-sub-step-2 : tie.Need-sub-step-2 Inv-loop μ-loop
-sub-step-2 c = omega arith
-
-part-step-start-2 : tie.Need-part-step-start-2 Inv-loop μ-loop
-part-step-start-2 c = omega arith
-
-part-step-end-2 : tie.Need-part-step-end-2 Inv-loop μ-loop
-part-step-end-2 c = in-frames (c .before .before .before)
-
-step-requires : tie.Need-step-requires Inv-loop μ-loop
-step-requires c κs =
-    let i = c .before .before .before .before in
-    let k = at i in
-    let s = from k in
-    let same = part-is (place k) (N s) (readings s) in (
-      record { half-is = s .pre .0; wide = s .pre .1 .0 .wide },
-      (
-        (
-          ap length same ∙ block-long (place k) (N s) (readings s) (in-readings i),
-          sym (part-long _ (kept k) (held-le k)) ∙ s .pre .0,
-          sym (part-long _ (k .loop .folded) (folded-le k)),
-          ap length (part-is (place k) (N s) (frames k)) ∙ block-long (place k) (N s) (frames k) (in-frames i),
-        ),
-        (
-          kept-within (N s) (half s) (place k) (k .loop .left) (readings s) _ (frames k) (kept k) (k .loop .inv .4),
-          subst (Within readingLimit) (sym same) (next-within (N s) (half s) (place k) (k .loop .left) (readings s) _ (frames k) (kept k) (k .loop .inv .4) (i .loop-test .taken) (k .loop .inv .0) (k .loop .inv .1)),
-        ),
-      ),
-    )
-
-sub-left : tie.Need-sub-left Inv-loop μ-loop
-sub-left c = omega arith
-
-loop-less : tie.Need-loop-less Inv-loop μ-loop
-loop-less c = omega arith
-
-loop-again : tie.Need-loop-again Inv-loop μ-loop
-loop-again c =
-    let t = c .before .before .before in
-    let i = c .before .before .before .before .before .before .before .before in
-    let k = at i in
-    let s = from k in
-    let same = part-is (place k) (N s) (readings s) in (
-      block-next (place k) (k .loop .left) (N s) _ (k .loop .inv .0) (i .loop-test .taken),
-      c .frames .given .1 ∙ k .loop .inv .1,
-      front-same (half s) (kept k) (t .step .last .1 .1 .1 .0) (held-le k) (c .before .before .held2 .given) ∙ k .loop .inv .2,
-      k .loop .inv .3 ∙ sym (front-same (N s) (k .loop .folded) (t .step .last .1 .1 .1 .1 .0) (folded-le k) (c .before .folded2 .given)),
-      stepping-next (N s) (half s) (place k) (k .loop .left) (readings s) _ (frames k) (kept k) (k .loop .inv .4) (i .loop-test .taken) (k .loop .inv .0) (k .loop .inv .1) _ _
-          (t .step .ensures .1 ∙ ap (frame (N s) (take (half s) (kept k))) same)
-          (front (half s) (t .step .last .1 .1 .1 .0) (drop (half s) (kept k)) (ap length (t .step .ensures .0) ∙ length-held (N s) _ ∙ sym (s .pre .0)) ∙ t .step .ensures .0 ∙ ap (held (N s)) same),
-    )
-
-zero-block-requires : tie.Need-zero-block-requires Inv-loop μ-loop
-zero-block-requires c κs = tt
-
-array-share-prefix-zeros : tie.Need-array-share-prefix-zeros Inv-loop μ-loop
-array-share-prefix-zeros c = zeros-le c
-
-slice-aggregate-step-3 : tie.Need-slice-aggregate-step-3 Inv-loop μ-loop
-slice-aggregate-step-3 c = part-long _ (c .before .zero-block .result) (zeros-le (c .before))
-
-array-borrow-prefix-held-2 : tie.Need-array-borrow-prefix-held-2 Inv-loop μ-loop
-array-borrow-prefix-held-2 c = held-le (c .before .before .before)
-
-slice-aggregate-step-4 : tie.Need-slice-aggregate-step-4 Inv-loop μ-loop
-slice-aggregate-step-4 c = part-long _ (kept (c .before .before .before .before)) (held-le (c .before .before .before .before))
-
-array-borrow-prefix-folded-2 : tie.Need-array-borrow-prefix-folded-2 Inv-loop μ-loop
-array-borrow-prefix-folded-2 c = folded-le (c .before .before .before .before)
-
-slice-aggregate-step-5 : tie.Need-slice-aggregate-step-5 Inv-loop μ-loop
-slice-aggregate-step-5 c = part-long _ (c .before .before .before .before .before .loop .folded) (folded-le (c .before .before .before .before .before))
-
-mul-step-3 : tie.Need-mul-step-3 Inv-loop μ-loop
-mul-step-3 c = record { fits = omega (arith, place-le (c .before .before .before .before .before)) }
-
-sub-step-3 : tie.Need-sub-step-3 Inv-loop μ-loop
-sub-step-3 c = omega (arith, last-at (c .before .before .before))
-
-part-step-start-3 : tie.Need-part-step-start-3 Inv-loop μ-loop
-part-step-start-3 c = omega (arith, last-at (c .before .before .before))
-
-part-step-end-3 : tie.Need-part-step-end-3 Inv-loop μ-loop
-part-step-end-3 c = omega arith
-
-step-requires-2 : tie.Need-step-requires-2 Inv-loop μ-loop
-step-requires-2 c κs =
-    let z = c .before .before .before .before in
-    let k = over z in
-    let s = from k in (
-      record { half-is = s .pre .0; wide = s .pre .1 .0 .wide },
-      (
-        (
-          sym (part-long _ (z .zero-block .result) (zeros-le z)),
-          sym (part-long _ (kept k) (held-le k)) ∙ s .pre .0,
-          sym (part-long _ (k .loop .folded) (folded-le k)),
-          last-long z,
-        ),
-        (
-          kept-within (N s) (half s) (place k) (k .loop .left) (readings s) _ (frames k) (kept k) (k .loop .inv .4),
-          subst (Within readingLimit) (sym (last-is z)) (zero-within (N s)),
-        ),
-      ),
-    )
-
-same-length : tie.Need-same-length Inv-loop μ-loop
-same-length c = let k = over (c .before .before .before .before .before .before .before .before) in c .frames2 .given .1 ∙ k .loop .inv .1 ∙ sym (from k .pre .1 .1 .0)
-
-returns : tie.Need-returns Inv-loop μ-loop
-returns c =
-    let z = c .before .before .before .before .before .before .before .before in
-    let k = over z in
-    let s = from k in
-    stepping-end (N s) (half s) (place k) (k .loop .left) (readings s) _ (frames k) (kept k) (k .loop .inv .4) (none z) (k .loop .inv .0) (k .loop .inv .1) _
-    (c .before .before .before .step2 .ensures .1 ∙ ap (frame (N s) (take (half s) (kept k))) (last-is z))
+returns : tie.Need-returns
+returns c = search needs
 
 pub frames-of-spec : {M : Type 1} → statement M
 frames-of-spec =
     tie.close
     (tie.spec
-    Inv-loop
-    μ-loop
-    nothing-held-requires
-    of-128-requires
-    div-left
-    loop-holds
-    add-end
-    mul-step
-    sub-step
-    part-step-start
-    part-step-end
-    array-borrow-prefix-held
-    slice-aggregate-step
-    array-borrow-prefix-folded
-    slice-aggregate-step-2
-    mul-step-2
-    sub-step-2
-    part-step-start-2
-    part-step-end-2
-    step-requires
-    sub-left
-    loop-less
-    loop-again
-    zero-block-requires
-    array-share-prefix-zeros
-    slice-aggregate-step-3
-    array-borrow-prefix-held-2
-    slice-aggregate-step-4
-    array-borrow-prefix-folded-2
-    slice-aggregate-step-5
-    mul-step-3
-    sub-step-3
-    part-step-start-3
-    part-step-end-3
-    step-requires-2
-    same-length
-    returns)
+    (λ c κs. search needs)
+    (λ c κs. search needs)
+    (λ c κs. search needs)
+    array-borrow-prefix-t
+    slice-aggregate-fill
+    (λ c. search needs)
+    fill-requires
+    array-share-prefix-t
+    slice-aggregate-frames-with
+    frames-with-requires
+    (λ c. search needs)
+    (λ c. search needs))

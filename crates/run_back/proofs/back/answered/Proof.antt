@@ -6,18 +6,6 @@ use Rattle.run_back.specs.Faults.{toldFault}
 use Rattle.run_back.proofs.back.answered.Statement.{statement}
 use Rattle.run_back.proofs.back.answered.Tie as tie
 
-enum-known-fault : tie.Need-enum-known-fault
-enum-known-fault c = search needs
-
-enum-known-fault-2 : tie.Need-enum-known-fault-2
-enum-known-fault-2 c = search needs
-
-enum-known-fault-3 : tie.Need-enum-known-fault-3
-enum-known-fault-3 c = search needs
-
-enum-known-fault-4 : tie.Need-enum-known-fault-4
-enum-known-fault-4 c = search needs
-
 enum-told : tie.Need-enum-told
 enum-told c = search needs
 
@@ -45,10 +33,10 @@ pub answered-spec : {M : Type 1} → statement M
 answered-spec =
     tie.close
     (tie.spec
-    enum-known-fault
-    enum-known-fault-2
-    enum-known-fault-3
-    enum-known-fault-4
+    (λ c. search needs)
+    (λ c. search needs)
+    (λ c. search needs)
+    (λ c. search needs)
     enum-told
     returns
     returns-2

@@ -29,9 +29,6 @@ module _ (s : tie.Start) where
 is-sound : (e : tie.Else1) → sound frameLimit (run (e .before .before)) ≡ true
 is-sound e = sym (e .before .sound .ensures) ∙ not-false _ (e .if1 .left)
 
-sound-requires : tie.Need-sound-requires
-sound-requires c κs = search needs
-
 returns : tie.Need-returns
 unfolding endedBack
 returns c = record-refused frameLimit (run (c .before .before)) [] _ (sym (c .before .sound .ensures) ∙ not-true _ (c .if1 .taken))
@@ -43,14 +40,8 @@ returns-2 c = let e = c .before in closed-refused frameLimit (run (e .before .be
 returns-3 : tie.Need-returns-3
 returns-3 c = let e = c .before .before .before in end-empty-refused (run (e .before .before)) (is-sound e) (c .before .before .if2 .left) (c .if3 .taken)
 
-half-width-requires : tie.Need-half-width-requires
-half-width-requires c κs = search needs
-
 first-held-requires : tie.Need-first-held-requires
 first-held-requires c κs = let e = c .before .before .before .before in let s = e .before .before in passed frameLimit (omega arith) (run s) _ (is-sound e) (c .half-width .ensures) (held-long s)
-
-enum-known-held : tie.Need-enum-known-held
-enum-known-held c = search needs
 
 returns-4 : tie.Need-returns-4
 returns-4 c =
@@ -61,9 +52,6 @@ returns-4 c =
 
 enum-told : tie.Need-enum-told
 enum-told c = search needs
-
-nothing-held-requires : tie.Need-nothing-held-requires
-nothing-held-requires c κs = search needs
 
 returns-5 : tie.Need-returns-5
 unfolding closed
@@ -80,14 +68,14 @@ pub finish-spec : {M : Type 1} → statement M
 finish-spec =
     tie.close
     (tie.spec
-    sound-requires
+    (λ c κs. search needs)
     returns
     returns-2
     returns-3
-    half-width-requires
+    (λ c κs. search needs)
     first-held-requires
-    enum-known-held
+    (λ c. search needs)
     returns-4
     enum-told
-    nothing-held-requires
+    (λ c κs. search needs)
     returns-5)

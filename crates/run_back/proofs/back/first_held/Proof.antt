@@ -17,7 +17,7 @@ module _ (s : tie.Start) where
   held-long = search needs
 
   half-le : s .args .half ≤ length (s .args .run .held)
-  half-le = omega (arith, held-long, s .pre .good .half-is, half-width-le (s .args .run .width))
+  half-le = omega (arith, held-long, s .pre .half-is, half-width-le (s .args .run .width))
 
 array-share-prefix-held : tie.Need-array-share-prefix-held
 array-share-prefix-held c = half-le (c .before)
@@ -25,14 +25,11 @@ array-share-prefix-held c = half-le (c .before)
 slice-aggregate-first-beyond : tie.Need-slice-aggregate-first-beyond
 slice-aggregate-first-beyond c = let s = c .before .before in part-long _ (s .args .run .held) (half-le s)
 
-first-beyond-requires : tie.Need-first-beyond-requires
-first-beyond-requires c κs = search needs
-
 returns : tie.Need-returns
 unfolding firstHeld
-returns c = let s = c .before .before .before in c .first-beyond .ensures ∙ ap (λ (n : ℕ). firstBeyond (pos 0) (take n (s .args .run .held)) 0) (s .pre .good .half-is)
+returns c = let s = c .before .before .before in c .first-beyond .ensures ∙ ap (λ (n : ℕ). firstBeyond (pos 0) (take n (s .args .run .held)) 0) (s .pre .half-is)
 
 pub first-held-spec : {M : Type 1} → statement M
 first-held-spec =
     tie.close
-    (tie.spec array-share-prefix-held slice-aggregate-first-beyond first-beyond-requires returns)
+    (tie.spec array-share-prefix-held slice-aggregate-first-beyond (λ c κs. search needs) returns)

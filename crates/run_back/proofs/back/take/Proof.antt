@@ -2,9 +2,7 @@
 use borrow.Author.Needs.{needs}
 use native.Mathlib.Omega.{arith}
 use mathlib.Core.Path.{sym, ap, _∙_}
-use mathlib.Core.List.{List}
 use Prim.Native.Nat.{ℕ}
-use lib.IntN.{ℤ}
 use Rattle.lifting.specs.Gate.{told}
 use Rattle.run.specs.Record.{recordOf}
 use Rattle.run.specs.Gate.{Given}
@@ -12,12 +10,6 @@ use Rattle.run_back.specs.Back.{takenBack}
 use Rattle.run.proofs.Refusals.{admitted-few}
 use Rattle.run_back.proofs.back.take.Statement.{statement}
 use Rattle.run_back.proofs.back.take.Tie as tie
-
-slice-aggregate-take : tie.Need-slice-aggregate-take
-slice-aggregate-take c = search needs
-
-take-requires : tie.Need-take-requires
-take-requires c κs = search needs
 
 next-count-requires : tie.Need-next-count-requires
 unfolding takenBack
@@ -27,9 +19,6 @@ next-count-requires c κs e =
     let n = admitted-few _ (s .args .run) (s .args .frame .now) (s .args .block .now) _ (ap (λ (g : Given). g .0 .0) (sym (t .take .ensures)) ∙ e) in
     omega arith
 
-same-length : tie.Need-same-length
-same-length c = search needs
-
 returns : tie.Need-returns
 returns c =
     let t = c .before .before .before in
@@ -38,4 +27,4 @@ returns c =
 
 pub take-spec : {M : Type 1} → statement M
 take-spec =
-    tie.close (tie.spec slice-aggregate-take take-requires next-count-requires same-length returns)
+    tie.close (tie.spec (λ c. search needs) (λ c κs. search needs) next-count-requires (λ c. search needs) returns)

@@ -48,31 +48,19 @@ none c = seen (c .before .before) ∙ c .enum-told .given .1
 -- the folded values made of them, and the finding about these
 module _ (h : tie.After-first-beyond2) where
   abbrev passed : tie.After-enum-told
-  passed = h .before .before .before .before .before
+  passed = h .before .before .before .before .before .before .before .before .before .before .before .before .before
 
   abbrev source : tie.Start
   source = from (passed .before .before)
 
-  made : h .before .before .before .unstages .last .1 .1 .0 ≡ unstages (N source) (frame source)
-  made = h .before .before .before .unstages .ensures ∙ ap (unstages (N source)) (wide (passed .before .before))
+  made : h .before .before .before .before .before .before .before .unstages .last .1 .1 .0 ≡ unstages (N source) (frame source)
+  made = h .before .before .before .before .before .before .before .unstages .ensures ∙ ap (unstages (N source)) (wide (passed .before .before))
 
   seen2 : firstBeyond (pos foldedLimit) (unstages (N source) (frame source)) 0 ≡ h .first-beyond2 .result
   seen2 = sym (h .first-beyond2 .ensures ∙ ap (λ (l : List ℤ). firstBeyond (pos foldedLimit) l 0) made)
 
 none2 : (d : tie.After-enum-told2) → firstBeyond (pos foldedLimit) (unstages (N (source (d .before .before))) (frame (source (d .before .before)))) 0 ≡ Nothing
 none2 d = seen2 (d .before .before) ∙ d .enum-told2 .given .1
-
-widen-requires : tie.Need-widen-requires
-widen-requires c κs = search needs
-
-first-beyond-requires : tie.Need-first-beyond-requires
-first-beyond-requires c κs = search needs
-
-enum-known-coefficient : tie.Need-enum-known-coefficient
-enum-known-coefficient c = search needs
-
-same-length : tie.Need-same-length
-same-length c = search needs
 
 returns : tie.Need-returns
 returns c = let f = c .before .before .before in let s = from f in range-refused (N s) (s .args .count) (low s) (frame s) (out s) _ (seen f ∙ c .before .coefficient .given .1)
@@ -82,25 +70,24 @@ enum-told c = search needs
 
 unstages-requires : tie.Need-unstages-requires
 unstages-requires c κs =
-    let n = c .before in
+    let n = c .before .before .before .before .before in
     let f = n .before .before in
-    let s = from f in
-    (s .pre .0, (ap length (wide f) ∙ s .pre .1 .0 .0, subst (Within coefficientLimit) (sym (wide f)) (none-within coefficientLimit _ (none n))))
-
-first-beyond-requires-2 : tie.Need-first-beyond-requires-2
-first-beyond-requires-2 c κs = search needs
-
-enum-known-value : tie.Need-enum-known-value
-enum-known-value c = search needs
-
-same-length-2 : tie.Need-same-length-2
-same-length-2 c = search needs
+    let s = from f in (
+      s .pre .0,
+      (
+        s .pre .1 .0,
+        (
+          s .pre .1 .1 .1 .0,
+          (
+            s .pre .1 .1 .1 .1 .0,
+            (ap length (wide f) ∙ s .pre .1 .1 .0 .0, subst (Within coefficientLimit) (sym (wide f)) (none-within coefficientLimit _ (none n))),
+          ),
+        ),
+      ),
+    )
 
 returns-2 : tie.Need-returns-2
 returns-2 c = let h = c .before .before .before in let s = source h in folded-refused (N s) (s .args .count) (low s) (frame s) (out s) (none (passed h)) _ (seen2 h ∙ c .before .value .given .1)
-
-enum-told-2 : tie.Need-enum-told-2
-enum-told-2 c = search needs
 
 unfolded-requires : tie.Need-unfolded-requires
 unfolded-requires c κs =
@@ -109,22 +96,13 @@ unfolded-requires c κs =
     let s = source h in (
       s .pre .0,
       (
-        (ap length (made h) ∙ length-unstages (N s) (frame s), s .pre .1 .0 .1, s .pre .1 .0 .3, s .pre .1 .0 .4),
-        (subst (Within foldedLimit) (sym (made h)) (none-within foldedLimit _ (none2 d)), s .pre .1 .1),
+        s .pre .1 .0,
+        (
+          (ap length (made h) ∙ length-unstages (N s) (frame s), s .pre .1 .1 .0 .1, s .pre .1 .1 .0 .3, s .pre .1 .1 .0 .4),
+          (subst (Within foldedLimit) (sym (made h)) (none-within foldedLimit _ (none2 d)), s .pre .1 .1 .1 .1 .1),
+        ),
       ),
     )
-
-same-length-3 : tie.Need-same-length-3
-same-length-3 c = search needs
-
-same-length-4 : tie.Need-same-length-4
-same-length-4 c = search needs
-
-same-length-5 : tie.Need-same-length-5
-same-length-5 c = search needs
-
-same-length-6 : tie.Need-same-length-6
-same-length-6 c = search needs
 
 returns-3 : tie.Need-returns-3
 returns-3 c =
@@ -139,21 +117,29 @@ pub undo-spec : {M : Type 1} → statement M
 undo-spec =
     tie.close
     (tie.spec
-    widen-requires
-    first-beyond-requires
-    enum-known-coefficient
-    same-length
+    (λ c κs. search needs)
+    (λ c κs. search needs)
+    (λ c. search needs)
+    (λ c. search needs)
     returns
     enum-told
     unstages-requires
-    first-beyond-requires-2
-    enum-known-value
-    same-length-2
+    (λ c κs. search needs)
+    (λ c. search needs)
+    (λ c. search needs)
+    (λ c. search needs)
+    (λ c. search needs)
+    (λ c. search needs)
+    (λ c. search needs)
     returns-2
-    enum-told-2
+    (λ c. search needs)
     unfolded-requires
-    same-length-3
-    same-length-4
-    same-length-5
-    same-length-6
+    (λ c. search needs)
+    (λ c. search needs)
+    (λ c. search needs)
+    (λ c. search needs)
+    (λ c. search needs)
+    (λ c. search needs)
+    (λ c. search needs)
+    (λ c. search needs)
     returns-3)

@@ -1,19 +1,16 @@
 -- `run_back::whole::back` meets its contract.
 use borrow.Author.Needs.{needs}
 use native.Mathlib.Omega.{arith}
-use mathlib.Core.Path.{_≡_, sym, ap, ap₂, _∙_}
+use mathlib.Core.Path.{_≡_, sym, _∙_}
 use mathlib.Core.List.{List}
-use Prim.Native.Nat.{ℕ, _+_, _-_, _<_}
-use lib.IntN.{ℤ, pos}
-use lib.ListN.{length, length-replicate}
+use Prim.Native.Nat.{ℕ, _+_, _<_}
+use lib.IntN.{ℤ}
+use lib.ListN.{length}
 use Rattle.tables.specs.Widths.{halfWidth}
-use Rattle.lifting.specs.Gate.{told}
 use Rattle.run.proofs.FaultLaws.{width-pos}
-use Rattle.run_back.specs.Whole.{firstAnswer}
 use Rattle.run_back.specs.Ready.{Frames}
 use Rattle.run_back.proofs.LoopLaws.{one-frame, frames-whole}
-use Rattle.run_back.proofs.WholeBackLaws.{first-alike, whole-width-refused, remainder-refused, count-refused, empty-refused, whole-output-refused, lengths-passed, whole-refused, whole-done}
-use Rattle.run_back.proofs.OverlayLaws.{all-lower}
+use Rattle.run_back.proofs.WholeBackLaws.{whole-width-refused, remainder-refused, count-refused, empty-refused, whole-output-refused, lengths-passed}
 use Rattle.run_back.proofs.whole.back.Statement.{statement}
 use Rattle.run_back.proofs.whole.back.Tie as tie
 
@@ -56,20 +53,6 @@ module _ (l : tie.Else5) where
   one-less : length (out from) + N from ≡ length (frames from)
   one-less = omega (arith, l .if5 .left, one-frame (N from) (frames from) (whole (l .before)))
 
-module _ (f : tie.After-first-answer) where
-  abbrev lengths : tie.Else5
-  lengths = f .before .before .before .before
-
-  abbrev source : tie.Start
-  source = from lengths
-
-  -- the answer does not depend on what the output holds
-  answer-is : told (f .first-answer .result) ≡ firstAnswer (N source) (frames source) (out source)
-  answer-is = f .first-answer .ensures ∙ first-alike (N source) (frames source) _ (out source) (length-replicate (length (frames source) - N source) (pos 0) ∙ omega (arith, one-less lengths))
-
-half-width-requires : tie.Need-half-width-requires
-half-width-requires c κs = search needs
-
 returns : tie.Need-returns
 returns c = let s = c .before .before in whole-width-refused (N s) (frames s) (out s) (sym (c .before .half-width .ensures) ∙ c .if1 .taken)
 
@@ -97,73 +80,22 @@ returns-5 c =
     let s = start (first l) in
     whole-output-refused (N s) (frames s) (out s) (has-width (first l)) (l .before .before .if2 .left) (l .before .if3 .left) (some l) (λ e. c .if5 .taken (omega (arith, e)))
 
-fits-requires : tie.Need-fits-requires
-fits-requires c κs = search needs
-
-one-pass-requires : tie.Need-one-pass-requires
-one-pass-requires c κs =
-    let t = c .before in
-    let l = t .before .before .before in (
-      first (l .before) .before .half-width .ensures,
-      (whole (l .before), (one-less l, all-lower (out (from l)) (sym (t .before .fits2 .ensures) ∙ t .if6 .taken))),
-    )
-
-same-length : tie.Need-same-length
-same-length c = search needs
+in-two-passes-requires : tie.Need-in-two-passes-requires
+in-two-passes-requires c κs = let l = c .before in (whole (l .before), one-less l)
 
 returns-6 : tie.Need-returns-6
 returns-6 c =
-    let l = c .before .before .before .before .before .before in
+    let l = c .before .before .before in
     let g = l .before in
     let s = from l in
-    c .before .one-pass .ensures
+    c .before .in-two-passes .ensures
     ∙ lengths-passed (N s) (frames s) (out s) (has-width (first g)) (g .before .before .if2 .left) (g .before .if3 .left) (some g) (one-less l)
-
-first-answer-requires : tie.Need-first-answer-requires
-first-answer-requires c κs = let l = c .before .before .before .before in (first l .before .half-width .ensures, whole l)
-
-number-requires : tie.Need-number-requires
-number-requires c κs = search needs
-
-same-length-2 : tie.Need-same-length-2
-same-length-2 c = search needs
-
-returns-7 : tie.Need-returns-7
-returns-7 c =
-    let f = c .before .before in
-    let l = lengths f .before in
-    let s = source f in
-    ap (λ (a : ℕ × ℕ). (a, out s)) (answer-is f)
-    ∙ whole-refused (N s) (frames s) (out s) (has-width (first l)) (l .before .before .if2 .left) (l .before .if3 .left) (some l) (one-less (lengths f))
-    (λ e. c .if7 .taken (c .before .number .ensures ∙ ap (λ (a : ℕ × ℕ). a .0) (answer-is f) ∙ e))
-
-readings-of-requires : tie.Need-readings-of-requires
-readings-of-requires c κs =
-    let n = c .before .before in
-    let f = n .before in
-    let l = lengths f .before in (
-      first l .before .half-width .ensures,
-      (whole l, (one-less (lengths f), sym (n .number .ensures ∙ ap (λ (a : ℕ × ℕ). a .0) (answer-is f)) ∙ c .before .if7 .left)),
-    )
-
-same-length-3 : tie.Need-same-length-3
-same-length-3 c = search needs
-
-returns-8 : tie.Need-returns-8
-returns-8 c =
-    let n = c .before .before .before .before in
-    let f = n .before in
-    let l = lengths f .before in
-    let s = source f in
-    ap₂ (λ (a : ℕ × ℕ) (w : List ℤ). (a, w)) (answer-is f) (c .before .readings-of .ensures)
-    ∙ whole-done (N s) (frames s) (out s) (has-width (first l)) (l .before .before .if2 .left) (l .before .if3 .left) (some l) (one-less (lengths f))
-    (sym (n .number .ensures ∙ ap (λ (a : ℕ × ℕ). a .0) (answer-is f)) ∙ c .before .before .before .if7 .left)
 
 pub back-spec : {M : Type 1} → statement M
 back-spec =
     tie.close
     (tie.spec
-    half-width-requires
+    (λ c κs. search needs)
     returns
     rem-if2
     returns-2
@@ -172,14 +104,6 @@ back-spec =
     returns-4
     sub-if5
     returns-5
-    fits-requires
-    one-pass-requires
-    same-length
-    returns-6
-    first-answer-requires
-    number-requires
-    same-length-2
-    returns-7
-    readings-of-requires
-    same-length-3
-    returns-8)
+    in-two-passes-requires
+    (λ c. search needs)
+    returns-6)

@@ -12,12 +12,6 @@ use Rattle.run_back.proofs.whole.ended.Tie as tie
 seen : (f : tie.After-first-beyond) → firstBeyond (pos 0) (f .before .args .held .now) 0 ≡ f .first-beyond .result
 seen f = sym (f .first-beyond .ensures)
 
-first-beyond-requires : tie.Need-first-beyond-requires
-first-beyond-requires c κs = search needs
-
-enum-known-lower : tie.Need-enum-known-lower
-enum-known-lower c = search needs
-
 add-t5 : tie.Need-add-t5
 add-t5 c = let f = c .before .before .before in record { fits = omega (arith, f .before .pre .0, f .before .pre .1, beyond-at (pos 0) (f .before .args .held .now) _ (seen f ∙ c .before .lower .given .1)) }
 
@@ -33,4 +27,4 @@ unfolding told toldHeld
 returns-2 c = let f = c .before .before in ap (toldHeld (f .before .args .offset)) (sym (seen f ∙ c .enum-told .given .1))
 
 pub ended-spec : {M : Type 1} → statement M
-ended-spec = tie.close (tie.spec first-beyond-requires enum-known-lower add-t5 returns enum-told returns-2)
+ended-spec = tie.close (tie.spec (λ c κs. search needs) (λ c. search needs) add-t5 returns enum-told returns-2)

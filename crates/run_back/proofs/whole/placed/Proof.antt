@@ -8,9 +8,6 @@ use Rattle.run_back.proofs.PlacedLaws.{place-le, known, placed-first}
 use Rattle.run_back.proofs.whole.placed.Statement.{statement}
 use Rattle.run_back.proofs.whole.placed.Tie as tie
 
-enum-known-answer : tie.Need-enum-known-answer
-enum-known-answer c = search needs
-
 add-t10 : tie.Need-add-t10
 unfolding told
 add-t10 c = let s = c .before .before .before in record { fits = omega (arith, s .pre .0, place-le _ _ (c .before .answer .given .1) (s .pre .1)) }
@@ -18,9 +15,6 @@ add-t10 c = let s = c .before .before .before in record { fits = omega (arith, s
 returns-2 : tie.Need-returns-2
 unfolding told placed
 returns-2 c = let s = c .before .before .before in known (s .args .width) (s .args .offset) _ _ _ (c .before .answer .given .1) refl
-
-enum-known-answer-2 : tie.Need-enum-known-answer-2
-enum-known-answer-2 c = search needs
 
 add-t11 : tie.Need-add-t11
 unfolding told
@@ -30,9 +24,6 @@ returns-3 : tie.Need-returns-3
 unfolding told placed
 returns-3 c = let s = c .before .before .before in known (s .args .width) (s .args .offset) _ _ _ (c .before .answer2 .given .1) refl
 
-enum-known-answer-3 : tie.Need-enum-known-answer-3
-enum-known-answer-3 c = search needs
-
 add-t12 : tie.Need-add-t12
 unfolding told
 add-t12 c = let s = c .before .before .before in record { fits = omega (arith, s .pre .0, place-le _ _ (c .before .answer3 .given .1) (s .pre .1)) }
@@ -41,9 +32,6 @@ returns-4 : tie.Need-returns-4
 unfolding told placed
 returns-4 c = let s = c .before .before .before in known (s .args .width) (s .args .offset) _ _ _ (c .before .answer3 .given .1) refl
 
-enum-known-answer-4 : tie.Need-enum-known-answer-4
-enum-known-answer-4 c = search needs
-
 add-t13 : tie.Need-add-t13
 unfolding told
 add-t13 c = let s = c .before .before .before in record { fits = omega (arith, s .pre .0, place-le _ _ (c .before .answer4 .given .1) (s .pre .1)) }
@@ -51,9 +39,6 @@ add-t13 c = let s = c .before .before .before in record { fits = omega (arith, s
 returns-5 : tie.Need-returns-5
 unfolding told placed
 returns-5 c = let s = c .before .before .before in known (s .args .width) (s .args .offset) _ _ _ (c .before .answer4 .given .1) refl
-
-enum-known-answer-5 : tie.Need-enum-known-answer-5
-enum-known-answer-5 c = search needs
 
 returns : tie.Need-returns
 returns c = let a = c .before in let s = a .before .before .before in known (s .args .width) (s .args .offset) _ _ _ (a .before .answer5 .given .1) (placed-first (s .args .width) (s .args .offset) _ (c .if1 .taken))
@@ -73,50 +58,29 @@ returns-7 : tie.Need-returns-7
 unfolding told placed
 returns-7 c = let s = c .before .before in known (s .args .width) (s .args .offset) _ _ _ (c .enum-told .given .1) refl
 
-enum-told-2 : tie.Need-enum-told-2
-enum-told-2 c = search needs
-
 returns-8 : tie.Need-returns-8
 unfolding told placed
 returns-8 c = let s = c .before .before in known (s .args .width) (s .args .offset) _ _ _ (c .enum-told2 .given .1) refl
-
-enum-told-3 : tie.Need-enum-told-3
-enum-told-3 c = search needs
 
 returns-9 : tie.Need-returns-9
 unfolding told placed
 returns-9 c = let s = c .before .before in known (s .args .width) (s .args .offset) _ _ _ (c .enum-told3 .given .1) refl
 
-enum-told-4 : tie.Need-enum-told-4
-enum-told-4 c = search needs
-
 returns-10 : tie.Need-returns-10
 unfolding told placed
 returns-10 c = let s = c .before .before in known (s .args .width) (s .args .offset) _ _ _ (c .enum-told4 .given .1) refl
-
-enum-told-5 : tie.Need-enum-told-5
-enum-told-5 c = search needs
 
 returns-11 : tie.Need-returns-11
 unfolding told placed
 returns-11 c = let s = c .before .before in known (s .args .width) (s .args .offset) _ _ _ (c .enum-told5 .given .1) refl
 
-enum-told-6 : tie.Need-enum-told-6
-enum-told-6 c = search needs
-
 returns-12 : tie.Need-returns-12
 unfolding told placed
 returns-12 c = let s = c .before .before in known (s .args .width) (s .args .offset) _ _ _ (c .enum-told6 .given .1) refl
 
-enum-told-7 : tie.Need-enum-told-7
-enum-told-7 c = search needs
-
 returns-13 : tie.Need-returns-13
 unfolding told placed
 returns-13 c = let s = c .before .before in known (s .args .width) (s .args .offset) _ _ _ (c .enum-told7 .given .1) refl
-
-enum-told-8 : tie.Need-enum-told-8
-enum-told-8 c = search needs
 
 returns-14 : tie.Need-returns-14
 unfolding told placed
@@ -126,25 +90,25 @@ pub placed-spec : {M : Type 1} → statement M
 placed-spec =
     tie.close
     (tie.spec
-    enum-known-answer
+    (λ c. search needs)
     add-t10
-    enum-known-answer-2
+    (λ c. search needs)
     add-t11
-    enum-known-answer-3
+    (λ c. search needs)
     add-t12
-    enum-known-answer-4
+    (λ c. search needs)
     add-t13
-    enum-known-answer-5
+    (λ c. search needs)
     returns
     add-t16
     enum-told
-    enum-told-2
-    enum-told-3
-    enum-told-4
-    enum-told-5
-    enum-told-6
-    enum-told-7
-    enum-told-8
+    (λ c. search needs)
+    (λ c. search needs)
+    (λ c. search needs)
+    (λ c. search needs)
+    (λ c. search needs)
+    (λ c. search needs)
+    (λ c. search needs)
     returns-2
     returns-3
     returns-4

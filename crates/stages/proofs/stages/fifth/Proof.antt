@@ -1,24 +1,42 @@
 -- `stages::stages::fifth` meets its contract.
 use borrow.Author.Needs.{needs}
 use native.Mathlib.Omega.{arith}
-use mathlib.Core.Path.{_∙_}
-use Rattle.integers.proofs.PlaceLaws.{within-up}
+use mathlib.Core.Path.{_≡_, sym, ap, _∙_}
+use Prim.Native.Nat.{_/_, _%_}
+use lib.ListN.{take}
+use lib.Seq.{length-take-le}
+use Rattle.tables.specs.Widths.{halfWidth}
+use Rattle.tables.proofs.Reading.{half-is}
+use Rattle.stages.specs.Expanded.{Tangents}
+use Rattle.stages.proofs.TableSizes.{tangents-long, tangents-within}
+use Rattle.stages.proofs.PartLaws.{half-in-fours, tables-room, tangents-part}
 use Rattle.stages.proofs.StageLaws.{stage5-is}
 use Rattle.stages.proofs.stages.fifth.Statement.{statement}
 use Rattle.stages.proofs.stages.fifth.Tie as tie
 
-by-tangents-requires : tie.Need-by-tangents-requires
-by-tangents-requires c κs =
-    let s = c .before in
-    (s .pre .0, (s .pre .1 .0, (s .pre .1 .1 .0, within-up (s .pre .1 .1 .1) (omega arith))))
+module _ (s : tie.Start) where
+  half : s .args .width / 2 ≡ halfWidth (s .args .width)
+  half = half-is (s .args .width) (s .pre .0)
 
-same-length : tie.Need-same-length
-same-length c = search needs
+  tangents : Tangents (s .args .width) (take (s .args .width / 2) (s .args .t .now))
+  tangents = record { is = tangents-part (s .pre .1 .0) half }
+
+slice-aggregate-mirrored : tie.Need-slice-aggregate-mirrored
+slice-aggregate-mirrored c = let s = c .before in sym (length-take-le (s .args .width / 2) (s .args .t .now) (omega (arith, tables-room (s .pre .1 .0) (half s))))
+
+mirrored-requires : tie.Need-mirrored-requires
+mirrored-requires c κs =
+    let s = c .before .before in
+    let h = s .pre .1 .1 .0 in
+    let b = sym (h .bottom-long) in (
+      ap (λ n. n % 4) (h .bottom-long) ∙ half-in-fours (s .args .width),
+      ((tangents-long _ _ (tangents s) ∙ b, h .top-long ∙ b), (tangents-within _ _ (tangents s), (s .pre .1 .1 .1 .0, s .pre .1 .1 .1 .1))),
+    )
 
 returns : tie.Need-returns
 returns c =
-    let s = c .before .before .before in
-    c .before .by-tangents .ensures ∙ stage5-is (s .args .width) (s .args .top .now) (s .args .bottom .now) (s .args .undo)
+    let s = c .before .before .before .before in
+    stage5-is (s .args .width) (s .args .top .now) (s .args .bottom .now) (s .pre .1 .1 .0) _ (tangents s .is) (s .args .undo) (c .before .mirrored .ensures)
 
 pub fifth-spec : {M : Type 1} → statement M
-fifth-spec = tie.close (tie.spec by-tangents-requires same-length returns)
+fifth-spec = tie.close (tie.spec slice-aggregate-mirrored mirrored-requires (λ c. search needs) returns)

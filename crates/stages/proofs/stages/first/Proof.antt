@@ -1,122 +1,113 @@
 -- `stages::stages::first` meets its contract.
 use borrow.Author.Needs.{needs}
 use native.Mathlib.Omega.{arith}
-use mathlib.Core.Path.{_≡_, sym, ap, ap₂, subst, _∙_}
-use mathlib.Core.Bool.{false}
-use Prim.Native.Nat.{_+_, _-_, _^_, _≤_}
+use mathlib.Core.Path.{_≡_, sym, ap, _∙_}
+use mathlib.Core.List.{List}
+use Prim.Native.Nat.{_*_, _/_, _%_, _≤_}
+use lib.IntN.{ℤ}
 use lib.ListN.{length}
-use Rattle.integers.specs.Places.{Within}
-use Rattle.integers.proofs.PlaceLaws.{length-places, within-up}
+use Rattle.integers.proofs.PlaceLaws.{within-up}
 use Rattle.tables.specs.Widths.{halfWidth}
-use Rattle.stages.specs.Moves.{Moves}
-use Rattle.stages.proofs.StageSizes.{moves-wide, moves-whole}
-use Rattle.steps.specs.Steps.{rootLog}
-use Rattle.rows.specs.Sums.{cosineSums}
-use Rattle.stages.proofs.StageLaws.{lifted, altered, either1-is}
-use Rattle.stages.proofs.StageSizes.{root-le, altered-within, lifted-whole, cosine-sums-wide}
+use Rattle.tables.proofs.Reading.{half-is}
+use Rattle.constants.specs.Filled.{productRoom}
+use Rattle.rows.specs.Sums.{CosineRows, alternated}
+use Rattle.stages.proofs.PartLaws.{half-in-fours, half-small, tables-room, room-long, rows-are, in-order, rows-scaled}
+use Rattle.stages.proofs.RowLaws.{room-for-half, alternated-within}
+use Rattle.stages.proofs.StageLaws.{stage1-is}
 use Rattle.stages.proofs.stages.first.Statement.{statement}
 use Rattle.stages.proofs.stages.first.Tie as tie
 
-copied : (c : tie.After-copy) → c .copy .last .1 .0 ≡ c .before .before .args .top .now
-copied c = c .copy .ensures
+module _ (s : tie.Start) where
+  half : s .args .width / 2 ≡ halfWidth (s .args .width)
+  half = half-is (s .args .width) (s .pre .0)
 
-signed : (c : tie.After-alternate) → c .alternate .last .1 .0 ≡ altered false (c .before .before .before .before .before .args .top .now)
-signed c = c .alternate .ensures ∙ ap (altered false) (copied (c .before .before .before))
+  small : s .args .width / 2 ≤ 64
+  small = half-small (s .pre .1 .0) half
 
-abbrev start : tie.After-cosine-sums → tie.Start
-start c = c .before .before .before .before .before .before .before .before .before .before .before
+  room : 7 * (s .args .width / 2) ≤ length (s .args .t .now)
+  room = tables-room (s .pre .1 .0) half
 
-root-small : (s : tie.Start) → s .args .root ≤ 3
-root-small s = rw (s .pre .0 .0) (root-le (s .args .width))
+-- behind the sums
+module _ (q : tie.After-y) where
+  abbrev from : tie.Start
+  from = q .before .before .before
 
-module _ (c : tie.After-cosine-sums) where
-  abbrev s : tie.Start
-  s = start c
+  abbrev sums : List ℤ
+  sums = q .before .cosine-sums .last .1 .1 .1 .1 .0
 
-  -- b has the sums of C·d·top
-  summed : c .cosine-sums .last .1 .1 .1 .1 .0 ≡ cosineSums (s .args .width) (altered false (s .args .top .now))
-  summed = c .cosine-sums .ensures ∙ ap (cosineSums (s .args .width)) (signed (c .before .before .before .before .before .before))
+  y-long : productRoom (from .args .width) ≤ length sums
+  y-long = omega (arith, q .y .given, from .pre .1 .1 .1 .0)
 
-  sums-long : length (c .cosine-sums .last .1 .1 .1 .1 .0) ≡ halfWidth (s .args .width)
-  unfolding cosineSums
-  sums-long = ap length summed ∙ length-places _ _
+  rows : CosineRows (from .args .width) (alternated (from .args .top .now)) sums
+  rows = q .before .cosine-sums .ensures
 
-  sums-within : Within (2 ^ 63) (c .cosine-sums .last .1 .1 .1 .1 .0)
-  sums-within = subst (Within (2 ^ 63)) (sym summed) (cosine-sums-wide (s .args .width) _ (altered-within false 500000000 (s .args .top .now) (s .pre .1 .1 .1 .0)))
+mul-back : tie.Need-mul-back
+mul-back c = record { fits = omega (arith, small c) }
 
-  sums-move : Moves (27 + s .args .root) (c .cosine-sums .last .1 .1 .1 .1 .0)
-  sums-move = moves-wide (27 + s .args .root) _ (omega arith) sums-within
+mul-flips : tie.Need-mul-flips
+mul-flips c = record { fits = omega (arith, small c) }
 
-copy-requires : tie.Need-copy-requires
-copy-requires c κs = let s = c .before in s .pre .1 .0 .top-long ∙ sym (s .pre .1 .1 .0 .a-long)
+mul-lists : tie.Need-mul-lists
+mul-lists c = record { fits = omega (arith, small c) }
 
-alternate-requires : tie.Need-alternate-requires
-alternate-requires c κs = let r = c .before .before in let s = r .before .before in subst (Within (2 ^ 61)) (sym (copied r)) (within-up (s .pre .1 .1 .1 .0) (omega arith))
+mul-first : tie.Need-mul-first
+mul-first c = record { fits = omega (arith, small (c .before .before .before)) }
 
-cosine-sums-requires : tie.Need-cosine-sums-requires
-cosine-sums-requires c κs =
-    let a = c .before .before .before .before .before in
-    let s = a .before .before .before .before .before in
-    ((s .pre .0 .1, s .pre .0 .2), ((ap length (signed a) ∙ length-places _ _ ∙ s .pre .1 .0 .top-long, s .pre .1 .1 .0 .row-long, s .pre .1 .1 .0 .c-long, s .pre .1 .1 .0 .b-long), subst (Within 500000000) (sym (signed a)) (altered-within false 500000000 (s .args .top .now) (s .pre .1 .1 .1 .0))))
+part-first-end : tie.Need-part-first-end
+part-first-end c = omega (arith, room (c .before .before .before))
 
-lift-requires : tie.Need-lift-requires
-lift-requires c κs =
+mul-first-2 : tie.Need-mul-first-2
+mul-first-2 c = record { fits = omega (arith, small (c .before .before .before .before)) }
+
+part-first-end-2 : tie.Need-part-first-end-2
+part-first-end-2 c = omega (arith, room (c .before .before .before .before))
+
+slice-reshare-prefix-first : tie.Need-slice-reshare-prefix-first
+slice-reshare-prefix-first c = let q = c .before .before in omega (arith, half (from q), room-for-half (from q .args .width), y-long q)
+
+slice-aggregate-first : tie.Need-slice-aggregate-first
+slice-aggregate-first c = let q = c .before .before .before in half (from q) ∙ sym (room-long (from q .pre .1 .0) (half (from q)) (sums q) (y-long q))
+
+first-requires : tie.Need-first-requires
+first-requires c κs =
     let q = c .before .before .before .before in
-    let s = start q in
-    (s .pre .1 .0 .top-long ∙ sym (s .pre .1 .0 .bottom-long), (moves-whole _ (within-up (s .pre .1 .1 .1 .0) (omega arith)), within-up (s .pre .1 .1 .1 .1) (omega arith)))
-
-add-lift : tie.Need-add-lift
-add-lift c = record { fits = omega (arith, root-small (start (c .before .before .before .before .before .before))) }
-
-lift-requires-2 : tie.Need-lift-requires-2
-lift-requires-2 c κs =
-    let l = c .before .before .before in
-    let q = l .before .before .before .before .before in
-    let s = start q in (
-      sums-long q ∙ sym (ap length (l .lift .ensures) ∙ length-places _ _ ∙ s .pre .1 .0 .bottom-long),
-      (sums-move q, subst (Within (2 ^ 61)) (sym (l .lift .ensures)) (lifted-whole (s .args .undo) (s .args .top .now) (s .args .bottom .now) (within-up (s .pre .1 .1 .1 .0) (omega arith)) (s .pre .1 .1 .1 .1))),
+    let s = from q in
+    let f = s .pre .1 .0 in
+    let h = s .pre .1 .1 .0 in
+    let b = sym (h .bottom-long) in (
+      ap (λ n. n % 4) (h .bottom-long) ∙ half-in-fours (s .args .width),
+      (
+        (room-long f (half s) (sums q) (y-long q) ∙ b, h .top-long ∙ b),
+        (in-order f (half s) (rows q) (y-long q), (rows-scaled f (half s) (rows q) (y-long q) (alternated-within 268000000 (s .args .top .now) (s .pre .1 .1 .1 .1 .0)), (within-up (s .pre .1 .1 .1 .1 .0) (omega arith), s .pre .1 .1 .1 .1 .1))),
+      ),
     )
-
-same-length : tie.Need-same-length
-same-length c = search needs
-
-same-length-2 : tie.Need-same-length-2
-same-length-2 c = search needs
-
-same-length-3 : tie.Need-same-length-3
-same-length-3 c = search needs
-
-same-length-4 : tie.Need-same-length-4
-same-length-4 c = search needs
-
-same-length-5 : tie.Need-same-length-5
-same-length-5 c = search needs
 
 returns : tie.Need-returns
 returns c =
-    let l = c .before in
-    let f = l .before .before .before .before in
-    let q = f .before .before .before .before .before in
-    let s = start q in
-    let top = s .args .top .now in
-    let bottom = s .args .bottom .now in
-    l .lift2 .ensures ∙ ap₂ (λ r y. lifted (s .args .undo) (27 + r) (q .cosine-sums .last .1 .1 .1 .1 .0) y) (s .pre .0 .0) (f .lift .ensures)
-    ∙ ap (λ b. lifted (s .args .undo) (27 + rootLog (s .args .width)) b (lifted (s .args .undo) 0 top bottom)) (summed q)
-    ∙ either1-is (s .args .width) top bottom (s .pre .1 .0 .top-long) (s .pre .1 .0 .bottom-long) (s .args .undo)
+    let q = c .before .before .before .before .before .before in
+    let s = from q in
+    let f = s .pre .1 .0 in
+    stage1-is (s .args .width) (s .pre .0) (s .args .top .now) (s .args .bottom .now) (s .pre .1 .1 .0) _ (rows-are f (half s) (rows q)) (s .args .undo) (c .before .first .ensures)
 
 pub first-spec : {M : Type 1} → statement M
 first-spec =
     tie.close
     (tie.spec
-    copy-requires
-    alternate-requires
-    cosine-sums-requires
-    lift-requires
-    add-lift
-    lift-requires-2
-    same-length
-    same-length-2
-    same-length-3
-    same-length-4
-    same-length-5
+    mul-back
+    mul-flips
+    mul-lists
+    (λ c κs. search needs)
+    mul-first
+    (λ c. search needs)
+    (λ c. search needs)
+    part-first-end
+    mul-first-2
+    (λ c. search needs)
+    (λ c. search needs)
+    part-first-end-2
+    slice-reshare-prefix-first
+    slice-aggregate-first
+    first-requires
+    (λ c. search needs)
+    (λ c. search needs)
     returns)

@@ -1,144 +1,108 @@
 -- `stages::stages::second` meets its contract.
 use borrow.Author.Needs.{needs}
 use native.Mathlib.Omega.{arith}
-use mathlib.Core.Path.{_≡_, sym, ap, ap₂, subst, _∙_}
-use mathlib.Core.Bool.{true, false, cond}
-use Prim.Native.Nat.{_+_, _-_, _^_, _≤_}
+use mathlib.Core.Path.{_≡_, sym, ap, _∙_}
+use mathlib.Core.List.{List}
+use Prim.Native.Nat.{_*_, _/_, _%_, _≤_}
+use lib.IntN.{ℤ}
 use lib.ListN.{length}
-use Rattle.integers.specs.Places.{Within}
-use Rattle.integers.proofs.PlaceLaws.{length-places, within-up}
 use Rattle.tables.specs.Widths.{halfWidth}
-use Rattle.stages.specs.Moves.{Moves}
-use Rattle.stages.proofs.StageSizes.{moves-wide}
-use Rattle.steps.specs.Steps.{rootLog, stage2, unstage2}
-use Rattle.rows.specs.Sums.{cosineSums}
-use Rattle.stages.proofs.StageLaws.{lifted, altered, stage2-is, unstage2-is}
-use Rattle.stages.proofs.StageSizes.{root-le, altered-within, lifted-wide, cosine-sums-wide}
+use Rattle.tables.proofs.Reading.{half-is}
+use Rattle.constants.specs.Filled.{productRoom}
+use Rattle.rows.specs.Sums.{CosineRows}
+use Rattle.stages.proofs.PartLaws.{half-in-fours, half-small, tables-room, room-long, rows-are, in-order, rows-scaled}
+use Rattle.stages.proofs.RowLaws.{room-for-half}
+use Rattle.stages.proofs.StageLaws.{stage2-is}
 use Rattle.stages.proofs.stages.second.Statement.{statement}
 use Rattle.stages.proofs.stages.second.Tie as tie
 
-abbrev start : tie.After-cosine-sums → tie.Start
-start c = c .before .before .before .before
+module _ (s : tie.Start) where
+  half : s .args .width / 2 ≡ halfWidth (s .args .width)
+  half = half-is (s .args .width) (s .pre .0)
 
-root-small : (s : tie.Start) → s .args .root ≤ 3
-root-small s = rw (s .pre .0 .0) (root-le (s .args .width))
+  small : s .args .width / 2 ≤ 64
+  small = half-small (s .pre .1 .0) half
 
-module _ (c : tie.After-cosine-sums) where
-  abbrev s : tie.Start
-  s = start c
+  room : 7 * (s .args .width / 2) ≤ length (s .args .t .now)
+  room = tables-room (s .pre .1 .0) half
 
-  -- a has the sums of C·bottom
-  summed : c .cosine-sums .last .1 .1 .1 .1 .0 ≡ cosineSums (s .args .width) (s .args .bottom .now)
-  summed = c .cosine-sums .ensures
+-- behind the sums
+module _ (q : tie.After-y) where
+  abbrev from : tie.Start
+  from = q .before .before .before
 
-  sums-long : length (c .cosine-sums .last .1 .1 .1 .1 .0) ≡ halfWidth (s .args .width)
-  unfolding cosineSums
-  sums-long = ap length summed ∙ length-places _ _
+  abbrev sums : List ℤ
+  sums = q .before .cosine-sums .last .1 .1 .1 .1 .0
 
-  sums-within : Within (2 ^ 63) (c .cosine-sums .last .1 .1 .1 .1 .0)
-  sums-within = subst (Within (2 ^ 63)) (sym summed) (cosine-sums-wide (s .args .width) (s .args .bottom .now) (s .pre .1 .1 .1 .0))
+  y-long : productRoom (from .args .width) ≤ length sums
+  y-long = omega (arith, q .y .given, from .pre .1 .1 .1 .0)
 
-  sums-move : Moves (28 + s .args .root) (c .cosine-sums .last .1 .1 .1 .1 .0)
-  sums-move = moves-wide (28 + s .args .root) _ (omega arith) sums-within
+  rows : CosineRows (from .args .width) (from .args .bottom .now) sums
+  rows = q .before .cosine-sums .ensures
 
-cosine-sums-requires : tie.Need-cosine-sums-requires
-cosine-sums-requires c κs = let s = c .before .before .before in ((s .pre .0 .1, s .pre .0 .2), ((s .pre .1 .0 .bottom-long, s .pre .1 .1 .0 .2, s .pre .1 .1 .0 .1, s .pre .1 .1 .0 .0), s .pre .1 .1 .1 .0))
+mul-back : tie.Need-mul-back
+mul-back c = record { fits = omega (arith, small c) }
 
-add-lift : tie.Need-add-lift
-add-lift c = record { fits = omega (arith, root-small (start (c .before .before .before .before))) }
+mul-flips : tie.Need-mul-flips
+mul-flips c = record { fits = omega (arith, small c) }
 
-lift-requires : tie.Need-lift-requires
-lift-requires c κs = let q = c .before .before .before .before .before .before in let s = start q in (sums-long q ∙ sym (s .pre .1 .0 .top-long), (sums-move q, within-up (s .pre .1 .1 .1 .1) (omega arith)))
+mul-lists : tie.Need-mul-lists
+mul-lists c = record { fits = omega (arith, small c) }
 
-alternate-requires : tie.Need-alternate-requires
-alternate-requires c κs =
-    let l = c .before .before in
-    let q = l .before .before .before .before .before .before .before in
-    let s = start q in
-    subst (Within (2 ^ 61)) (sym (l .lift .ensures)) (lifted-wide true (28 + s .args .root) _ (s .args .top .now) (omega arith) (sums-within q) (s .pre .1 .1 .1 .1))
+mul-second : tie.Need-mul-second
+mul-second c = record { fits = omega (arith, small (c .before .before .before)) }
 
-same-length : tie.Need-same-length
-same-length c = search needs
+part-second-end : tie.Need-part-second-end
+part-second-end c = omega (arith, room (c .before .before .before))
 
-same-length-2 : tie.Need-same-length-2
-same-length-2 c = search needs
+mul-second-2 : tie.Need-mul-second-2
+mul-second-2 c = record { fits = omega (arith, small (c .before .before .before .before)) }
 
-same-length-3 : tie.Need-same-length-3
-same-length-3 c = search needs
+part-second-end-2 : tie.Need-part-second-end-2
+part-second-end-2 c = omega (arith, room (c .before .before .before .before))
 
-same-length-4 : tie.Need-same-length-4
-same-length-4 c = search needs
+slice-reshare-prefix-second : tie.Need-slice-reshare-prefix-second
+slice-reshare-prefix-second c = let q = c .before .before in omega (arith, half (from q), room-for-half (from q .args .width), y-long q)
+
+slice-aggregate-second : tie.Need-slice-aggregate-second
+slice-aggregate-second c = let q = c .before .before .before in half (from q) ∙ sym (room-long (from q .pre .1 .0) (half (from q)) (sums q) (y-long q))
+
+second-requires : tie.Need-second-requires
+second-requires c κs =
+    let q = c .before .before .before .before in
+    let s = from q in
+    let f = s .pre .1 .0 in
+    let h = s .pre .1 .1 .0 in (
+      ap (λ n. n % 4) (h .top-long) ∙ half-in-fours (s .args .width),
+      (room-long f (half s) (sums q) (y-long q) ∙ sym (h .top-long), (in-order f (half s) (rows q) (y-long q), (rows-scaled f (half s) (rows q) (y-long q) (s .pre .1 .1 .1 .1 .0), s .pre .1 .1 .1 .1 .1))),
+    )
 
 returns : tie.Need-returns
 returns c =
-    let a = c .before in
-    let l = a .before .before .before in
-    let q = l .before .before .before .before .before .before .before in
-    let s = start q in
-    let top = s .args .top .now in
-    let bottom = s .args .bottom .now in
-    a .alternate .ensures ∙ ap (altered true) (l .lift .ensures ∙ ap₂ (λ r b. lifted true (28 + r) b top) (s .pre .0 .0) (summed q))
-    ∙ unstage2-is (s .args .width) top bottom (s .pre .1 .0 .top-long) (s .pre .1 .0 .bottom-long)
-    ∙ sym (ap (λ u. cond u (unstage2 (s .args .width) top bottom) (stage2 (s .args .width) top bottom)) (l .before .before .before .if1 .taken))
-
-alternate-requires-2 : tie.Need-alternate-requires-2
-alternate-requires-2 c κs = let s = start (c .before .before .before .before .before) in within-up (s .pre .1 .1 .1 .1) (omega arith)
-
-add-lift-2 : tie.Need-add-lift-2
-add-lift-2 c = record { fits = omega (arith, root-small (start (c .before .before .before .before .before .before .before))) }
-
-lift-requires-2 : tie.Need-lift-requires-2
-lift-requires-2 c κs =
-    let a = c .before .before .before in
-    let q = a .before .before .before .before .before .before in
-    let s = start q in (
-      sums-long q ∙ sym (ap length (a .alternate2 .ensures) ∙ length-places _ _ ∙ s .pre .1 .0 .top-long),
-      (sums-move q, subst (Within (2 ^ 61)) (sym (a .alternate2 .ensures)) (altered-within true (2 ^ 61) (s .args .top .now) (within-up (s .pre .1 .1 .1 .1) (omega arith)))),
-    )
-
-same-length-5 : tie.Need-same-length-5
-same-length-5 c = search needs
-
-same-length-6 : tie.Need-same-length-6
-same-length-6 c = search needs
-
-same-length-7 : tie.Need-same-length-7
-same-length-7 c = search needs
-
-same-length-8 : tie.Need-same-length-8
-same-length-8 c = search needs
-
-returns-2 : tie.Need-returns-2
-returns-2 c =
-    let l = c .before in
-    let a = l .before .before .before .before in
-    let q = a .before .before .before .before .before .before in
-    let s = start q in
-    let top = s .args .top .now in
-    let bottom = s .args .bottom .now in
-    l .lift2 .ensures ∙ ap₂ (λ r y. lifted false (28 + r) (q .cosine-sums .last .1 .1 .1 .1 .0) y) (s .pre .0 .0) (a .alternate2 .ensures)
-    ∙ ap (λ b. lifted false (28 + rootLog (s .args .width)) b (altered true top)) (summed q)
-    ∙ stage2-is (s .args .width) top bottom (s .pre .1 .0 .top-long) (s .pre .1 .0 .bottom-long)
-    ∙ sym (ap (λ u. cond u (unstage2 (s .args .width) top bottom) (stage2 (s .args .width) top bottom)) (a .before .before .if1 .left))
+    let q = c .before .before .before .before .before .before in
+    let s = from q in
+    let f = s .pre .1 .0 in
+    stage2-is (s .args .width) (s .pre .0) (s .args .top .now) (s .args .bottom .now) (s .pre .1 .1 .0) _ (rows-are f (half s) (rows q)) (s .args .undo) (c .before .second .ensures)
 
 pub second-spec : {M : Type 1} → statement M
 second-spec =
     tie.close
     (tie.spec
-    cosine-sums-requires
-    add-lift
-    lift-requires
-    alternate-requires
-    same-length
-    same-length-2
-    same-length-3
-    same-length-4
-    returns
-    alternate-requires-2
-    add-lift-2
-    lift-requires-2
-    same-length-5
-    same-length-6
-    same-length-7
-    same-length-8
-    returns-2)
+    mul-back
+    mul-flips
+    mul-lists
+    (λ c κs. search needs)
+    mul-second
+    (λ c. search needs)
+    (λ c. search needs)
+    part-second-end
+    mul-second-2
+    (λ c. search needs)
+    (λ c. search needs)
+    part-second-end-2
+    slice-reshare-prefix-second
+    slice-aggregate-second
+    second-requires
+    (λ c. search needs)
+    (λ c. search needs)
+    returns)

@@ -1,172 +1,170 @@
 -- `stages::stages::third` meets its contract.
 use borrow.Author.Needs.{needs}
 use native.Mathlib.Omega.{arith}
-use mathlib.Core.Path.{_≡_, sym, ap, ap₂, subst, _∙_}
+use mathlib.Core.Path.{_≡_, sym, ap, _∙_}
 use mathlib.Core.List.{List}
-use Prim.Native.Nat.{ℕ, _+_, _-_, _*_, _^_, _≤_}
+use Prim.Native.Nat.{_*_, _/_, _%_, _≤_}
 use lib.IntN.{ℤ}
-use lib.ListN.{length}
-use Rattle.integers.specs.Places.{Within}
-use Rattle.integers.proofs.PlaceLaws.{length-places, within-up}
+use lib.ListN.{length, take}
+use lib.Seq.{length-take-le}
+use Rattle.integers.specs.Places.{at}
+use Rattle.integers.proofs.PlaceLaws.{within-up}
 use Rattle.tables.specs.Widths.{halfWidth}
 use Rattle.tables.proofs.ByWidth.{half-width-le}
-use Rattle.stages.specs.Moves.{Moves}
-use Rattle.steps.specs.Steps.{rootLog}
-use Rattle.rows.specs.Sums.{cosineSums, secantSums}
-use Rattle.stages.specs.Expanded.{thirdAmounts}
-use Rattle.stages.proofs.StageLaws.{lifted, amounts3, stage3-is}
-use Rattle.stages.proofs.StageSizes.{root-le, cosine-sums-size, secant-sums-size, amounts3-move}
+use Rattle.tables.proofs.Reading.{half-is}
+use Rattle.constants.specs.Filled.{productRoom}
+use Rattle.rows.specs.Orders.{secantOut}
+use Rattle.rows.specs.Sums.{CosineRows, SecantRows}
+use Rattle.stages.specs.Expanded.{Tangents}
+use Rattle.stages.proofs.TableSizes.{tangents-long, tangents-within}
+use Rattle.stages.proofs.PartLaws.{half-in-fours, half-small, tables-room, tangents-part, room-long, secants-in, rows-are, in-order, rows-thirds}
+use Rattle.stages.proofs.RowLaws.{room-for-half}
+use Rattle.stages.proofs.StageLaws.{stage3-is}
 use Rattle.stages.proofs.stages.third.Statement.{statement}
 use Rattle.stages.proofs.stages.third.Tie as tie
 
 module _ (s : tie.Start) where
-  abbrev N : ℕ
-  N = s .args .width
+  half : s .args .width / 2 ≡ halfWidth (s .args .width)
+  half = half-is (s .args .width) (s .pre .0)
 
-  abbrev M : ℕ
-  M = halfWidth N
+  small : s .args .width / 2 ≤ 64
+  small = half-small (s .pre .1 .0) half
 
-  top-long : length (s .args .top .now) ≡ M
-  top-long = s .pre .1 .0 .top-long
+  room : 7 * (s .args .width / 2) ≤ length (s .args .t .now)
+  room = tables-room (s .pre .1 .0) half
 
-  bottom-long : length (s .args .bottom .now) ≡ M
-  bottom-long = s .pre .1 .0 .bottom-long
+  tangents : Tangents (s .args .width) (take (s .args .width / 2) (s .args .t .now))
+  tangents = record { is = tangents-part (s .pre .1 .0) half }
 
-  a-long : length (s .args .a .now) ≡ M
-  a-long = s .pre .1 .1 .0 .a-long
-
-  b-long : length (s .args .b .now) ≡ M
-  b-long = s .pre .1 .1 .0 .b-long
-
-  row-long : length (s .args .row .now) ≡ M
-  row-long = s .pre .1 .1 .0 .row-long
-
-  c-long : length (s .args .c .now) ≡ M
-  c-long = s .pre .1 .1 .0 .c-long
-
-  top-small : Within 7500000 (s .args .top .now)
-  top-small = s .pre .1 .1 .1 .0
-
-  root-is : s .args .root ≡ rootLog N
-  root-is = s .pre .0 .0
-
-  root-small : s .args .root ≤ 3
-  root-small = rw root-is (root-le N)
-
--- behind both sums
-module _ (q : tie.After-cosine-sums) where
-  abbrev p : tie.After-secant-sums
-  p = q .before .before .before .before .before .before .before
-
+-- behind the sums
+module _ (q : tie.After-y) where
   abbrev from : tie.Start
-  from = p .before .before .before .before
-
-  abbrev secants : List ℤ
-  secants = p .secant-sums .last .1 .1 .1 .1 .0
+  from = q .before .before .before .before .before .before
 
   abbrev cosines : List ℤ
-  cosines = q .cosine-sums .last .1 .1 .1 .1 .0
+  cosines = q .before .cosine-sums .last .1 .1 .1 .1 .0
 
-  secants-long : length secants ≡ M from
-  unfolding secantSums
-  secants-long = ap length (p .secant-sums .ensures) ∙ length-places _ _
+  abbrev secants : List ℤ
+  secants = q .before .before .before .before .secant-sums .last .1 .1 .1 .0
 
-  cosines-long : length cosines ≡ M from
-  unfolding cosineSums
-  cosines-long = ap length (q .cosine-sums .ensures) ∙ length-places _ _
+  y-long : productRoom (from .args .width) ≤ length cosines
+  y-long = omega (arith, q .y .given, from .pre .1 .1 .1 .0 .y-long)
 
-  secants-small : Within (2 ^ 60) secants
-  secants-small = subst (Within (2 ^ 60)) (sym (p .secant-sums .ensures)) (within-up (secant-sums-size (N from) 7500000 (from .args .top .now) (top-small from)) (omega (arith, half-width-le (N from))))
+  z-long : productRoom (from .args .width) ≤ length secants
+  z-long = omega (arith, q .before .before .before .z .given, from .pre .1 .1 .1 .0 .z-long)
 
-  cosines-small : Within (2 ^ 57) cosines
-  cosines-small = subst (Within (2 ^ 57)) (sym (q .cosine-sums .ensures)) (within-up (cosine-sums-size (N from) 7500000 (from .args .top .now) (top-small from)) (omega (arith, half-width-le (N from))))
+  rows : CosineRows (from .args .width) (from .args .top .now) cosines
+  rows = q .before .cosine-sums .ensures
 
--- behind the amounts
-module _ (r : tie.After-third-amounts) where
-  abbrev sums : tie.After-cosine-sums
-  sums = r .before .before .before .before .before .before
+  secant-rows : SecantRows (from .args .width) (from .args .top .now) secants
+  secant-rows = q .before .before .before .before .secant-sums .ensures
 
-  abbrev start : tie.Start
-  start = from sums
+  y-half : length (take (from .args .width / 2) cosines) ≡ halfWidth (from .args .width)
+  y-half = room-long (from .pre .1 .0) (half from) cosines y-long
 
-  amounts : r .third-amounts .last .1 .1 .1 .0 ≡ amounts3 (N start) (start .args .top .now)
-  amounts =
-      let top = start .args .top .now in
-      r .third-amounts .ensures ∙ ap₂ (λ l a. thirdAmounts (N start) l top a (cosines sums)) (root-is start) (p sums .secant-sums .ensures) ∙ ap (thirdAmounts (N start) (rootLog (N start)) top (secantSums (N start) top)) (sums .cosine-sums .ensures)
+  z-half : length (take (from .args .width / 2) secants) ≡ halfWidth (from .args .width)
+  z-half = room-long (from .pre .1 .0) (half from) secants z-long
 
-  amounts-long : length (r .third-amounts .last .1 .1 .1 .0) ≡ M start
-  amounts-long = ap length amounts ∙ length-places _ _
+mul-back : tie.Need-mul-back
+mul-back c = record { fits = omega (arith, small c) }
 
-  amounts-move : Moves (28 + 2 * start .args .root) (r .third-amounts .last .1 .1 .1 .0)
-  amounts-move =
-      subst (λ k. Moves (28 + 2 * k) (r .third-amounts .last .1 .1 .1 .0)) (sym (root-is start))
-      (subst (Moves (28 + 2 * rootLog (N start))) (sym amounts)
-      (amounts3-move (N start) (start .args .top .now) (start .args .bottom .now) (top-long start) (bottom-long start) (top-small start)))
+mul-flips : tie.Need-mul-flips
+mul-flips c = record { fits = omega (arith, small c) }
+
+mul-lists : tie.Need-mul-lists
+mul-lists c = record { fits = omega (arith, small c) }
 
 secant-sums-requires : tie.Need-secant-sums-requires
 secant-sums-requires c κs =
-    let s = c .before .before .before in
-    ((s .pre .0 .1, s .pre .0 .2), ((top-long s, row-long s, c-long s, a-long s), within-up (top-small s) (omega arith)))
+    let s = c .before in
+    (s .pre .0, (s .pre .1 .0, ((s .pre .1 .1 .0 .top-long, s .pre .1 .1 .1 .0 .z-long), within-up (s .pre .1 .1 .1 .1 .0) (omega arith))))
 
 cosine-sums-requires : tie.Need-cosine-sums-requires
 cosine-sums-requires c κs =
-    let s = c .before .before .before .before .before .before .before .before .before .before in
-    ((s .pre .0 .1, s .pre .0 .2), ((top-long s, c .before .before .before .before .before .row .given ∙ row-long s, c .before .before .before .before .c .given ∙ c-long s, b-long s), within-up (top-small s) (omega arith)))
+    let s = c .before .before .before .before in
+    (s .pre .0, (s .pre .1 .0, ((s .pre .1 .1 .0 .top-long, s .pre .1 .1 .1 .0 .y-long), within-up (s .pre .1 .1 .1 .1 .0) (omega arith))))
 
-third-amounts-requires : tie.Need-third-amounts-requires
-third-amounts-requires c κs =
-    let q = c .before .before .before .before .before in
+slice-aggregate-third : tie.Need-slice-aggregate-third
+slice-aggregate-third c = let s = from (c .before) in sym (length-take-le (s .args .width / 2) (s .args .t .now) (omega (arith, room s)))
+
+slice-reshare-prefix-third : tie.Need-slice-reshare-prefix-third
+slice-reshare-prefix-third c = let q = c .before in omega (arith, half (from q), room-for-half (from q .args .width), z-long q)
+
+slice-aggregate-third-2 : tie.Need-slice-aggregate-third-2
+slice-aggregate-third-2 c = let q = c .before .before in half (from q) ∙ sym (z-half q)
+
+mul-third : tie.Need-mul-third
+mul-third c = record { fits = omega (arith, small (from (c .before .before))) }
+
+part-third-end : tie.Need-part-third-end
+part-third-end c = omega (arith, room (from (c .before .before)))
+
+mul-third-2 : tie.Need-mul-third-2
+mul-third-2 c = record { fits = omega (arith, small (from (c .before .before .before))) }
+
+part-third-end-2 : tie.Need-part-third-end-2
+part-third-end-2 c = omega (arith, room (from (c .before .before .before)))
+
+slice-reshare-prefix-third-2 : tie.Need-slice-reshare-prefix-third-2
+slice-reshare-prefix-third-2 c = let q = c .before .before .before .before in omega (arith, half (from q), room-for-half (from q .args .width), y-long q)
+
+slice-aggregate-third-3 : tie.Need-slice-aggregate-third-3
+slice-aggregate-third-3 c = let q = c .before .before .before .before .before in half (from q) ∙ sym (y-half q)
+
+third-requires : tie.Need-third-requires
+third-requires c κs =
+    let q = c .before .before .before .before .before .before in
     let s = from q in
-    ((root-small s, s .pre .0 .1, s .pre .0 .2), ((top-long s, secants-long q, cosines-long q), (top-small s, (secants-small q, cosines-small q))))
-
-mul-lift : tie.Need-mul-lift
-mul-lift c = record { fits = omega (arith, root-small (start (c .before))) }
-
-add-lift : tie.Need-add-lift
-add-lift c = record { fits = omega (arith, root-small (start (c .before))) }
-
-lift-requires : tie.Need-lift-requires
-lift-requires c κs =
-    let r = c .before .before .before in
-    let s = start r in
-    (amounts-long r ∙ sym (bottom-long s), (amounts-move r, within-up (s .pre .1 .1 .1 .1) (omega arith)))
-
-same-length : tie.Need-same-length
-same-length c = search needs
-
-same-length-2 : tie.Need-same-length-2
-same-length-2 c = search needs
-
-same-length-3 : tie.Need-same-length-3
-same-length-3 c = search needs
-
-same-length-4 : tie.Need-same-length-4
-same-length-4 c = search needs
-
-same-length-5 : tie.Need-same-length-5
-same-length-5 c = search needs
+    let f = s .pre .1 .0 in
+    let h = s .pre .1 .1 .0 in
+    let b = sym (h .bottom-long) in
+    let w = s .pre .1 .1 .1 .1 .0 in (
+      ap (λ n. n % 4) (h .bottom-long) ∙ half-in-fours (s .args .width),
+      (
+        (tangents-long _ _ (tangents s) ∙ b, h .top-long ∙ b, z-half q ∙ b, y-half q ∙ b, omega (arith, h .bottom-long, half-width-le (s .args .width))),
+        (
+          in-order f (half s) (rows q) (y-long q),
+          (
+            rows-thirds f (half s) (rows q) (y-long q) (z-long q) (secant-rows q) w,
+            (tangents-within _ _ (tangents s), (within-up w (omega arith), s .pre .1 .1 .1 .1 .1)),
+          ),
+        ),
+      ),
+    )
 
 returns : tie.Need-returns
 returns c =
-    let l = c .before in
-    let r = l .before .before .before .before in
-    let s = start r in
-    l .lift .ensures ∙ ap₂ (λ k a. lifted (s .args .undo) (28 + 2 * k) a (s .args .bottom .now)) (root-is s) (amounts r)
-    ∙ stage3-is (N s) (s .args .top .now) (s .args .bottom .now) (top-long s) (bottom-long s) (s .args .undo)
+    let q = c .before .before .before .before .before .before .before .before in
+    let s = from q in
+    let f = s .pre .1 .0 in
+    let h = s .pre .1 .1 .0 in
+    let N = s .args .width in
+    stage3-is N (s .pre .0) (s .args .top .now) (s .args .bottom .now) h _ _ (λ m l. ap (λ n. secantOut n (at (take (N / 2) (secants q))) m) (h .bottom-long) ∙ secants-in f (half s) (secant-rows q) .rows m l) (rows-are f (half s) (rows q)) _ (tangents s .is) (s .args .undo) (c .before .third .ensures)
 
 pub third-spec : {M : Type 1} → statement M
 third-spec =
     tie.close
     (tie.spec
+    mul-back
+    mul-flips
+    mul-lists
     secant-sums-requires
     cosine-sums-requires
-    third-amounts-requires
-    mul-lift
-    add-lift
-    lift-requires
-    same-length
-    same-length-2
-    same-length-3
-    same-length-4
-    same-length-5
+    slice-aggregate-third
+    slice-reshare-prefix-third
+    slice-aggregate-third-2
+    mul-third
+    (λ c. search needs)
+    (λ c. search needs)
+    part-third-end
+    mul-third-2
+    (λ c. search needs)
+    (λ c. search needs)
+    part-third-end-2
+    slice-reshare-prefix-third-2
+    slice-aggregate-third-3
+    third-requires
+    (λ c. search needs)
+    (λ c. search needs)
+    (λ c. search needs)
     returns)

@@ -23,9 +23,6 @@ loop-holds c = (omega arith, filling-none _ _)
 woven-requires : tie.Need-woven-requires Inv-loop μ-loop
 woven-requires c κs = (c .before .before .pre .0, omega (arith, c .before .before .pre .1))
 
-mul-t5 : tie.Need-mul-t5 Inv-loop μ-loop
-mul-t5 c = search needs
-
 slice-set-from-out : tie.Need-slice-set-from-out Inv-loop μ-loop
 slice-set-from-out c = omega arith
 
@@ -52,7 +49,7 @@ interleave-spec =
     μ-loop
     loop-holds
     woven-requires
-    mul-t5
+    (λ c. search needs)
     slice-set-from-out
     add-i
     loop-less

@@ -34,17 +34,11 @@ fx c = small w32 (value c) (omega (arith, c .before .before .before .pre .1 .siz
 loop-holds : tie.Need-loop-holds Inv-loop μ-loop
 loop-holds c = (omega arith, filling-none _ _)
 
-mul-out : tie.Need-mul-out Inv-loop μ-loop
-mul-out c = search needs
-
 shared-slice-copy-out-out : tie.Need-shared-slice-copy-out-out Inv-loop μ-loop
 shared-slice-copy-out-out c = omega (arith, c .before .before .pre .0)
 
 cast-out : tie.Need-cast-out Inv-loop μ-loop
 cast-out c = asks-cast w32 (hx c) (fx c)
-
-mul-t9 : tie.Need-mul-t9 Inv-loop μ-loop
-mul-t9 c = search needs
 
 slice-set-from-out : tie.Need-slice-set-from-out Inv-loop μ-loop
 slice-set-from-out c = omega (arith, c .before .before .before .pre .0)
@@ -73,10 +67,10 @@ narrow-spec =
     Inv-loop
     μ-loop
     loop-holds
-    mul-out
+    (λ c. search needs)
     shared-slice-copy-out-out
     cast-out
-    mul-t9
+    (λ c. search needs)
     slice-set-from-out
     add-i
     loop-less

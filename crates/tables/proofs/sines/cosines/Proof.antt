@@ -1,7 +1,7 @@
 -- `tables::sines::cosines` meets its contract: after e turns the angle is first + e·step, less whole turns.
 use borrow.Author.Needs.{needs}
-use mathlib.Core.Path.{_≡_, refl, sym, ap, ap₂, _∙_}
-use Prim.Native.Nat.{ℕ, _+_, _-_, _*_, _%_, _≤_}
+use mathlib.Core.Path.{_≡_, sym, ap, ap₂, _∙_}
+use Prim.Native.Nat.{_+_, _-_, _*_, _%_, _≤_}
 use native.Mathlib.Nat.{mod-lt, mod-mod, add-mod}
 use native.Mathlib.Omega.{arith}
 use lib.ListN.{length}
@@ -9,16 +9,16 @@ use mir.Syntax.{w64}
 use Rattle.integers.proofs.Held.{held-ok}
 use Rattle.integers.proofs.PlaceLaws.{next-multiple}
 use Rattle.integers.proofs.Fills.{Filling, filling-none, filling-next, filling-all}
-use Rattle.tables.specs.Numbers.{sines, cosineOf}
+use Rattle.tables.specs.Numbers.{cosineOf}
 use Rattle.tables.proofs.Reading.{cosine-turn}
 use Rattle.tables.proofs.sines.cosines.Statement.{statement}
 use Rattle.tables.proofs.sines.cosines.Tie as tie
 
 abbrev Inv-loop : tie.InvT-loop
-Inv-loop first step out₀ table by j₀ e₀ out j e = (e ≤ length out₀) × Filling (λ e. cosineOf (first + e * step)) out₀ e out × (j ≡ (first + e * step) % 1024)
+Inv-loop table first step out₀ by j₀ e₀ out j e = (e ≤ length out₀) × Filling (λ e. cosineOf (first + e * step)) out₀ e out × (j ≡ (first + e * step) % 1024)
 
 abbrev μ-loop : tie.MeasureT-loop
-μ-loop first step out₀ table by j₀ e₀ out j e = length out₀ - e
+μ-loop table first step out₀ by j₀ e₀ out j e = length out₀ - e
 
 within-turn-requires : tie.Need-within-turn-requires Inv-loop μ-loop
 within-turn-requires c κs = search needs
@@ -29,22 +29,18 @@ within-turn-requires-2 c κs = search needs
 loop-holds : tie.Need-loop-holds Inv-loop μ-loop
 loop-holds c = (omega arith, filling-none _ _, c .within-turn2 .ensures ∙ ap (λ x. x % 1024) (omega arith))
 
-slice-aggregate-cosine-from : tie.Need-slice-aggregate-cosine-from Inv-loop μ-loop
-slice-aggregate-cosine-from c = search needs
+cosine-requires : tie.Need-cosine-requires Inv-loop μ-loop
+cosine-requires c κs = c .before .before .before .before .pre
 
-cosine-from-requires : tie.Need-cosine-from-requires Inv-loop μ-loop
-unfolding sines
-cosine-from-requires c κs = refl
-
-mul-t9 : tie.Need-mul-t9 Inv-loop μ-loop
-mul-t9 c = search needs
+mul-t8 : tie.Need-mul-t8 Inv-loop μ-loop
+mul-t8 c = search needs
 
 slice-set-from-out : tie.Need-slice-set-from-out Inv-loop μ-loop
 slice-set-from-out c = omega arith
 
 add-within-turn : tie.Need-add-within-turn Inv-loop μ-loop
 add-within-turn c =
-    let l = c .before .before .before in
+    let l = c .before .before in
     let a = l .before .before .before .args in
     record {
       fits = omega (arith, l .loop .inv .2, mod-lt (a .first + l .loop .e * a .step) {m = 1024} (omega arith), l .before .before .within-turn .ensures, mod-lt (a .step) {m = 1024} (omega arith));
@@ -61,10 +57,10 @@ loop-less c = omega arith
 
 loop-again : tie.Need-loop-again Inv-loop μ-loop
 loop-again c =
-    let l = c .before .before .before .before in
+    let l = c .before .before .before in
     let a = l .before .before .before .args in
     let x = a .first + l .loop .e * a .step in
-    let r = c .before .cosine-from in (
+    let r = c .before .cosine in (
       omega arith,
       filling-next (l .loop .inv .1)
           (held-ok w64 (r .result) (r .ok) .is ∙ r .ensures ∙ cosine-turn (l .loop .j) x (ap (λ j. j % 1024) (l .loop .inv .2) ∙ mod-mod x 1024)),
@@ -87,9 +83,8 @@ cosines-spec =
     within-turn-requires
     within-turn-requires-2
     loop-holds
-    slice-aggregate-cosine-from
-    cosine-from-requires
-    mul-t9
+    cosine-requires
+    mul-t8
     slice-set-from-out
     add-within-turn
     within-turn-requires-3

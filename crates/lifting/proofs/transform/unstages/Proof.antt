@@ -1,0 +1,133 @@
+-- `lifting::transform::unstages` meets its contract.
+use borrow.Author.Needs.{needs}
+use borrow.Rule.Slice.PartAt.{part-to-end}
+use native.Mathlib.Omega.{arith}
+use mathlib.Core.Path.{_≡_, sym, ap, ap₂, subst, _∙_}
+use mathlib.Core.List.{List}
+use Prim.Native.Nat.{ℕ, _+_, _-_, _/_, _≤_}
+use lib.IntN.{ℤ}
+use lib.ListN.{length, take, drop, length-drop}
+use Rattle.integers.specs.Places.{places, Within}
+use Rattle.tables.specs.Widths.{halfWidth}
+use Rattle.tables.proofs.Reading.{half-is}
+use Rattle.stages.specs.Moves.{wovenAt}
+use Rattle.stages.specs.Expanded.{untop2, unbottom1}
+use Rattle.steps.proofs.Undo.{width-half}
+use Rattle.stages.proofs.FrameSizes.{unlong2, unlong1}
+use Rattle.lifting.proofs.Parts.{part-long}
+use Rattle.lifting.proofs.FrameLaws.{unstages-halves, take-within, drop-within}
+use Rattle.lifting.proofs.transform.unstages.Statement.{statement}
+use Rattle.lifting.proofs.transform.unstages.Tie as tie
+
+module _ (s : tie.Start) where
+  abbrev N : ℕ
+  N = s .args .width
+
+  abbrev M : ℕ
+  M = halfWidth N
+
+  abbrev half : ℕ
+  half = N / 2
+
+  abbrev work : List ℤ
+  work = s .args .work .now
+
+  long : length work ≡ N
+  long = s .pre .1 .1 .1 .1 .0
+
+  inside : Within 1048576 work
+  inside = s .pre .1 .1 .1 .1 .1
+
+  half-long : (half ≡ M) × (M + M ≡ N)
+  half-long = (half-is N (s .pre .0), width-half N (s .pre .0))
+
+  half-le : half ≤ length work
+  half-le = omega (arith, half-long, long)
+
+  front-is : take half work ≡ take M work
+  front-is = ap (λ n. take n work) (half-long .0)
+
+  back-is : take (length work - half) (drop half work) ≡ drop M work
+  back-is = part-to-end work half ∙ ap (λ n. drop n work) (half-long .0)
+
+top1 : (c : tie.After-copy) → c .copy .last .1 .0 ≡ take (M (c .before .before .before)) (work (c .before .before .before))
+top1 c = c .copy .ensures ∙ front-is (c .before .before .before)
+
+bottom1 : (c : tie.After-copy2) → c .copy2 .last .1 .0 ≡ drop (M (c .before .before .before .before .before .before .before .before)) (work (c .before .before .before .before .before .before .before .before))
+bottom1 c = c .copy2 .ensures ∙ back-is (c .before .before .before .before .before .before .before .before)
+
+slice-reshare-prefix-copy : tie.Need-slice-reshare-prefix-copy
+slice-reshare-prefix-copy c = half-le c
+
+slice-aggregate-copy : tie.Need-slice-aggregate-copy
+slice-aggregate-copy c = part-long _ _ (half-le (c .before))
+
+copy-requires : tie.Need-copy-requires
+copy-requires c κs = let s = c .before .before in sym (part-long _ _ (half-le s)) ∙ half-long s .0 ∙ sym (s .pre .1 .1 .0 .top-long)
+
+sub-copy : tie.Need-sub-copy
+sub-copy c = half-le (c .before .before .before .before)
+
+part-copy-start : tie.Need-part-copy-start
+part-copy-start c = half-le (c .before .before .before .before .before)
+
+copy-requires-2 : tie.Need-copy-requires-2
+copy-requires-2 c κs = let s = c .before .before .before .before .before .before .before in ap length (back-is s) ∙ omega (arith, length-drop (M s) (work s), half-long s, long s, s .pre .1 .1 .0 .bottom-long)
+
+backward-requires : tie.Need-backward-requires
+backward-requires c κs =
+    let q = c .before .before .before .before .before in
+    let p = q .before .before .before .before .before in
+    let s = p .before .before .before in (
+      s .pre .0,
+      (
+        s .pre .1 .0,
+        (
+          record { top-long = q .before .before .before .before .top .given ∙ s .pre .1 .1 .0 .top-long; bottom-long = c .before .before .before .before .bottom .given ∙ s .pre .1 .1 .0 .bottom-long },
+          (
+            s .pre .1 .1 .1 .0,
+            (subst (Within 1048576) (sym (top1 p)) (take-within (N s) 1048576 (work s) (inside s) (M s)), subst (Within 1048576) (sym (bottom1 q)) (drop-within (N s) 1048576 (work s) (inside s) (M s))),
+          ),
+        ),
+      ),
+    )
+
+interleave-requires : tie.Need-interleave-requires
+interleave-requires c κs =
+    let g = c .before .before .before .before .before .before .before in
+    let s = g .before .before .before .before .before .before .before .before .before .before .before .before .before .before in
+    let x = ap length (g .backward .ensures .0) ∙ unlong2 (N s) _ _ in
+    let y = ap length (g .backward .ensures .1) ∙ unlong1 (N s) _ _ in
+    (x ∙ sym y, omega (arith, half-long s, long s))
+
+returns : tie.Need-returns
+returns c =
+    let j = c .before in
+    let g = j .before .before .before .before .before .before .before .before in
+    let q = g .before .before .before .before .before .before in
+    let p = q .before .before .before .before .before in
+    let s = p .before .before .before in
+    j .interleave .ensures
+    ∙ ap₂ (λ t u. places (length (work s)) (wovenAt t u)) (g .backward .ensures .0 ∙ ap₂ (untop2 (N s)) (top1 p) (bottom1 q)) (g .backward .ensures .1 ∙ ap₂ (unbottom1 (N s)) (top1 p) (bottom1 q))
+    ∙ unstages-halves (N s) (work s) (long s)
+
+pub unstages-spec : {M : Type 1} → statement M
+unstages-spec =
+    tie.close
+    (tie.spec
+    slice-reshare-prefix-copy
+    slice-aggregate-copy
+    copy-requires
+    (λ c. search needs)
+    sub-copy
+    part-copy-start
+    (λ c. search needs)
+    copy-requires-2
+    backward-requires
+    interleave-requires
+    (λ c. search needs)
+    (λ c. search needs)
+    (λ c. search needs)
+    (λ c. search needs)
+    (λ c. search needs)
+    returns)

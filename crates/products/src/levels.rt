@@ -1,0 +1,77 @@
+// A level: k lists of 2h numbers, and behind them the k sums of their halves.
+ghost use mathlib.Core.Path.{_≡_};
+ghost use Prim.Native.Nat.{_+_, _*_, _%_, _≤_};
+ghost use lib.IntN.{_+ℤ_};
+ghost use lib.ListN.{length};
+ghost use Rattle.integers.specs.Places.{at};
+ghost use Rattle.products.specs.Products.{Lists, Laid, down, up};
+ghost use Rattle.products.specs.Rooms.{Small, Written, Spread, signed};
+use crate::fours;
+
+// The sums of the halves of one list.
+fn append_list(room: &mut [i64], from: usize, to: usize, h: usize)
+    requires { ⌜ (h % 4 ≡ 0) × (from + (h + h) ≤ to) × (to + h ≤ length (now room)) ⌝ }
+    requires { ⌜ Small from (from + (h + h)) (now room) ⌝ }
+    ensures { λ _. ⌜ Written (λ j. at (now (room .entry)) (from + j) +ℤ at (now (room .entry)) (from + h + j)) to h (now (room .entry)) (now (room .exit)) ⌝ }
+{
+    let mut i = 0;
+    while i < h {
+        let x = fours::taken(room, from + i);
+        let y = fours::taken(room, from + h + i);
+        fours::put(room, to + i, fours::plus(x, y));
+        i += 4;
+    }
+}
+
+// The sums of the halves of every list, to the end.
+pub fn append(room: &mut [i64], k: usize, h: usize)
+    requires { ⌜ (h % 4 ≡ 0) × (1 ≤ k) × (k * (h + h) + k * h ≤ length (now room)) ⌝ }
+    requires { ⌜ Small 0 (k * (h + h)) (now room) ⌝ }
+    ensures { λ _. ⌜ ((a : Lists) → Laid (h + h) k a (now (room .entry)) → Laid h (3 * k) (down h k a) (now (room .exit))) ⌝ }
+{
+    let n = h + h;
+    let mut from = 0;
+    let mut to = k * n;
+    let mut v = 0;
+    while v < k {
+        append_list(room, from, to, h);
+        from += n;
+        to += h;
+        v += 1;
+    }
+}
+
+// What stands from `from` on, added to both halves of one list, or taken off.
+pub fn spread_list(less: bool, room: &mut [i64], to: usize, from: usize, h: usize)
+    requires { ⌜ (h % 4 ≡ 0) × (to + (h + h) ≤ from) × (from + h ≤ length (now room)) ⌝ }
+    requires { ⌜ Small to (from + h) (now room) ⌝ }
+    ensures { λ _. ⌜ Spread (signed less) to h from h (now (room .entry)) (now (room .exit)) ⌝ }
+{
+    let mut i = 0;
+    while i < h {
+        let z = fours::taken(room, from + i);
+        let x = fours::taken(room, to + i);
+        let y = fours::taken(room, to + h + i);
+        fours::put(room, to + i, fours::joined(less, x, z));
+        fours::put(room, to + h + i, fours::joined(less, y, z));
+        i += 4;
+    }
+}
+
+// The last k of 3k lists, added to the halves of every list.
+pub fn spread(room: &mut [i64], k: usize, h: usize)
+    requires { ⌜ (h % 4 ≡ 0) × (1 ≤ k) × (k * (h + h) + k * h ≤ length (now room)) ⌝ }
+    requires { ⌜ Small 0 (k * (h + h) + k * h) (now room) ⌝ }
+    ensures { λ _. ⌜ ((y : Lists) → Laid h (3 * k) y (now (room .entry)) → Laid (h + h) k (up h k y) (now (room .exit))) ⌝ }
+{
+    let n = h + h;
+    let mut to = 0;
+    let mut from = k * n;
+    let mut v = 0;
+    while v < k {
+        spread_list(false, room, to, from, h);
+        to += n;
+        from += h;
+        v += 1;
+    }
+}
