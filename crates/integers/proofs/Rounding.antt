@@ -74,43 +74,11 @@ nothing (negsuc n) h = absurd (omega arith)
 pub round-zero : (k : ℕ) → round k (pos 0) ≡ pos 0
 round-zero k = nothing (round k (pos 0)) (round-within k 0 (pos 0) (omega arith))
 
--- how the code rounds: with f halves of a unit in v, rounded down, f − ⌊f / 2⌋ units
-halved-le : (h : ℕ) (v f g : ℤ) → (pos h *ℤ f) ≤ℤ v → f <ℤ (pos 2 *ℤ g +ℤ pos 2) → (pos (h + h) *ℤ (f -ℤ g)) ≤ℤ (v +ℤ pos h)
-halved-le h v f g = rw (dif v, dif f, dif g) (simp zs (λ a b.
-    let m : h * suc (above f + (below g + below g)) ≤ h * (above g + above g + 2 + below f) = mul-le-mul-left h (omega arith) in
-    omega arith))
-
-halved-lt : (h : ℕ) (v f g : ℤ) → v <ℤ (pos h *ℤ f +ℤ pos h) → (pos 2 *ℤ g) ≤ℤ f → (v +ℤ pos h) <ℤ (pos (h + h) *ℤ (f -ℤ g) +ℤ pos (h + h))
-halved-lt h v f g = rw (dif v, dif f, dif g) (simp zs (λ a b.
-    let m : h * (above g + above g + below f) ≤ h * (above f + (below g + below g)) = mul-le-mul-left h (omega arith) in
-    omega arith))
-
-pub round-halves : (k : ℕ) (v : ℤ) → 0 < k → floorDiv v (2 ^ (k - 1)) -ℤ floorDiv (floorDiv v (2 ^ (k - 1))) 2 ≡ round k v
+-- rounding by a power above 0, as the code writes it
+pub round-is : (k : ℕ) (v : ℤ) → 0 < k → floorDiv (v +ℤ pos (2 ^ (k - 1))) (2 ^ k) ≡ round k v
 unfolding round
-round-halves zero v z = absurd (omega arith)
-round-halves (suc j) v z =
-    let e : suc j - 1 ≡ j = omega arith in
-    let f = floorDiv v (2 ^ j) in
-    let g = floorDiv f 2 in
-    rw (e, twice j)
-    (sym (floorDiv-unique (v +ℤ pos (2 ^ j)) (f -ℤ g) (2 ^ j + 2 ^ j) (omega (arith, pow-pos j))
-    (halved-le (2 ^ j) v f g (floorDiv-le v (2 ^ j) (pow-pos j)) (floorDiv-lt f 2 (omega arith)))
-    (halved-lt (2 ^ j) v f g (floorDiv-lt v (2 ^ j) (pow-pos j)) (floorDiv-le f 2 (omega arith)))))
-
--- what is too small for half a unit
-small-le : (h : ℕ) (v : ℤ) → mag v < h → (pos (h + h) *ℤ pos 0) ≤ℤ (v +ℤ pos h)
-small-le h v = rw (dif v) (simp zb (omega arith))
-
-small-lt : (h : ℕ) (v : ℤ) → mag v < h → (v +ℤ pos h) <ℤ (pos (h + h) *ℤ pos 0 +ℤ pos (h + h))
-small-lt h v = rw (dif v) (simp zb (omega arith))
-
-pub round-none : (k : ℕ) (v : ℤ) → 0 < k → mag v < 2 ^ (k - 1) → round k v ≡ pos 0
-unfolding round
-round-none zero v z m = absurd (omega arith)
-round-none (suc j) v z m =
-    let e : suc j - 1 ≡ j = omega arith in
-    let l = rw e at m in
-    rw (twice j) (floorDiv-unique (v +ℤ pos (2 ^ j)) (pos 0) (2 ^ j + 2 ^ j) (omega (arith, pow-pos j)) (small-le (2 ^ j) v l) (small-lt (2 ^ j) v l))
+round-is zero v z = absurd (omega arith)
+round-is (suc j) v z = ap (λ i. floorDiv (v +ℤ pos (2 ^ i)) (2 ^ suc j)) (omega arith)
 
 -- ---- a number and its divisor, both some times as large
 times-le : (c p : ℕ) (w q : ℤ) → (pos p *ℤ q) ≤ℤ w → (pos (c * p) *ℤ q) ≤ℤ (pos c *ℤ w)

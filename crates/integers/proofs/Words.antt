@@ -80,10 +80,3 @@ unfolding floorDiv above
 floor-none v (pos zero) e = refl
 floor-none v (pos (suc p)) e = absurd (omega (arith, leb→le (suc p) 0 (e .le)))
 floor-none v (negsuc p) e = refl
-
--- a number less its half, rounded down
-halving : (f g : ℤ) (H : ℕ) → (pos 2 *ℤ g) ≤ℤ f → f <ℤ (pos 2 *ℤ g +ℤ pos 2) → mag f < H → mag (f -ℤ g) < H
-halving f g H = rw (dif f, dif g) (simp zb (omega arith))
-
-pub halving-fits : (w : Width) (f : ℤ) → SFits w f → SFits w (f -ℤ floorDiv f 2)
-halving-fits w f h = record { sfits = halving f (floorDiv f 2) (2 ^ hbits w) (floorDiv-le f 2 (omega arith)) (floorDiv-lt f 2 (omega arith)) (h .sfits) }

@@ -16,7 +16,7 @@ use Rattle.tables.specs.Widths.{byWidth, halfWidth, scale}
 use Rattle.tables.proofs.ByWidth.{at-each, no-other}
 use Rattle.steps.specs.Steps.{rootLog, cosine, secant, alternate, amount1, amount2, amount3, tangent, sine, tangentAmount, sineAmount, stage1, stage2, stage3, stage4, stage5, unstage1, unstage2, unstage3, unstage4, unstage5}
 use Rattle.rows.specs.Sums.{cosineSums, secantSums, alternated}
-use Rattle.stages.specs.Moves.{moved, flipped, second, third}
+use Rattle.stages.specs.Moves.{moved, flipped, second, amount, third}
 use Rattle.stages.specs.Expanded.{Halves}
 use Rattle.stages.proofs.MoveLaws.{mirror-in}
 
@@ -42,7 +42,7 @@ module _ (S C T : ℤ) where
   times-out c r M = rw (dif S, dif C, dif T) (simp zs (omega arith))
 
   third-is : (s c r M : ℕ) → s * s ≡ c → 16 * s ≡ c * r → 64 ≡ c * M → third (pos (s * s) *ℤ S) (pos s *ℤ C) T ≡ pos c *ℤ plain r M
-  unfolding third
+  unfolding amount
   third-is s c r M e f g =
       ap (λ v. negℤ (pos (s * s) *ℤ S) -ℤ v +ℤ pos 64 *ℤ T) (sym (*ℤ-assoc (pos 16) (pos s) C))
       ∙ ap₂ (λ a b. negℤ (pos a *ℤ S) -ℤ pos b *ℤ C +ℤ pos 64 *ℤ T) e f

@@ -27,9 +27,12 @@ unfoldable pub second : Bool → ℕ → ℤ → ℤ → ℤ
 second true i x amount = flipped true i (x -ℤ amount)
 second false i x amount = flipped true i x +ℤ amount
 
--- what stage 3 adds at a place, in parts of 2^34, from the secant sum 64/M times, the cosine sum 8/√M times, and −t·top
-unfoldable pub third : ℤ → ℤ → ℤ → ℤ
-third secants cosines tangent = negℤ secants -ℤ pos 16 *ℤ cosines +ℤ pos 64 *ℤ tangent
+-- what stage 3 adds at a place, in parts of 2^34, from the secant sum 64/M times, the cosine sum 8/√M times, and −t·top: the cosine sum counts 16 times
+unfoldable pub amount : ℤ → ℤ → ℤ → ℤ → ℤ
+amount times secants cosines tangent = negℤ secants -ℤ times *ℤ cosines +ℤ pos 64 *ℤ tangent
+
+abbrev pub third : ℤ → ℤ → ℤ → ℤ
+third = amount (pos 16)
 
 -- sums so small that they fit 64 bits at the scale of all widths
 pub record Scaled (back flips y : List ℤ) : Type 0 where

@@ -95,12 +95,12 @@ pub fn second(undo: bool, back: &[i64], flips: &[i64], y: &[i64], top: &mut [i64
     }
 }
 
-// What stage 3 adds at a place, in parts of 2^34, from the secant sum, the cosine sum and −t·top.
-fn third_amount(secants: i64, cosines: i64, tangent: i64) -> i64
-    requires { ⌜ (natAbs secants ≤ 2 ^ 60) × (natAbs cosines ≤ 2 ^ 56) × (natAbs tangent ≤ 2 ^ 54) ⌝ }
-    ensures { λ r. ⌜ r ≡ Moves.third secants cosines tangent ⌝ }
+// What stage 3 adds at a place, in parts of 2^34, from the secant sum, the cosine sum so many times, and −t·top.
+fn third_amount(times: i64, secants: i64, cosines: i64, tangent: i64) -> i64
+    requires { ⌜ (natAbs times ≤ 16) × (natAbs secants ≤ 2 ^ 60) × (natAbs cosines ≤ 2 ^ 56) × (natAbs tangent ≤ 2 ^ 54) ⌝ }
+    ensures { λ r. ⌜ (r ≡ Moves.amount times secants cosines tangent) × (natAbs r ≤ 2 ^ 62) ⌝ }
 {
-    0 - secants - 16 * cosines + 64 * tangent
+    0 - secants - times * cosines + 64 * tangent
 }
 
 // Stage 3 at a place: bottom takes the three amounts rounded together, or gives them back.
@@ -126,6 +126,7 @@ fn third_at(
 {
     let j = bottom.len() - 1 - i;
     let sum = third_amount(
+        16,
         order::secant_row(z, i),
         order::row(back, flips, y, i),
         tangents[j] * top[j],

@@ -1,75 +1,54 @@
--- `integers::rounded` meets its contract: v in halves of 2^k, rounded down, less half of those, rounded down.
+-- `integers::rounded` meets its contract.
 use borrow.Author.Needs.{needs}
-use mathlib.Core.Path.{_≡_, sym, ap, ap₂, subst, _∙_}
-use Prim.Native.Nat.{ℕ, _-_, _^_, _≤_}
+use mathlib.Core.Path.{ap₂, _∙_}
+use Prim.Native.Nat.{_*_, _-_, _%_, _^_, _≤_}
 use lib.Pow.{pow-mono}
 use native.Mathlib.Omega.{arith}
-use lib.IntN.{pos, _-ℤ_}
+use lib.IntN.{pos, _+ℤ_}
 use mir.Syntax.{w64}
-use mir.Val.{SFits, ofZ, toZ}
-use Rattle.integers.specs.Floor.{above, floorDiv, round}
-use Rattle.integers.proofs.Rounding.{round-halves, round-none}
-use Rattle.integers.proofs.Held.{Held, held, held-ok, held-eq, held-power, asks-sub, h-sub}
-use Rattle.integers.proofs.Words.{halving-fits}
+use mir.Val.{SFits, ofZ}
+use Rattle.integers.specs.Floor.{above, floorDiv}
+use Rattle.integers.proofs.Order.{natAbs-+ℤ}
+use Rattle.integers.proofs.Rounding.{round-is}
+use Rattle.integers.proofs.Held.{Held, held, held-ok, held-power, asks-add, h-add}
+use Rattle.integers.proofs.Words.{small}
 use Rattle.integers.proofs.rounded.Statement.{statement}
 use Rattle.integers.proofs.rounded.Tie as tie
 
+module _ (s : tie.Start) where
+  value : Held w64 (ofZ w64 (s .args .v)) (s .args .v)
+  value = held w64 _ (s .fits .v)
+
+  half : Held w64 ((1 * 2 ^ (s .args .k - 1)) % 2 ^ 64) (pos (2 ^ (s .args .k - 1)))
+  half = held-power (s .args .k - 1) (omega (arith, s .pre))
+
+  -- v within 2^62 and half a unit within 2^61
+  fits : SFits w64 (s .args .v +ℤ pos (2 ^ (s .args .k - 1)))
+  fits =
+      let l : 2 ^ (s .args .k - 1) ≤ 2 ^ 61 = pow-mono {i = s .args .k - 1} {j = 61} (omega (arith, s .pre)) in
+      small w64 _ (omega (arith, natAbs-+ℤ (s .args .v) (pos (2 ^ (s .args .k - 1))), s .pre .2))
+
+add-floor-div : tie.Need-add-floor-div
+add-floor-div c = asks-add (value c) (half c) (fits c)
+
 returns : tie.Need-returns
-unfolding round
-returns c = held w64 _ (c .before .fits .v) .is ∙ ap (λ k. round k (c .before .args .v)) (sym (c .if1 .taken))
-
-returns-2 : tie.Need-returns-2
-returns-2 c =
-    let s = c .before .before in
-    let l : 2 ^ 63 ≤ 2 ^ (s .args .k - 1) = pow-mono {i = 63} {j = s .args .k - 1} (omega (arith, c .if2 .taken)) in
-    sym (round-none (s .args .k) (s .args .v) (omega (arith, c .if2 .taken)) (omega (arith, s .fits .v .sfits)))
-
--- v in halves of 2^k; the other call halves that
-halves : (c : tie.After-floor-div) → Held w64 (ofZ w64 (c .floor-div .result)) (floorDiv (c .before .before .before .args .v) (2 ^ (c .before .before .before .args .k - 1)))
 unfolding above
-halves c =
-    let s = c .before .before .before in
-    held-eq (held-ok w64 (c .floor-div .result) (c .floor-div .ok))
-    (c .floor-div .ensures ∙ ap₂ (λ v p. floorDiv v (above p)) (held w64 _ (s .fits .v) .is) (held-power (s .args .k - 1) (omega (arith, c .before .if2 .left, c .before .before .if1 .left)) .is))
-
-halved : (c : tie.After-floor-div2) → Held w64 (ofZ w64 (c .floor-div2 .result)) (floorDiv (floorDiv (c .before .before .before .before .args .v) (2 ^ (c .before .before .before .before .args .k - 1))) 2)
-unfolding above
-halved c =
-    held-eq (held-ok w64 (c .floor-div2 .result) (c .floor-div2 .ok)) (c .floor-div2 .ensures ∙ ap (λ f. floorDiv f 2) (halves (c .before) .is))
-
-sub-floor-div : tie.Need-sub-floor-div
-sub-floor-div c = search needs
-
-cast-floor-div : tie.Need-cast-floor-div
-cast-floor-div c = search needs
-
-shl-floor-div : tie.Need-shl-floor-div
-shl-floor-div c = search needs
-
-floor-div-requires : tie.Need-floor-div-requires
-floor-div-requires c κs = search needs
-
-floor-div-requires-2 : tie.Need-floor-div-requires-2
-floor-div-requires-2 c κs = search needs
-
-sub-result : tie.Need-sub-result
-sub-result c = asks-sub (halves (c .before)) (halved c) (halving-fits w64 _ (halves (c .before) .fits))
-
-returns-3 : tie.Need-returns-3
-returns-3 c =
-    h-sub (halves (c .before)) (halved c) (halving-fits w64 _ (halves (c .before) .fits)) .is
-    ∙ round-halves (c .before .before .before .before .args .k) (c .before .before .before .before .args .v) (omega (arith, c .before .before .before .if1 .left))
+returns c =
+    let s = c .before in
+    held-ok w64 _ (c .floor-div .ok) .is
+    ∙ c .floor-div .ensures
+    ∙ ap₂ (λ v p. floorDiv v (above p)) (h-add (value s) (half s) (fits s) .is) (held-power (s .args .k) (omega (arith, s .pre)) .is)
+    ∙ round-is (s .args .k) (s .args .v) (omega (arith, s .pre))
 
 pub rounded-spec : {M : Type 1} → statement M
 rounded-spec =
     tie.close
     (tie.spec
-    returns
-    returns-2
-    sub-floor-div
-    cast-floor-div
-    shl-floor-div
-    floor-div-requires
-    floor-div-requires-2
-    sub-result
-    returns-3)
+    (λ c. search needs)
+    (λ c. search needs)
+    (λ c. search needs)
+    add-floor-div
+    (λ c. search needs)
+    (λ c. search needs)
+    (λ c κs. search needs)
+    returns)

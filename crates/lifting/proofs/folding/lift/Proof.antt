@@ -34,6 +34,9 @@ amount c =
 mul-rounded : tie.Need-mul-rounded
 mul-rounded c = mul-asks (C c) (X c) tt
 
+rounded-requires : tie.Need-rounded-requires
+rounded-requires c κs = (omega arith, omega arith, bits-size (num-mul (C c) (X c) tt))
+
 moved-requires : tie.Need-moved-requires
 moved-requires c κs = (bits-size (Y (c .before)), omega (arith, bits-size (amount c)))
 
@@ -43,4 +46,4 @@ returns c =
     held-ok w64 _ (c .moved .ok) .is ∙ c .moved .ensures ∙ ap₂ (moved (s .args .undo)) (Y s .holds .is) (amount (c .before) .holds .is)
 
 pub lift-spec : {M : Type 1} → statement M
-lift-spec = tie.close (tie.spec mul-rounded (λ c κs. search needs) moved-requires returns)
+lift-spec = tie.close (tie.spec mul-rounded rounded-requires moved-requires returns)

@@ -57,6 +57,9 @@ shared-slice-copy-out-rounded c = omega (arith, entry-in (c .before), s (c .befo
 mul-rounded-3 : tie.Need-mul-rounded-3
 mul-rounded-3 c = let e = c .before .before .before in mul-asks (hc e) (hx e) tt
 
+rounded-requires : tie.Need-rounded-requires
+rounded-requires c κs = let e = c .before .before .before in (omega arith, omega arith, num-within (num-mul (hc e) (hx e) tt) (omega arith))
+
 -- what it adds
 module _ (r : tie.After-rounded) where
   abbrev e : tie.After-entry-place
@@ -90,6 +93,6 @@ mirrored-at-spec =
     (λ c. search needs)
     (λ c. search needs)
     mul-rounded-3
-    (λ c κs. search needs)
+    rounded-requires
     moved-requires
     returns)

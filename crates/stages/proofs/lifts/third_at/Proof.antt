@@ -60,6 +60,7 @@ mul-third-amount-3 c = mul-asks (tangent c) (top c) tt
 third-amount-requires : tie.Need-third-amount-requires
 third-amount-requires c κs =
     let t = s c .pre .1 .1 .1 .0 in (
+      omega arith,
       subst (λ v. natAbs v ≤ 2 ^ 60) (sym (secant-is c)) (secant-small c),
       subst (λ v. natAbs v ≤ 2 ^ 56) (sym (row-is c)) (t .cosine (i c) (omega (arith, s c .pre))),
       num-within (num-mul (tangent c) (top c) tt) (omega arith),
@@ -67,6 +68,9 @@ third-amount-requires c κs =
 
 third-same : {a a′ b b′ t t′ : ℤ} → a ≡ a′ → b ≡ b′ → t ≡ t′ → third a b t ≡ third a′ b′ t′
 third-same {a′ = a′} {b = b} {t = t} p q r = ap (λ x. third x b t) p ∙ ap₂ (third a′) q r
+
+rounded-requires : tie.Need-rounded-requires
+rounded-requires c κs = let a = c .before .third-amount in (omega arith, omega arith, subst (λ z. natAbs z ≤ 2 ^ 62) (sym (held-ok w64 (a .result) (a .ok) .is)) (a .ensures .1))
 
 -- what it adds
 module _ (r : tie.After-rounded) where
@@ -77,7 +81,7 @@ module _ (r : tie.After-rounded) where
   amount = third (secantOut (n c) (at (s c .args .z .now)) (i c)) (rowAt (s c .args .back .now) (s c .args .flips .now) (s c .args .y .now) (i c)) (at (s c .args .tangents .now) (j c) *ℤ at (s c .args .top .now) (j c))
 
   summed : r .before .before .third-amount .result ≡ amount
-  summed = r .before .before .third-amount .ensures ∙ third-same (secant-is c) (row-is c) (num-mul (tangent c) (top c) tt .holds .is)
+  summed = r .before .before .third-amount .ensures .0 ∙ third-same (secant-is c) (row-is c) (num-mul (tangent c) (top c) tt .holds .is)
 
   rounded : Num w64 (2 ^ 61) (ofZ w64 (r .rounded .result)) (round 34 amount)
   rounded =
@@ -112,6 +116,6 @@ third-at-spec =
     third-amount-requires
     (λ c. search needs)
     (λ c. search needs)
-    (λ c κs. search needs)
+    rounded-requires
     moved-requires
     returns)
