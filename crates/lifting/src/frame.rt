@@ -22,7 +22,7 @@ fn staged(width: usize, folded: &[i32], work: &mut [i64], frame: &mut [i32]) -> 
     if let Found::At(place) = beyond {
         return Answer::Folded(place);
     }
-    transform::alone(false, width, work);
+    transform::alone(false, width, folded, work);
     vectors::narrow(work, frame);
     Answer::Done
 }
@@ -37,7 +37,7 @@ fn unstaged(width: usize, frame: &[i32], work: &mut [i64], folded: &mut [i32]) -
     if let Found::At(place) = coefficient {
         return Answer::Range(place);
     }
-    transform::alone(true, width, work);
+    transform::alone(true, width, frame, work);
     let value = gate::first_beyond(work, 50000);
     if let Found::At(place) = value {
         return Answer::Folded(place);

@@ -14,22 +14,23 @@ use stages::room;
 use stages::vectors;
 
 // The numbers at the even places, or else at the odd ones: first is 0 or 1.
-fn every_second(x: &[i64], first: usize, out: &mut [i64])
+fn every_second(x: &[i32], first: usize, out: &mut [i64])
     requires { ⌜ (first < 2) × (length (now x) ≡ length (now out) + length (now out)) ⌝ }
     ensures { λ _. ⌜ now (out .exit) ≡ places (length (now (out .entry))) (λ i. at (now (x .entry)) (2 * i + first)) ⌝ }
 {
     let mut i = 0;
     while i < out.len() {
-        out[i] = x[2 * i + first];
+        out[i] = x[2 * i + first] as i64;
         i += 1;
     }
 }
 
-// Folded values to the frame, in place.
+// Folded values to the frame.
 pub fn stages(
     width: usize,
     t: &[i64],
-    work: &mut [i64],
+    given: &[i32],
+    out: &mut [i64],
     top: &mut [i64],
     bottom: &mut [i64],
     y: &mut [i64],
@@ -39,23 +40,24 @@ pub fn stages(
     requires { ⌜ Filled width (now t) ⌝ }
     requires { ⌜ Halves width (now top) (now bottom) ⌝ }
     requires { ⌜ Room width (now y) (now z) ⌝ }
-    requires { ⌜ length (now work) ≡ width ⌝ }
-    requires { ⌜ Within 50000 (now work) ⌝ }
-    ensures { λ _. ⌜ now (work .exit) ≡ Rattle.steps.specs.Steps.stages width (now (work .entry)) ⌝ }
+    requires { ⌜ (length (now given) ≡ width) × (length (now out) ≡ width) ⌝ }
+    requires { ⌜ Within 50000 (now given) ⌝ }
+    ensures { λ _. ⌜ now (out .exit) ≡ Rattle.steps.specs.Steps.stages width (now (given .entry)) ⌝ }
 {
     let half = width / 2;
-    every_second(work, 0, top);
-    every_second(work, 1, bottom);
+    every_second(given, 0, top);
+    every_second(given, 1, bottom);
     stages::stages::forward(width, t, top, bottom, y, z);
-    vectors::copy(top, &mut work[..half]);
-    vectors::copy(bottom, &mut work[half..]);
+    vectors::copy(top, &mut out[..half]);
+    vectors::copy(bottom, &mut out[half..]);
 }
 
-// A frame to its folded values, in place.
+// A frame to its folded values.
 pub fn unstages(
     width: usize,
     t: &[i64],
-    work: &mut [i64],
+    given: &[i32],
+    out: &mut [i64],
     top: &mut [i64],
     bottom: &mut [i64],
     y: &mut [i64],
@@ -65,15 +67,15 @@ pub fn unstages(
     requires { ⌜ Filled width (now t) ⌝ }
     requires { ⌜ Halves width (now top) (now bottom) ⌝ }
     requires { ⌜ Room width (now y) (now z) ⌝ }
-    requires { ⌜ length (now work) ≡ width ⌝ }
-    requires { ⌜ Within 1048576 (now work) ⌝ }
-    ensures { λ _. ⌜ now (work .exit) ≡ Rattle.steps.specs.Steps.unstages width (now (work .entry)) ⌝ }
+    requires { ⌜ (length (now given) ≡ width) × (length (now out) ≡ width) ⌝ }
+    requires { ⌜ Within 1048576 (now given) ⌝ }
+    ensures { λ _. ⌜ now (out .exit) ≡ Rattle.steps.specs.Steps.unstages width (now (given .entry)) ⌝ }
 {
     let half = width / 2;
-    vectors::copy(&work[..half], top);
-    vectors::copy(&work[half..], bottom);
+    vectors::widen(&given[..half], top);
+    vectors::widen(&given[half..], bottom);
     stages::stages::backward(width, t, top, bottom, y, z);
-    vectors::interleave(top, bottom, work);
+    vectors::interleave(top, bottom, out);
 }
 
 // One or the other.
@@ -81,7 +83,8 @@ fn either_way(
     undo: bool,
     width: usize,
     t: &[i64],
-    work: &mut [i64],
+    given: &[i32],
+    out: &mut [i64],
     top: &mut [i64],
     bottom: &mut [i64],
     y: &mut [i64],
@@ -91,23 +94,23 @@ fn either_way(
     requires { ⌜ Filled width (now t) ⌝ }
     requires { ⌜ Halves width (now top) (now bottom) ⌝ }
     requires { ⌜ Room width (now y) (now z) ⌝ }
-    requires { ⌜ length (now work) ≡ width ⌝ }
-    requires { ⌜ Within (cond undo 1048576 50000) (now work) ⌝ }
-    ensures { λ _. ⌜ now (work .exit) ≡ cond undo (Rattle.steps.specs.Steps.unstages width (now (work .entry))) (Rattle.steps.specs.Steps.stages width (now (work .entry))) ⌝ }
+    requires { ⌜ (length (now given) ≡ width) × (length (now out) ≡ width) ⌝ }
+    requires { ⌜ Within (cond undo 1048576 50000) (now given) ⌝ }
+    ensures { λ _. ⌜ now (out .exit) ≡ cond undo (Rattle.steps.specs.Steps.unstages width (now (given .entry))) (Rattle.steps.specs.Steps.stages width (now (given .entry))) ⌝ }
 {
     if undo {
-        unstages(width, t, work, top, bottom, y, z);
+        unstages(width, t, given, out, top, bottom, y, z);
         return;
     }
-    stages(width, t, work, top, bottom, y, z);
+    stages(width, t, given, out, top, bottom, y, z);
 }
 
 // The stages alone, in room of their own.
-pub fn alone(undo: bool, width: usize, work: &mut [i64])
+pub fn alone(undo: bool, width: usize, given: &[i32], out: &mut [i64])
     requires { ⌜ 0 < halfWidth width ⌝ }
-    requires { ⌜ length (now work) ≡ width ⌝ }
-    requires { ⌜ Within (cond undo 1048576 50000) (now work) ⌝ }
-    ensures { λ _. ⌜ now (work .exit) ≡ cond undo (Rattle.steps.specs.Steps.unstages width (now (work .entry))) (Rattle.steps.specs.Steps.stages width (now (work .entry))) ⌝ }
+    requires { ⌜ (length (now given) ≡ width) × (length (now out) ≡ width) ⌝ }
+    requires { ⌜ Within (cond undo 1048576 50000) (now given) ⌝ }
+    ensures { λ _. ⌜ now (out .exit) ≡ cond undo (Rattle.steps.specs.Steps.unstages width (now (given .entry))) (Rattle.steps.specs.Steps.stages width (now (given .entry))) ⌝ }
 {
     let half = width / 2;
     let long = fill::tables_long(width);
@@ -121,7 +124,8 @@ pub fn alone(undo: bool, width: usize, work: &mut [i64])
         undo,
         width,
         &t[..long],
-        work,
+        given,
+        out,
         &mut top[..half],
         &mut bottom[..half],
         &mut y,

@@ -5,7 +5,6 @@ ghost use Prim.Native.Nat.{_%_, _≤_, _<_, _^_};
 ghost use lib.IntN.{pos, natAbs};
 ghost use lib.ListN.{length};
 ghost use lib.Signed.{_≤ℤ_};
-ghost use Rattle.steps.specs.Limits.{readingLimit};
 ghost use Rattle.lifting.specs.Gate.{beyond};
 ghost use Rattle.run.specs.Record.{recordOf};
 ghost use Rattle.run.specs.Gate.{firstDead};
@@ -118,40 +117,40 @@ fn searched(block: &[i32]) -> Fault
     fault_in(&wide[..n])
 }
 
-// 1 for a reading that is out of range, else 0.
-fn out_of_range(value: i32) -> u32
-    ensures { λ r. ⌜ r ≡ cond (beyond (pos readingLimit) value) 1 0 ⌝ }
+// 1 for a number beyond ±limit, else 0.
+fn out_of_range(value: i32, limit: i32) -> u32
+    requires { ⌜ pos 0 ≤ℤ limit ⌝ }
+    ensures { λ r. ⌜ r ≡ cond (beyond limit value) 1 0 ⌝ }
 {
-    if 32767 < value {
+    if limit < value {
         return 1;
     }
-    if value < -32767 {
+    if value < 0 - limit {
         return 1;
     }
     0
 }
 
-// The dead mark is out of range too, so that readings in range have no fault. Those beyond are counted without a branch, which the machine does
-// several at a time.
-pub fn in_range(readings: &[i32]) -> bool
-    requires { ⌜ length (now readings) ≤ 8388608 ⌝ }
-    ensures { λ r. ⌜ r ≡ Rattle.run.specs.Gate.inside (pos readingLimit) (now (readings .entry)) ⌝ }
+// Those beyond are counted without a branch, which the machine does several at a time.
+pub fn in_range(x: &[i32], limit: i32) -> bool
+    requires { ⌜ (length (now x) ≤ 8388608) × (pos 0 ≤ℤ limit) ⌝ }
+    ensures { λ r. ⌜ r ≡ Rattle.run.specs.Gate.inside limit (now (x .entry)) ⌝ }
 {
     let mut out: u32 = 0;
     let mut i = 0;
-    while i < readings.len() {
-        out += out_of_range(readings[i]);
+    while i < x.len() {
+        out += out_of_range(x[i], limit);
         i += 1;
     }
     out == 0
 }
 
-// Questions 8 and 9.
+// Questions 8 and 9. The dead mark is out of range too, so that readings in range have no fault.
 pub fn fault_of(block: &[i32]) -> Fault
     requires { ⌜ length (now block) ≤ 128 ⌝ }
     ensures { λ r. ⌜ r ≡ faultOf (now (block .entry)) ⌝ }
 {
-    if in_range(block) {
+    if in_range(block, 32767) {
         return Fault::Clear;
     }
     searched(block)

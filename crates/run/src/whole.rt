@@ -49,7 +49,7 @@ fn first_fault(width: usize, readings: &[i32]) -> Fault
     requires { ⌜ Blocks width (now readings) ⌝ }
     ensures { λ r. ⌜ r ≡ firstFault width 0 (length (now (readings .entry)) / width) (now (readings .entry)) ⌝ }
 {
-    if gate::in_range(readings) {
+    if gate::in_range(readings, 32767) {
         return Fault::Clear;
     }
     searched(width, readings)

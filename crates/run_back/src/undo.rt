@@ -1,12 +1,14 @@
 // One frame back: its folded values, the block before it, and what it holds for the next.
 ghost use mathlib.Core.Path.{_≡_};
-ghost use Prim.Native.Nat.{_<_};
+ghost use Prim.Native.Nat.{_≤_, _<_};
+ghost use lib.IntN.{pos};
 ghost use lib.ListN.{length};
 ghost use Rattle.integers.specs.Places.{Within};
 ghost use Rattle.tables.specs.Widths.{halfWidth};
-ghost use Rattle.steps.specs.Limits.{foldedLimit};
+ghost use Rattle.steps.specs.Limits.{foldedLimit, coefficientLimit};
 ghost use Rattle.constants.specs.Filled.{Filled};
 ghost use Rattle.stages.specs.Expanded.{Halves, Room};
+ghost use Rattle.lifting.specs.Gate.{firstBeyond};
 ghost use Rattle.run.specs.Record.{opened};
 ghost use Rattle.run_back.specs.Back.{unfoldedIn, undoneIn};
 ghost use Rattle.run_back.specs.Faults.{toldFault, countAfter};
@@ -68,6 +70,18 @@ fn unfolded(
     Fault::Clear
 }
 
+// Question 9. The search is for a frame that is out of range; wide is room for it.
+fn coefficient_beyond(frame: &[i32], wide: &mut [i64]) -> Found
+    requires { ⌜ (length (now frame) ≤ 128) × (length (now frame) ≡ length (now wide)) ⌝ }
+    ensures { λ r. ⌜ r ≡ firstBeyond (pos coefficientLimit) (now (frame .entry)) 0 ⌝ }
+{
+    if run::gate::in_range(frame, 1048576) {
+        return Found::Nothing;
+    }
+    vectors::widen(frame, wide);
+    gate::first_beyond(wide, 1048576)
+}
+
 // Questions 9 to 12 of the frame behind count others, and the block before it; t has what the width takes, and what follows block is room to work in.
 pub fn undo(
     width: usize,
@@ -91,12 +105,11 @@ pub fn undo(
     requires { ⌜ Within foldedLimit (now held) ⌝ }
     ensures { λ r. ⌜ (toldFault r, opened width (countAfter count r) (now (held .exit)), now (block .exit)) ≡ undoneIn (opened width count (now (held .entry))) (now (frame .entry)) (now (block .entry)) ⌝ }
 {
-    vectors::widen(frame, folded);
-    let coefficient = gate::first_beyond(folded, 1048576);
+    let coefficient = coefficient_beyond(frame, folded);
     if let Found::At(place) = coefficient {
         return Fault::Range(place);
     }
-    transform::unstages(width, t, folded, top, bottom, y, z);
+    transform::unstages(width, t, frame, folded, top, bottom, y, z);
     let value = gate::first_beyond(folded, 50000);
     if let Found::At(place) = value {
         return Fault::Folded(place);

@@ -1,18 +1,23 @@
 -- What the code does at one place.
 use mathlib.Core.Bool.{Bool, true, false, cond}
 use mathlib.Core.List.{List}
-use Prim.Native.Nat.{ℕ, _/_, _%_, _^_, _≤_, _<_}
+use Prim.Native.Nat.{ℕ, _+_, _/_, _%_, _^_, _≤_, _<_}
 use lib.Dec.{eqb}
 use lib.IntN.{ℤ, pos, negℤ, natAbs, _+ℤ_, _-ℤ_, _*ℤ_}
 use lib.ListN.{length}
 use Rattle.integers.specs.Places.{at, Within}
 use Rattle.steps.specs.Steps.{alternate}
+use Rattle.products.specs.declared.fours.Four.{Four}
 use Rattle.rows.specs.Orders.{rowAt, secantOut}
 
 -- a step, or the step undone
 unfoldable pub moved : Bool → ℤ → ℤ → ℤ
 moved true y amount = y -ℤ amount
 moved false y amount = y +ℤ amount
+
+-- the four numbers from place i on, each with its amount
+abbrev pub movedFour : Bool → List ℤ → ℕ → Four → Four
+movedFour undo y i f = record { a = moved undo (at y i) (f .a); b = moved undo (at y (i + 1)) (f .b); c = moved undo (at y (i + 2)) (f .c); d = moved undo (at y (i + 3)) (f .d) }
 
 -- −d(i)·z, or else d(i)·z
 unfoldable pub flipped : Bool → ℕ → ℤ → ℤ

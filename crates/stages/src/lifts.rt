@@ -1,41 +1,43 @@
 // The lifts of the stages: one half of a frame moves by rounded amounts, four places at a time, all read before one is written.
 ghost use mathlib.Core.Bool.{cond};
 ghost use mathlib.Core.Path.{_≡_};
-ghost use Prim.Native.Nat.{_-_, _%_, _^_, _<_, _≤_};
+ghost use Prim.Native.Nat.{ℕ, _+_, _-_, _%_, _^_, _<_, _≤_};
 ghost use lib.IntN.{natAbs, _+ℤ_, _*ℤ_};
 ghost use lib.ListN.{length};
 ghost use Rattle.integers.specs.Floor.{round};
 ghost use Rattle.integers.specs.Places.{places, at, Within};
+ghost use Rattle.products.specs.Fours.{listed, stored};
 ghost use Rattle.rows.specs.Orders.{Order, rowAt, secantOut};
 ghost use Rattle.stages.specs.Moves;
-ghost use Rattle.stages.specs.Moves.{Scaled, Thirds};
+ghost use Rattle.stages.specs.Moves.{Scaled, Thirds, movedFour};
 use crate::vectors;
 use products::fours;
 use products::fours::Four;
 use rows::order;
 
-// Stage 1 at a place: bottom takes top and the rounded sum, or gives them back. Row m of the cosine sums is y at back(m), with the sign flips(m).
-fn first_at(
-    undo: bool,
-    back: &[i64],
-    flips: &[i64],
-    y: &[i64],
-    top: &[i64],
-    bottom: &[i64],
-    i: usize,
-) -> i64
-    requires { ⌜ i < length (now bottom) ⌝ }
-    requires { ⌜ (length (now y) ≡ length (now bottom)) × (length (now top) ≡ length (now bottom)) ⌝ }
+// The four numbers from place i on take these amounts, or give them back.
+fn move_four(undo: bool, y: &mut [i64], i: usize, amounts: Four)
+    requires { ⌜ i + 4 ≤ length (now y) ⌝ }
+    requires { ⌜ ((j : ℕ) → natAbs (at (now y) (i + j)) ≤ 2 ^ 60) ⌝ }
+    requires { ⌜ Within (2 ^ 61) (listed amounts) ⌝ }
+    ensures { λ _. ⌜ now (y .exit) ≡ stored (now (y .entry)) i (movedFour undo (now (y .entry)) i amounts) ⌝ }
+{
+    let made = fours::joined(undo, fours::taken(y, i), amounts);
+    fours::put(y, i, made);
+}
+
+// What stage 1 adds at a place: top and the rounded sum. Row m of the cosine sums is y at back(m), with the sign flips(m).
+fn first_at(back: &[i64], flips: &[i64], y: &[i64], top: &[i64], i: usize) -> i64
+    requires { ⌜ (i < length (now y)) × (length (now top) ≡ length (now y)) ⌝ }
     requires { ⌜ Order (length (now y)) (now back) (now flips) ⌝ }
     requires { ⌜ Scaled (now back) (now flips) (now y) ⌝ }
     requires { ⌜ Within (2 ^ 60) (now top) ⌝ }
-    requires { ⌜ natAbs (at (now bottom) i) ≤ 2 ^ 60 ⌝ }
-    ensures { λ r. ⌜ r ≡ Moves.moved undo (at (now (bottom .entry)) i) (at (now (top .entry)) i +ℤ round 30 (rowAt (now (back .entry)) (now (flips .entry)) (now (y .entry)) i)) ⌝ }
+    ensures { λ r. ⌜ (r ≡ at (now (top .entry)) i +ℤ round 30 (rowAt (now (back .entry)) (now (flips .entry)) (now (y .entry)) i)) × (natAbs r ≤ 2 ^ 61) ⌝ }
 {
-    let amount = top[i] + integers::rounded(order::row(back, flips, y, i), 30);
-    vectors::moved(undo, bottom[i], amount)
+    top[i] + integers::rounded(order::row(back, flips, y, i), 30)
 }
 
+// Bottom takes top and the rounded sums, or gives them back.
 pub fn first(undo: bool, back: &[i64], flips: &[i64], y: &[i64], top: &[i64], bottom: &mut [i64])
     requires { ⌜ length (now bottom) % 4 ≡ 0 ⌝ }
     requires { ⌜ (length (now y) ≡ length (now bottom)) × (length (now top) ≡ length (now bottom)) ⌝ }
@@ -47,13 +49,13 @@ pub fn first(undo: bool, back: &[i64], flips: &[i64], y: &[i64], top: &[i64], bo
 {
     let mut i = 0;
     while i < bottom.len() {
-        let made = Four {
-            a: first_at(undo, back, flips, y, top, bottom, i),
-            b: first_at(undo, back, flips, y, top, bottom, i + 1),
-            c: first_at(undo, back, flips, y, top, bottom, i + 2),
-            d: first_at(undo, back, flips, y, top, bottom, i + 3),
+        let amounts = Four {
+            a: first_at(back, flips, y, top, i),
+            b: first_at(back, flips, y, top, i + 1),
+            c: first_at(back, flips, y, top, i + 2),
+            d: first_at(back, flips, y, top, i + 3),
         };
-        fours::put(bottom, i, made);
+        move_four(undo, bottom, i, amounts);
         i += 4;
     }
 }
@@ -103,35 +105,32 @@ fn third_amount(times: i64, secants: i64, cosines: i64, tangent: i64) -> i64
     0 - secants - times * cosines + 64 * tangent
 }
 
-// Stage 3 at a place: bottom takes the three amounts rounded together, or gives them back.
+// What stage 3 adds at a place, j from the end: the three amounts rounded together.
 fn third_at(
-    undo: bool,
     tangents: &[i64],
     top: &[i64],
     z: &[i64],
     back: &[i64],
     flips: &[i64],
     y: &[i64],
-    bottom: &[i64],
     i: usize,
+    j: usize,
 ) -> i64
-    requires { ⌜ i < length (now bottom) ⌝ }
-    requires { ⌜ (length (now tangents) ≡ length (now bottom)) × (length (now top) ≡ length (now bottom)) × (length (now z) ≡ length (now bottom)) × (length (now y) ≡ length (now bottom)) × (length (now bottom) ≤ 64) ⌝ }
+    requires { ⌜ (i < length (now y)) × (j < length (now y)) ⌝ }
+    requires { ⌜ (length (now tangents) ≡ length (now y)) × (length (now top) ≡ length (now y)) × (length (now z) ≡ length (now y)) × (length (now y) ≤ 64) ⌝ }
     requires { ⌜ Order (length (now y)) (now back) (now flips) ⌝ }
     requires { ⌜ Thirds (now z) (now back) (now flips) (now y) ⌝ }
     requires { ⌜ Within (2 ^ 28) (now tangents) ⌝ }
     requires { ⌜ Within 6000000 (now top) ⌝ }
-    requires { ⌜ natAbs (at (now bottom) i) ≤ 2 ^ 60 ⌝ }
-    ensures { λ r. ⌜ r ≡ Moves.moved undo (at (now (bottom .entry)) i) (round 34 (Moves.third (secantOut (length (now (bottom .entry))) (at (now (z .entry))) i) (rowAt (now (back .entry)) (now (flips .entry)) (now (y .entry)) i) (at (now (tangents .entry)) (length (now (bottom .entry)) - 1 - i) *ℤ at (now (top .entry)) (length (now (bottom .entry)) - 1 - i)))) ⌝ }
+    ensures { λ r. ⌜ (r ≡ round 34 (Moves.third (secantOut (length (now (y .entry))) (at (now (z .entry))) i) (rowAt (now (back .entry)) (now (flips .entry)) (now (y .entry)) i) (at (now (tangents .entry)) j *ℤ at (now (top .entry)) j))) × (natAbs r ≤ 2 ^ 61) ⌝ }
 {
-    let j = bottom.len() - 1 - i;
     let sum = third_amount(
         16,
         order::secant_row(z, i),
         order::row(back, flips, y, i),
         tangents[j] * top[j],
     );
-    vectors::moved(undo, bottom[i], integers::rounded(sum, 34))
+    integers::rounded(sum, 34)
 }
 
 pub fn third(
@@ -155,57 +154,70 @@ pub fn third(
 {
     let mut i = 0;
     while i < bottom.len() {
-        let made = Four {
-            a: third_at(undo, tangents, top, z, back, flips, y, bottom, i),
-            b: third_at(undo, tangents, top, z, back, flips, y, bottom, i + 1),
-            c: third_at(undo, tangents, top, z, back, flips, y, bottom, i + 2),
-            d: third_at(undo, tangents, top, z, back, flips, y, bottom, i + 3),
+        let far = bottom.len() - 4 - i;
+        let amounts = Four {
+            a: third_at(tangents, top, z, back, flips, y, i, far + 3),
+            b: third_at(tangents, top, z, back, flips, y, i + 1, far + 2),
+            c: third_at(tangents, top, z, back, flips, y, i + 2, far + 1),
+            d: third_at(tangents, top, z, back, flips, y, i + 3, far),
         };
-        fours::put(bottom, i, made);
+        move_four(undo, bottom, i, amounts);
         i += 4;
     }
 }
 
-fn entry_place(back: bool, i: usize, mirrored: usize) -> usize
-    ensures { λ r. ⌜ r ≡ cond back mirrored i ⌝ }
-{
-    if back {
-        return mirrored;
-    }
-    i
-}
-
-// Stages 4 and 5 at a place: y takes the rounded product of c and x, x from its end, and c too where `back`; or y gives it back.
-fn mirrored_at(undo: bool, back: bool, c: &[i64], x: &[i64], y: &[i64], i: usize) -> i64
-    requires { ⌜ i < length (now y) ⌝ }
-    requires { ⌜ (length (now c) ≡ length (now y)) × (length (now x) ≡ length (now y)) ⌝ }
+// A rounded product.
+fn product_at(c: &[i64], x: &[i64], i: usize, j: usize) -> i64
+    requires { ⌜ (i < length (now c)) × (j < length (now x)) ⌝ }
     requires { ⌜ Within (2 ^ 28) (now c) ⌝ }
     requires { ⌜ Within (2 ^ 34) (now x) ⌝ }
-    requires { ⌜ natAbs (at (now y) i) ≤ 2 ^ 60 ⌝ }
-    ensures { λ r. ⌜ r ≡ Moves.moved undo (at (now (y .entry)) i) (round 28 (at (now (c .entry)) (cond back (length (now (y .entry)) - 1 - i) i) *ℤ at (now (x .entry)) (length (now (y .entry)) - 1 - i))) ⌝ }
+    ensures { λ r. ⌜ (r ≡ round 28 (at (now (c .entry)) i *ℤ at (now (x .entry)) j)) × (natAbs r ≤ 2 ^ 61) ⌝ }
 {
-    let mirrored = y.len() - 1 - i;
-    let entry = entry_place(back, i, mirrored);
-    vectors::moved(undo, y[i], integers::rounded(c[entry] * x[mirrored], 28))
+    integers::rounded(c[i] * x[j], 28)
 }
 
-pub fn mirrored(undo: bool, back: bool, c: &[i64], x: &[i64], y: &mut [i64])
+// Stage 4: y takes the rounded products of c and x, x from its end; or y gives them back.
+pub fn fourth(undo: bool, c: &[i64], x: &[i64], y: &mut [i64])
     requires { ⌜ length (now y) % 4 ≡ 0 ⌝ }
     requires { ⌜ (length (now c) ≡ length (now y)) × (length (now x) ≡ length (now y)) ⌝ }
     requires { ⌜ Within (2 ^ 28) (now c) ⌝ }
     requires { ⌜ Within (2 ^ 34) (now x) ⌝ }
     requires { ⌜ Within (2 ^ 60) (now y) ⌝ }
-    ensures { λ _. ⌜ now (y .exit) ≡ places (length (now (y .entry))) (λ i. Moves.moved undo (at (now (y .entry)) i) (round 28 (at (now (c .entry)) (cond back (length (now (y .entry)) - 1 - i) i) *ℤ at (now (x .entry)) (length (now (y .entry)) - 1 - i)))) ⌝ }
+    ensures { λ _. ⌜ now (y .exit) ≡ places (length (now (y .entry))) (λ i. Moves.moved undo (at (now (y .entry)) i) (round 28 (at (now (c .entry)) i *ℤ at (now (x .entry)) (length (now (y .entry)) - 1 - i)))) ⌝ }
 {
     let mut i = 0;
     while i < y.len() {
-        let made = Four {
-            a: mirrored_at(undo, back, c, x, y, i),
-            b: mirrored_at(undo, back, c, x, y, i + 1),
-            c: mirrored_at(undo, back, c, x, y, i + 2),
-            d: mirrored_at(undo, back, c, x, y, i + 3),
+        let far = y.len() - 4 - i;
+        let amounts = Four {
+            a: product_at(c, x, i, far + 3),
+            b: product_at(c, x, i + 1, far + 2),
+            c: product_at(c, x, i + 2, far + 1),
+            d: product_at(c, x, i + 3, far),
         };
-        fours::put(y, i, made);
+        move_four(undo, y, i, amounts);
+        i += 4;
+    }
+}
+
+// Stage 5: the same with c from its end too.
+pub fn fifth(undo: bool, c: &[i64], x: &[i64], y: &mut [i64])
+    requires { ⌜ length (now y) % 4 ≡ 0 ⌝ }
+    requires { ⌜ (length (now c) ≡ length (now y)) × (length (now x) ≡ length (now y)) ⌝ }
+    requires { ⌜ Within (2 ^ 28) (now c) ⌝ }
+    requires { ⌜ Within (2 ^ 34) (now x) ⌝ }
+    requires { ⌜ Within (2 ^ 60) (now y) ⌝ }
+    ensures { λ _. ⌜ now (y .exit) ≡ places (length (now (y .entry))) (λ i. Moves.moved undo (at (now (y .entry)) i) (round 28 (at (now (c .entry)) (length (now (y .entry)) - 1 - i) *ℤ at (now (x .entry)) (length (now (y .entry)) - 1 - i)))) ⌝ }
+{
+    let mut i = 0;
+    while i < y.len() {
+        let far = y.len() - 4 - i;
+        let amounts = Four {
+            a: product_at(c, x, far + 3, far + 3),
+            b: product_at(c, x, far + 2, far + 2),
+            c: product_at(c, x, far + 1, far + 1),
+            d: product_at(c, x, far, far),
+        };
+        move_four(undo, y, i, amounts);
         i += 4;
     }
 }

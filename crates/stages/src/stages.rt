@@ -100,7 +100,7 @@ fn fourth(undo: bool, width: usize, t: &[i64], top: &mut [i64], bottom: &[i64])
     ensures { λ _. ⌜ now (top .exit) ≡ cond undo (unstage4 width (now (top .entry)) (now (bottom .entry))) (stage4 width (now (top .entry)) (now (bottom .entry))) ⌝ }
 {
     let half = width / 2;
-    lifts::mirrored(undo, false, &t[half..width], bottom, top);
+    lifts::fourth(undo, &t[half..width], bottom, top);
 }
 
 // Stage 5: bottom, from its end, gains the rounded −t·top.
@@ -113,7 +113,7 @@ fn fifth(undo: bool, width: usize, t: &[i64], top: &[i64], bottom: &mut [i64])
     ensures { λ _. ⌜ now (bottom .exit) ≡ cond undo (unstage5 width (now (top .entry)) (now (bottom .entry))) (stage5 width (now (top .entry)) (now (bottom .entry))) ⌝ }
 {
     let half = width / 2;
-    lifts::mirrored(undo, true, &t[..half], top, bottom);
+    lifts::fifth(undo, &t[..half], top, bottom);
 }
 
 // All five stages.

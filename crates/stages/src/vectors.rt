@@ -1,10 +1,13 @@
 // Work on lists of 64-bit numbers, place by place.
 ghost use mathlib.Core.Path.{_≡_};
-ghost use Prim.Native.Nat.{_+_, _^_, _≤_, _<_};
+ghost use Prim.Native.Nat.{_+_, _%_, _^_, _≤_, _<_};
 ghost use lib.IntN.{natAbs};
 ghost use lib.ListN.{length};
 ghost use Rattle.integers.specs.Places.{places, at, Within};
+ghost use Rattle.products.specs.Fours.{listed, stored};
 ghost use Rattle.stages.specs.Moves.{moved, flipped, wovenAt};
+use products::fours;
+use products::fours::Four;
 
 // Each number to its own place.
 pub fn copy(x: &[i64], out: &mut [i64])
@@ -66,27 +69,56 @@ pub fn interleave(top: &[i64], bottom: &[i64], out: &mut [i64])
     }
 }
 
+// The four numbers from place p on, each as an i64.
+fn taken_wide(x: &[i32], p: usize) -> Four
+    requires { ⌜ p + 4 ≤ length (now x) ⌝ }
+    ensures { λ r. ⌜ listed r ≡ places 4 (λ j. at (now (x .entry)) (p + j)) ⌝ }
+{
+    Four {
+        a: x[p] as i64,
+        b: x[p + 1] as i64,
+        c: x[p + 2] as i64,
+        d: x[p + 3] as i64,
+    }
+}
+
 // The numbers, each as an i64.
 pub fn widen(x: &[i32], out: &mut [i64])
-    requires { ⌜ length (now x) ≡ length (now out) ⌝ }
+    requires { ⌜ (length (now x) ≡ length (now out)) × (length (now x) % 4 ≡ 0) ⌝ }
     ensures { λ _. ⌜ now (out .exit) ≡ now (x .entry) ⌝ }
 {
     let mut i = 0;
-    while i < x.len() {
-        out[i] = x[i] as i64;
-        i += 1;
+    while i < out.len() {
+        fours::put(out, i, taken_wide(x, i));
+        i += 4;
     }
+}
+
+// Four numbers from place p on, each as an i32.
+fn put_narrow(out: &mut [i32], p: usize, f: Four)
+    requires { ⌜ p + 4 ≤ length (now out) ⌝ }
+    requires { ⌜ Within (2 ^ 30) (listed f) ⌝ }
+    ensures { λ _. ⌜ now (out .exit) ≡ stored (now (out .entry)) p f ⌝ }
+{
+    let a = f.a as i32;
+    let b = f.b as i32;
+    let c = f.c as i32;
+    let d = f.d as i32;
+    out[p] = a;
+    out[p + 1] = b;
+    out[p + 2] = c;
+    out[p + 3] = d;
 }
 
 // The numbers, each as an i32.
 pub fn narrow(x: &[i64], out: &mut [i32])
-    requires { ⌜ length (now x) ≡ length (now out) ⌝ }
+    requires { ⌜ (length (now x) ≡ length (now out)) × (length (now x) % 4 ≡ 0) ⌝ }
     requires { ⌜ Within (2 ^ 30) (now x) ⌝ }
     ensures { λ _. ⌜ now (out .exit) ≡ now (x .entry) ⌝ }
 {
     let mut i = 0;
     while i < out.len() {
-        out[i] = x[i] as i32;
-        i += 1;
+        put_narrow(out, i, fours::taken(x, i));
+        i += 4;
     }
 }

@@ -30,10 +30,13 @@ module _ (s : tie.Start) where
   half = N / 2
 
   abbrev work : List ℤ
-  work = s .args .work .now
+  work = s .args .given .now
 
   long : length work ≡ N
-  long = s .pre .1 .1 .1 .1 .0
+  long = s .pre .1 .1 .1 .1 .0 .0
+
+  out-long : length (s .args .out .now) ≡ N
+  out-long = s .pre .1 .1 .1 .1 .0 .1
 
   inside : Within 1048576 work
   inside = s .pre .1 .1 .1 .1 .1
@@ -50,29 +53,29 @@ module _ (s : tie.Start) where
   back-is : take (length work - half) (drop half work) ≡ drop M work
   back-is = part-to-end work half ∙ ap (λ n. drop n work) (half-long .0)
 
-top1 : (c : tie.After-copy) → c .copy .last .1 .0 ≡ take (M (c .before .before .before)) (work (c .before .before .before))
-top1 c = c .copy .ensures ∙ front-is (c .before .before .before)
+top1 : (c : tie.After-widen) → c .widen .last .1 .0 ≡ take (M (c .before .before .before)) (work (c .before .before .before))
+top1 c = c .widen .ensures ∙ front-is (c .before .before .before)
 
-bottom1 : (c : tie.After-copy2) → c .copy2 .last .1 .0 ≡ drop (M (c .before .before .before .before .before .before .before .before)) (work (c .before .before .before .before .before .before .before .before))
-bottom1 c = c .copy2 .ensures ∙ back-is (c .before .before .before .before .before .before .before .before)
+bottom1 : (c : tie.After-widen2) → c .widen2 .last .1 .0 ≡ drop (M (c .before .before .before .before .before .before .before .before)) (work (c .before .before .before .before .before .before .before .before))
+bottom1 c = c .widen2 .ensures ∙ back-is (c .before .before .before .before .before .before .before .before)
 
-slice-reshare-prefix-copy : tie.Need-slice-reshare-prefix-copy
-slice-reshare-prefix-copy c = half-le c
+slice-reshare-prefix-widen : tie.Need-slice-reshare-prefix-widen
+slice-reshare-prefix-widen c = half-le c
 
-slice-aggregate-copy : tie.Need-slice-aggregate-copy
-slice-aggregate-copy c = part-long _ _ (half-le (c .before))
+slice-aggregate-widen : tie.Need-slice-aggregate-widen
+slice-aggregate-widen c = part-long _ _ (half-le (c .before))
 
-copy-requires : tie.Need-copy-requires
-copy-requires c κs = let s = c .before .before in sym (part-long _ _ (half-le s)) ∙ half-long s .0 ∙ sym (s .pre .1 .1 .0 .top-long)
+widen-requires : tie.Need-widen-requires
+widen-requires c κs = let s = c .before .before in sym (part-long _ _ (half-le s)) ∙ half-long s .0 ∙ sym (s .pre .1 .1 .0 .top-long)
 
-sub-copy : tie.Need-sub-copy
-sub-copy c = half-le (c .before .before .before .before)
+sub-widen : tie.Need-sub-widen
+sub-widen c = half-le (c .before .before .before .before)
 
-part-copy-start : tie.Need-part-copy-start
-part-copy-start c = half-le (c .before .before .before .before .before)
+part-widen-start : tie.Need-part-widen-start
+part-widen-start c = half-le (c .before .before .before .before .before)
 
-copy-requires-2 : tie.Need-copy-requires-2
-copy-requires-2 c κs = let s = c .before .before .before .before .before .before .before in ap length (back-is s) ∙ omega (arith, length-drop (M s) (work s), half-long s, long s, s .pre .1 .1 .0 .bottom-long)
+widen-requires-2 : tie.Need-widen-requires-2
+widen-requires-2 c κs = let s = c .before .before .before .before .before .before .before in ap length (back-is s) ∙ omega (arith, length-drop (M s) (work s), half-long s, long s, s .pre .1 .1 .0 .bottom-long)
 
 backward-requires : tie.Need-backward-requires
 backward-requires c κs =
@@ -98,7 +101,7 @@ interleave-requires c κs =
     let s = g .before .before .before .before .before .before .before .before .before .before .before .before .before .before in
     let x = ap length (g .backward .ensures .0) ∙ unlong2 (N s) _ _ in
     let y = ap length (g .backward .ensures .1) ∙ unlong1 (N s) _ _ in
-    (x ∙ sym y, omega (arith, half-long s, long s))
+    (x ∙ sym y, omega (arith, half-long s, out-long s))
 
 returns : tie.Need-returns
 returns c =
@@ -108,21 +111,21 @@ returns c =
     let p = q .before .before .before .before .before in
     let s = p .before .before .before in
     j .interleave .ensures
-    ∙ ap₂ (λ t u. places (length (work s)) (wovenAt t u)) (g .backward .ensures .0 ∙ ap₂ (untop2 (N s)) (top1 p) (bottom1 q)) (g .backward .ensures .1 ∙ ap₂ (unbottom1 (N s)) (top1 p) (bottom1 q))
+    ∙ ap (λ n. places n _) (out-long s ∙ sym (long s)) ∙ ap₂ (λ t u. places (length (work s)) (wovenAt t u)) (g .backward .ensures .0 ∙ ap₂ (untop2 (N s)) (top1 p) (bottom1 q)) (g .backward .ensures .1 ∙ ap₂ (unbottom1 (N s)) (top1 p) (bottom1 q))
     ∙ unstages-halves (N s) (work s) (long s)
 
 pub unstages-spec : {M : Type 1} → statement M
 unstages-spec =
     tie.close
     (tie.spec
-    slice-reshare-prefix-copy
-    slice-aggregate-copy
-    copy-requires
+    slice-reshare-prefix-widen
+    slice-aggregate-widen
+    widen-requires
     (λ c. search needs)
-    sub-copy
-    part-copy-start
+    sub-widen
+    part-widen-start
     (λ c. search needs)
-    copy-requires-2
+    widen-requires-2
     backward-requires
     interleave-requires
     (λ c. search needs)

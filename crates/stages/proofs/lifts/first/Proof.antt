@@ -1,14 +1,15 @@
 -- `stages::lifts::first` meets its contract.
 use native.Mathlib.Omega.{arith}
 use mathlib.Core.Path.{_≡_, sym, subst, _∙_}
+use mathlib.Core.List.{List}
 use Prim.Native.Nat.{ℕ, _+_, _-_, _^_, _≤_, _<_}
-use lib.IntN.{natAbs, _+ℤ_}
+use lib.IntN.{ℤ, _+ℤ_}
 use lib.ListN.{length}
 use Rattle.integers.specs.Floor.{round}
 use Rattle.integers.specs.Places.{at, Within}
 use Rattle.rows.specs.Orders.{Order, rowAt}
 use Rattle.stages.specs.Moves.{moved, Scaled}
-use Rattle.stages.proofs.FourLaws.{Turns, turns-none, turns-long, turns-left, turns-size, turns-next, turns-all}
+use Rattle.stages.proofs.FourLaws.{Turns, Gave, amounts-within, turns-none, turns-long, turns-left, turns-size, turns-moved, turns-all}
 use Rattle.stages.proofs.lifts.first.Statement.{statement}
 use Rattle.stages.proofs.lifts.first.Tie as tie
 
@@ -25,66 +26,84 @@ module _ (k : tie.At-loop Inv-loop μ-loop) where
   abbrev i : ℕ
   i = k .loop .i
 
-  long : length (k .loop .bottom) ≡ length (s .args .bottom .now)
+  abbrev list : List ℤ
+  list = k .loop .bottom
+
+  long : length list ≡ length (s .args .bottom .now)
   long = turns-long (k .loop .inv)
 
-  module _ (l : i < length (k .loop .bottom)) where
-    left : i + 4 ≤ length (k .loop .bottom)
+  -- what a turn adds at a place
+  abbrev amount : ℕ → ℕ → ℤ
+  amount n j = at (s .args .top .now) j +ℤ round 30 (rowAt (s .args .back .now) (s .args .flips .now) (s .args .y .now) j)
+
+  module _ (l : i < length list) where
+    left : i + 4 ≤ length list
     left = turns-left (k .loop .inv) (s .pre .0) l
 
-    -- what a turn asks at a place
-    asked : (j : ℕ) → i ≤ j → j < i + 4
-        → (j < length (k .loop .bottom)) × (((length (s .args .y .now) ≡ length (k .loop .bottom)) × (length (s .args .top .now) ≡ length (k .loop .bottom))) × (Order (length (s .args .y .now)) (s .args .back .now) (s .args .flips .now) × (Scaled (s .args .back .now) (s .args .flips .now) (s .args .y .now) × (Within (2 ^ 60) (s .args .top .now) × (natAbs (at (k .loop .bottom) j) ≤ 2 ^ 60)))))
-    asked j a b = (
-      omega (arith, left),
-      (
-        (s .pre .1 .0 .0 ∙ sym long, s .pre .1 .0 .1 ∙ sym long),
-        (s .pre .1 .1 .0, (s .pre .1 .1 .1 .0, (s .pre .1 .1 .1 .1 .0, turns-size (k .loop .inv) (s .pre .1 .1 .1 .1 .1) j a))),
-      ),
-    )
+    -- what a call is asked
+    asked : {j : ℕ} → j < length list
+        → ((j < length (s .args .y .now)) × (length (s .args .top .now) ≡ length (s .args .y .now))) × (Order (length (s .args .y .now)) (s .args .back .now) (s .args .flips .now) × (Scaled (s .args .back .now) (s .args .flips .now) (s .args .y .now) × Within (2 ^ 60) (s .args .top .now)))
+    asked a = ((omega (arith, long, s .pre .1 .0), s .pre .1 .0 .1 ∙ sym (s .pre .1 .0 .0)), (s .pre .1 .1 .0, (s .pre .1 .1 .1 .0, s .pre .1 .1 .1 .1 .0)))
 
 loop-holds : tie.Need-loop-holds Inv-loop μ-loop
 loop-holds c = turns-none _ _
 
 first-at-requires : tie.Need-first-at-requires Inv-loop μ-loop
-first-at-requires c κs = let k = c .before .before in asked k (c .before .loop-test .taken) (i k) (omega arith) (omega arith)
+first-at-requires c κs = let l = left (c .before) (c .loop-test .taken) in asked (c .before) (c .loop-test .taken) (omega (arith, l))
 
 add-first-at : tie.Need-add-first-at Inv-loop μ-loop
-add-first-at c = let k = c .before .before .before .before in record { fits = omega (arith, left k (c .before .before .before .loop-test .taken)) }
+add-first-at c = record { fits = omega (arith, left (c .before .before) (c .before .loop-test .taken)) }
 
 first-at-requires-2 : tie.Need-first-at-requires-2 Inv-loop μ-loop
-first-at-requires-2 c κs = let k = c .before .before .before .before in asked k (c .before .before .before .loop-test .taken) (i k + 1) (omega arith) (omega arith)
+first-at-requires-2 c κs = let l = left (c .before .before) (c .before .loop-test .taken) in asked (c .before .before) (c .before .loop-test .taken) (omega (arith, l))
 
 add-first-at-2 : tie.Need-add-first-at-2 Inv-loop μ-loop
-add-first-at-2 c = let k = c .before .before .before .before .before .before in record { fits = omega (arith, left k (c .before .before .before .before .before .loop-test .taken)) }
+add-first-at-2 c = record { fits = omega (arith, left (c .before .before .before) (c .before .before .loop-test .taken)) }
 
 first-at-requires-3 : tie.Need-first-at-requires-3 Inv-loop μ-loop
-first-at-requires-3 c κs = let k = c .before .before .before .before .before .before in asked k (c .before .before .before .before .before .loop-test .taken) (i k + 2) (omega arith) (omega arith)
+first-at-requires-3 c κs = let l = left (c .before .before .before) (c .before .before .loop-test .taken) in asked (c .before .before .before) (c .before .before .loop-test .taken) (omega (arith, l))
 
 add-first-at-3 : tie.Need-add-first-at-3 Inv-loop μ-loop
-add-first-at-3 c = let k = c .before .before .before .before .before .before .before .before in record { fits = omega (arith, left k (c .before .before .before .before .before .before .before .loop-test .taken)) }
+add-first-at-3 c = record { fits = omega (arith, left (c .before .before .before .before) (c .before .before .before .loop-test .taken)) }
 
 first-at-requires-4 : tie.Need-first-at-requires-4 Inv-loop μ-loop
-first-at-requires-4 c κs = let k = c .before .before .before .before .before .before .before .before in asked k (c .before .before .before .before .before .before .before .loop-test .taken) (i k + 3) (omega arith) (omega arith)
+first-at-requires-4 c κs = let l = left (c .before .before .before .before) (c .before .before .before .loop-test .taken) in asked (c .before .before .before .before) (c .before .before .before .loop-test .taken) (omega (arith, l))
 
-put-requires : tie.Need-put-requires Inv-loop μ-loop
-put-requires c κs = let k = c .before .before .before .before .before .before .before .before .before .before in left k (c .before .before .before .before .before .before .before .before .before .loop-test .taken)
+-- the amounts of a turn
+module _ (c : tie.After-first-at4 Inv-loop μ-loop) where
+  abbrev k : tie.At-loop Inv-loop μ-loop
+  k = c .before .before .before .before .before
+
+  abbrev here : i k < length (list k)
+  here = c .before .before .before .before .loop-test .taken
+
+  a : Gave (c .before .before .before .first-at .result) (amount k (length (list k)) (i k))
+  a = let r = c .before .before .before .first-at in record { ok = r .ok; is = r .ensures .0; small = r .ensures .1 }
+
+  b : Gave (c .before .before .first-at2 .result) (amount k (length (list k)) (i k + 1))
+  b = let r = c .before .before .first-at2 in record { ok = r .ok; is = r .ensures .0; small = r .ensures .1 }
+
+  d : Gave (c .before .first-at3 .result) (amount k (length (list k)) (i k + 2))
+  d = let r = c .before .first-at3 in record { ok = r .ok; is = r .ensures .0; small = r .ensures .1 }
+
+  e : Gave (c .first-at4 .result) (amount k (length (list k)) (i k + 3))
+  e = let r = c .first-at4 in record { ok = r .ok; is = r .ensures .0; small = r .ensures .1 }
+
+move-four-requires : tie.Need-move-four-requires Inv-loop μ-loop
+move-four-requires c κs = let q = c .before in (left (k q) (here q), (λ j. turns-size (k q .loop .inv) (s (k q) .pre .1 .1 .1 .1 .1) _ (omega arith), amounts-within (a q) (b q) (d q) (e q)))
 
 add-i : tie.Need-add-i Inv-loop μ-loop
-add-i c = let k = c .before .before .before .before .before .before .before .before .before .before .before .before in record { fits = omega (arith, left k (c .before .before .before .before .before .before .before .before .before .before .before .loop-test .taken)) }
+add-i c = let q = c .before .before .before in let t = k q in record { fits = omega (arith, left t (here q)) }
 
 loop-less : tie.Need-loop-less Inv-loop μ-loop
-loop-less c = let k = c .before .before .before .before .before .before .before .before .before .before .before .before in omega (arith, long k, c .before .before .before .before .before .before .before .before .before .before .before .loop-test .taken)
+loop-less c = let q = c .before .before .before in omega (arith, long (k q), here q)
 
 loop-again : tie.Need-loop-again Inv-loop μ-loop
 loop-again c =
-    let k = c .before .before .before .before .before .before .before .before .before .before .before .before in
-    subst (Turns _ (s k .args .bottom .now) (i k + 4)) (sym (c .before .put .ensures))
-    (turns-next (k .loop .inv) (s k .pre .0) (c .before .before .before .before .before .before .before .before .before .before .before .loop-test .taken)
-    (c .before .before .before .before .before .before .before .before .before .first-at .ok) (c .before .before .before .before .before .before .before .before .before .first-at .ensures)
-    (c .before .before .before .before .before .before .before .first-at2 .ok) (c .before .before .before .before .before .before .before .first-at2 .ensures)
-    (c .before .before .before .before .before .first-at3 .ok) (c .before .before .before .before .before .first-at3 .ensures)
-    (c .before .before .before .first-at4 .ok) (c .before .before .before .first-at4 .ensures))
+    let q = c .before .before .before in
+    let z = s (k q) in
+    subst (Turns _ (z .args .bottom .now) (i (k q) + 4)) (sym (c .before .move-four .ensures))
+    (turns-moved (z .args .undo) (amount (k q)) (list (k q)) (k q .loop .inv) (z .pre .0) (here q) (a q) (b q) (d q) (e q))
 
 same-length : tie.Need-same-length Inv-loop μ-loop
 same-length c = long (c .before)
@@ -106,7 +125,7 @@ first-spec =
     first-at-requires-3
     add-first-at-3
     first-at-requires-4
-    put-requires
+    move-four-requires
     add-i
     loop-less
     loop-again

@@ -14,7 +14,7 @@ use Rattle.integers.proofs.Held.{held-ok}
 use Rattle.integers.proofs.Num.{Num, num, num-call, num-mul, mul-asks}
 use Rattle.integers.proofs.Rounding.{round-within}
 use Rattle.rows.specs.Orders.{rowAt, secantOut}
-use Rattle.stages.specs.Moves.{moved, third}
+use Rattle.stages.specs.Moves.{third}
 use Rattle.stages.proofs.NumLaws.{num-within}
 use Rattle.stages.proofs.lifts.third_at.Statement.{statement}
 use Rattle.stages.proofs.lifts.third_at.Tie as tie
@@ -22,8 +22,7 @@ use Rattle.stages.proofs.lifts.third_at.Tie as tie
 row-requires : tie.Need-row-requires
 row-requires c κs =
     let s = c .before in
-    let l : s .args .i < length (s .args .y .now) = omega (arith, s .pre) in
-    (l, (s .pre .1 .1 .0, omega (arith, s .pre .1 .1 .1 .0 .cosine (s .args .i) l)))
+    (s .pre .0 .0, (s .pre .1 .1 .0, omega (arith, s .pre .1 .1 .1 .0 .cosine (s .args .i) (s .pre .0 .0))))
 
 -- what a turn reads
 module _ (c : tie.After-third-amount-arg2) where
@@ -34,10 +33,10 @@ module _ (c : tie.After-third-amount-arg2) where
   i = s .args .i
 
   abbrev n : ℕ
-  n = length (s .args .bottom .now)
+  n = length (s .args .y .now)
 
   abbrev j : ℕ
-  j = n - 1 - i
+  j = s .args .j
 
   secant-is : toZ w64 (ofZ w64 (c .before .before .before .secant-row .result)) ≡ secantOut n (at (s .args .z .now)) i
   secant-is = held-ok w64 _ (c .before .before .before .secant-row .ok) .is ∙ c .before .before .before .secant-row .ensures ∙ ap (λ m. secantOut m (at (s .args .z .now)) i) (s .pre .1 .0 .2)
@@ -49,10 +48,10 @@ module _ (c : tie.After-third-amount-arg2) where
   tangent = num w64 _ (s .pre .1 .1 .1 .1 .0 .size j) tt
 
   top : Num w64 6000000 (ofZ w64 (at (s .args .top .now) j)) (at (s .args .top .now) j)
-  top = num w64 _ (s .pre .1 .1 .1 .1 .1 .0 .size j) tt
+  top = num w64 _ (s .pre .1 .1 .1 .1 .1 .size j) tt
 
   secant-small : natAbs (secantOut n (at (s .args .z .now)) i) ≤ 2 ^ 60
-  secant-small = subst (λ m. natAbs (secantOut m (at (s .args .z .now)) i) ≤ 2 ^ 60) (s .pre .1 .0 .3) (s .pre .1 .1 .1 .0 .secant i (omega (arith, s .pre)))
+  secant-small = s .pre .1 .1 .1 .0 .secant i (s .pre .0 .0)
 
 mul-third-amount-3 : tie.Need-mul-third-amount-3
 mul-third-amount-3 c = mul-asks (tangent c) (top c) tt
@@ -62,7 +61,7 @@ third-amount-requires c κs =
     let t = s c .pre .1 .1 .1 .0 in (
       omega arith,
       subst (λ v. natAbs v ≤ 2 ^ 60) (sym (secant-is c)) (secant-small c),
-      subst (λ v. natAbs v ≤ 2 ^ 56) (sym (row-is c)) (t .cosine (i c) (omega (arith, s c .pre))),
+      subst (λ v. natAbs v ≤ 2 ^ 56) (sym (row-is c)) (t .cosine (i c) (s c .pre .0 .0)),
       num-within (num-mul (tangent c) (top c) tt) (omega arith),
     )
 
@@ -70,42 +69,32 @@ third-same : {a a′ b b′ t t′ : ℤ} → a ≡ a′ → b ≡ b′ → t �
 third-same {a′ = a′} {b = b} {t = t} p q r = ap (λ x. third x b t) p ∙ ap₂ (third a′) q r
 
 rounded-requires : tie.Need-rounded-requires
-rounded-requires c κs = let a = c .before .third-amount in (omega arith, omega arith, subst (λ z. natAbs z ≤ 2 ^ 62) (sym (held-ok w64 (a .result) (a .ok) .is)) (a .ensures .1))
+rounded-requires c κs = let a = c .third-amount in (omega arith, omega arith, subst (λ z. natAbs z ≤ 2 ^ 62) (sym (held-ok w64 (a .result) (a .ok) .is)) (a .ensures .1))
 
 -- what it adds
 module _ (r : tie.After-rounded) where
   abbrev c : tie.After-third-amount-arg2
-  c = r .before .before .before
+  c = r .before .before
 
   abbrev amount : ℤ
   amount = third (secantOut (n c) (at (s c .args .z .now)) (i c)) (rowAt (s c .args .back .now) (s c .args .flips .now) (s c .args .y .now) (i c)) (at (s c .args .tangents .now) (j c) *ℤ at (s c .args .top .now) (j c))
 
-  summed : r .before .before .third-amount .result ≡ amount
-  summed = r .before .before .third-amount .ensures .0 ∙ third-same (secant-is c) (row-is c) (num-mul (tangent c) (top c) tt .holds .is)
+  summed : r .before .third-amount .result ≡ amount
+  summed = r .before .third-amount .ensures .0 ∙ third-same (secant-is c) (row-is c) (num-mul (tangent c) (top c) tt .holds .is)
 
   rounded : Num w64 (2 ^ 61) (ofZ w64 (r .rounded .result)) (round 34 amount)
   rounded =
-      let ok = r .before .before .third-amount .ok in
+      let ok = r .before .third-amount .ok in
       num-call w64 _ (r .rounded .ok) (r .rounded .ensures ∙ ap (round 34) (held-ok w64 _ ok .is ∙ summed))
-      (round-within 34 (2 ^ 61) amount (subst (λ v. natAbs v ≤ 2 ^ 34 * 2 ^ 61) summed (omega (arith, natAbs-le (r .before .before .third-amount .result) ok))))
-
-  bottom : Num w64 (2 ^ 60) (ofZ w64 (at (s c .args .bottom .now) (i c))) (at (s c .args .bottom .now) (i c))
-  bottom = num w64 _ (s c .pre .1 .1 .1 .1 .1 .1) tt
-
-moved-requires : tie.Need-moved-requires
-moved-requires c κs = (num-within (bottom c) (omega arith), num-within (rounded c) (omega arith))
+      (round-within 34 (2 ^ 61) amount (subst (λ v. natAbs v ≤ 2 ^ 34 * 2 ^ 61) summed (omega (arith, natAbs-le (r .before .third-amount .result) ok))))
 
 returns : tie.Need-returns
-returns c =
-    let r = c .before in
-    held-ok w64 _ (c .moved .ok) .is ∙ c .moved .ensures ∙ ap₂ (moved (s (r .before .before .before) .args .undo)) (bottom r .holds .is) (rounded r .holds .is)
+returns c = (rounded c .holds .is, num-within (rounded c) (omega arith))
 
 pub third-at-spec : {M : Type 1} → statement M
 third-at-spec =
     tie.close
     (tie.spec
-    (λ c. search needs)
-    (λ c. search needs)
     (λ c κs. search needs)
     row-requires
     (λ c. search needs)
@@ -114,8 +103,5 @@ third-at-spec =
     (λ c. search needs)
     mul-third-amount-3
     third-amount-requires
-    (λ c. search needs)
-    (λ c. search needs)
     rounded-requires
-    moved-requires
     returns)

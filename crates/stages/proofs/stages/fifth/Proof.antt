@@ -21,11 +21,11 @@ module _ (s : tie.Start) where
   tangents : Tangents (s .args .width) (take (s .args .width / 2) (s .args .t .now))
   tangents = record { is = tangents-part (s .pre .1 .0) half }
 
-slice-aggregate-mirrored : tie.Need-slice-aggregate-mirrored
-slice-aggregate-mirrored c = let s = c .before in sym (length-take-le (s .args .width / 2) (s .args .t .now) (omega (arith, tables-room (s .pre .1 .0) (half s))))
+slice-aggregate-fifth : tie.Need-slice-aggregate-fifth
+slice-aggregate-fifth c = let s = c .before in sym (length-take-le (s .args .width / 2) (s .args .t .now) (omega (arith, tables-room (s .pre .1 .0) (half s))))
 
-mirrored-requires : tie.Need-mirrored-requires
-mirrored-requires c κs =
+fifth-requires : tie.Need-fifth-requires
+fifth-requires c κs =
     let s = c .before .before in
     let h = s .pre .1 .1 .0 in
     let b = sym (h .bottom-long) in (
@@ -36,7 +36,7 @@ mirrored-requires c κs =
 returns : tie.Need-returns
 returns c =
     let s = c .before .before .before .before in
-    stage5-is (s .args .width) (s .args .top .now) (s .args .bottom .now) (s .pre .1 .1 .0) _ (tangents s .is) (s .args .undo) (c .before .mirrored .ensures)
+    stage5-is (s .args .width) (s .args .top .now) (s .args .bottom .now) (s .pre .1 .1 .0) _ (tangents s .is) (s .args .undo) (c .before .fifth .ensures)
 
 pub fifth-spec : {M : Type 1} → statement M
-fifth-spec = tie.close (tie.spec slice-aggregate-mirrored mirrored-requires (λ c. search needs) returns)
+fifth-spec = tie.close (tie.spec slice-aggregate-fifth fifth-requires (λ c. search needs) returns)

@@ -21,14 +21,14 @@ module _ (s : tie.Start) where
   sines : Sines (s .args .width) (take (s .args .width - s .args .width / 2) (drop (s .args .width / 2) (s .args .t .now)))
   sines = record { is = sines-part (s .pre .1 .0) half (s .pre .0) }
 
-mul-mirrored : tie.Need-mul-mirrored
-mul-mirrored c = record { fits = omega (arith, half-small (c .pre .1 .0) (half c)) }
+mul-fourth : tie.Need-mul-fourth
+mul-fourth c = record { fits = omega (arith, half-small (c .pre .1 .0) (half c)) }
 
-part-mirrored-end : tie.Need-part-mirrored-end
-part-mirrored-end c = omega (arith, tables-room (c .pre .1 .0) (half c), half c, width-half (c .args .width) (c .pre .0))
+part-fourth-end : tie.Need-part-fourth-end
+part-fourth-end c = omega (arith, tables-room (c .pre .1 .0) (half c), half c, width-half (c .args .width) (c .pre .0))
 
-mirrored-requires : tie.Need-mirrored-requires
-mirrored-requires c κs =
+fourth-requires : tie.Need-fourth-requires
+fourth-requires c κs =
     let s = c .before .before in
     let h = s .pre .1 .1 .0 in
     let t = sym (h .top-long) in (
@@ -39,7 +39,7 @@ mirrored-requires c κs =
 returns : tie.Need-returns
 returns c =
     let s = c .before .before .before .before in
-    stage4-is (s .args .width) (s .args .top .now) (s .args .bottom .now) (s .pre .1 .1 .0) _ (sines s .is) (s .args .undo) (c .before .mirrored .ensures)
+    stage4-is (s .args .width) (s .args .top .now) (s .args .bottom .now) (s .pre .1 .1 .0) _ (sines s .is) (s .args .undo) (c .before .fourth .ensures)
 
 pub fourth-spec : {M : Type 1} → statement M
-fourth-spec = tie.close (tie.spec mul-mirrored (λ c. search needs) (λ c. search needs) part-mirrored-end mirrored-requires (λ c. search needs) returns)
+fourth-spec = tie.close (tie.spec mul-fourth (λ c. search needs) (λ c. search needs) part-fourth-end fourth-requires (λ c. search needs) returns)
