@@ -21,7 +21,7 @@ use Rattle.lifting.specs.Gate.{beyond, firstBeyond}
 use Rattle.lifting.specs.declared.gate.Found.the-variants.{At, Nothing}
 use Rattle.lifting.proofs.GateLaws.{stops, goes-on, ends}
 use Rattle.run.specs.declared.record.Run.{Run}
-use Rattle.run.specs.Gate.{nothing, inside, every, sound, dead, firstDead, firstOut}
+use Rattle.run.specs.Gate.{nothing, inside, every, sound, dead, firstDead}
 use Rattle.run.proofs.StepLaws.{all-within}
 use Rattle.run.proofs.Searches.{All, none-found, inside-all, all-inside}
 use Rattle.run.proofs.RecordLaws.{all-take, all-drop}
@@ -52,21 +52,21 @@ pub within : (limit : ℤ) (xs : List ℤ) → firstBeyond limit xs 0 ≡ Nothin
 unfolding inside nothing
 within limit xs e = ap nothing e
 
--- ---- readings out of range, counted up to a place: where there is none yet, the search goes on from there
-pub record Counted (readings : List ℤ) (i out : ℕ) : Type 0 where
-  pub none : out ≡ 0 → firstOut readings 0 ≡ firstOut (drop i readings) i
-  pub some : (out ≡ 0 → ⊥) → inside (pos readingLimit) readings ≡ false
+-- ---- numbers beyond a limit, counted up to a place: where there is none yet, the search goes on from there
+pub record Counted (limit : ℤ) (xs : List ℤ) (i out : ℕ) : Type 0 where
+  pub none : out ≡ 0 → firstBeyond limit xs 0 ≡ firstBeyond limit (drop i xs) i
+  pub some : (out ≡ 0 → ⊥) → inside limit xs ≡ false
 
-pub counted-none : (readings : List ℤ) → Counted readings 0 0
-counted-none readings = record { none = λ e. refl; some = λ f. absurd (f refl) }
+pub counted-none : (limit : ℤ) (xs : List ℤ) → Counted limit xs 0 0
+counted-none limit xs = record { none = λ e. refl; some = λ f. absurd (f refl) }
 
-pub counted-next : (readings : List ℤ) (i out r : ℕ) → i < length readings → r ≡ cond (beyond (pos readingLimit) (at readings i)) 1 0 → Counted readings i out → Counted readings (i + 1) (out + r)
-counted-next readings i out r l e c = by (beyond (pos readingLimit) (at readings i)) (eqb out 0) refl refl
+pub counted-next : (limit : ℤ) (xs : List ℤ) (i out r : ℕ) → i < length xs → r ≡ cond (beyond limit (at xs i)) 1 0 → Counted limit xs i out → Counted limit xs (i + 1) (out + r)
+counted-next limit xs i out r l e c = by (beyond limit (at xs i)) (eqb out 0) refl refl
   where
-    by : (b t : Bool) → beyond (pos readingLimit) (at readings i) ≡ b → eqb out 0 ≡ t → Counted readings (i + 1) (out + r)
+    by : (b t : Bool) → beyond limit (at xs i) ≡ b → eqb out 0 ≡ t → Counted limit xs (i + 1) (out + r)
     by true true b t =
         let one : r ≡ 1 = e ∙ ap (λ x. cond x 1 0) b in
-        record { none = λ z. absurd (omega arith); some = λ f. outside _ readings i (c .none (eqb-true out 0 t) ∙ stops _ _ _ l b) }
+        record { none = λ z. absurd (omega arith); some = λ f. outside _ xs i (c .none (eqb-true out 0 t) ∙ stops _ _ _ l b) }
     by true false b t =
         let one : r ≡ 1 = e ∙ ap (λ x. cond x 1 0) b in
         record { none = λ z. absurd (omega arith); some = λ f. c .some (eqb-false out 0 t) }
@@ -74,11 +74,11 @@ counted-next readings i out r l e c = by (beyond (pos readingLimit) (at readings
         let zero : r ≡ 0 = e ∙ ap (λ x. cond x 1 0) b in
         record { none = λ z. c .none (omega arith) ∙ goes-on _ _ _ l b; some = λ f. c .some (λ z. f (omega arith)) }
 
-pub counted-end : (readings : List ℤ) (i out : ℕ) → i ≡ length readings → Counted readings i out → eqb out 0 ≡ inside (pos readingLimit) readings
-counted-end readings i out l c = by (eqb out 0) refl
+pub counted-end : (limit : ℤ) (xs : List ℤ) (i out : ℕ) → i ≡ length xs → Counted limit xs i out → eqb out 0 ≡ inside limit xs
+counted-end limit xs i out l c = by (eqb out 0) refl
   where
-    by : (t : Bool) → eqb out 0 ≡ t → t ≡ inside (pos readingLimit) readings
-    by true t = sym (within _ readings (c .none (eqb-true out 0 t) ∙ ends _ _ _ l))
+    by : (t : Bool) → eqb out 0 ≡ t → t ≡ inside limit xs
+    by true t = sym (within _ xs (c .none (eqb-true out 0 t) ∙ ends _ _ _ l))
     by false t = sym (c .some (eqb-false out 0 t))
 
 -- ---- whether every number is zero

@@ -2,7 +2,7 @@
 use borrow.Author.Needs.{needs}
 use mathlib.Core.Path.{_≡_, sym, ap, subst, _∙_}
 use mathlib.Core.List.{List}
-use Prim.Native.Nat.{ℕ, _^_}
+use Prim.Native.Nat.{ℕ, _%_, _^_}
 use lib.IntN.{ℤ, pos}
 use lib.ListN.{length}
 use Rattle.integers.specs.Places.{Within}
@@ -11,7 +11,7 @@ use Rattle.lifting.specs.Gate.{told, firstBeyond}
 use Rattle.lifting.specs.declared.gate.Answer.the-variants.{Done}
 use Rattle.lifting.specs.declared.gate.Found.the-variants.{Nothing}
 use Rattle.steps.proofs.Undo.{width-half, length-stages}
-use Rattle.lifting.proofs.FrameLaws.{stages-within}
+use Rattle.lifting.proofs.FrameLaws.{width-in-fours, stages-within}
 use Rattle.lifting.proofs.GateLaws.{none-within, stages-refused, stages-done}
 use Rattle.lifting.proofs.frame.staged.Statement.{statement}
 use Rattle.lifting.proofs.frame.staged.Tie as tie
@@ -41,8 +41,11 @@ module _ (c : tie.After-enum-told) where
   inside : Within 50000 (values (from (c .before .before)))
   inside = none-within 50000 _ none
 
-made : (c : tie.After-alone) → c .alone .last .1 .1 .0 ≡ stages (N (from (c .before .before .before .before))) (values (from (c .before .before .before .before)))
-made c = c .alone .ensures ∙ ap (stages (N (from (c .before .before .before .before)))) (wide (c .before .before .before .before))
+made : (c : tie.After-alone) → c .alone .last .1 .1 .1 .0 ≡ stages (N (from (c .before .before .before .before))) (values (from (c .before .before .before .before)))
+made c = c .alone .ensures
+
+widen-requires : tie.Need-widen-requires
+widen-requires c κs = let s = c .before in (s .pre .1 .0 ∙ sym (s .pre .1 .1), ap (λ n. n % 4) (s .pre .1 .0) ∙ width-in-fours (N s) (s .pre .0))
 
 returns : tie.Need-returns
 returns c = let f = c .before .before .before in stages-refused (N (from f)) (values (from f)) (from f .args .frame .now) _ (seen f ∙ c .before .beyond .given .1)
@@ -54,14 +57,17 @@ alone-requires : tie.Need-alone-requires
 alone-requires c κs =
     let f = c .before .before .before in
     let s = from f in
-    (s .pre .0, (ap length (wide f) ∙ s .pre .1 .0, subst (Within 50000) (sym (wide f)) (inside (c .before))))
+    (s .pre .0, ((s .pre .1 .0, ap length (wide f) ∙ s .pre .1 .0), inside (c .before)))
 
 narrow-requires : tie.Need-narrow-requires
 narrow-requires c κs =
     let g = c .before .before .before in
     let s = from (g .before .before .before .before) in
     let half = width-half (N s) (s .pre .0) in (
-      ap length (made g) ∙ length-stages (N s) (values s) ∙ half ∙ sym (s .pre .1 .2),
+      (
+        ap length (made g) ∙ length-stages (N s) (values s) ∙ half ∙ sym (s .pre .1 .2),
+        ap (λ l. length l % 4) (made g) ∙ ap (λ n. n % 4) (length-stages (N s) (values s) ∙ half) ∙ width-in-fours (N s) (s .pre .0),
+      ),
       subst (Within (2 ^ 30)) (sym (made g)) (stages-within (N s) (values s) (s .pre .1 .0) half (inside (g .before .before))),
     )
 
@@ -75,7 +81,7 @@ pub staged-spec : {M : Type 1} → statement M
 staged-spec =
     tie.close
     (tie.spec
-    (λ c κs. search needs)
+    widen-requires
     (λ c κs. search needs)
     (λ c. search needs)
     (λ c. search needs)

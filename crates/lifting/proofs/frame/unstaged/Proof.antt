@@ -3,7 +3,7 @@ use borrow.Author.Needs.{needs}
 use native.Mathlib.Omega.{arith}
 use mathlib.Core.Path.{_≡_, sym, ap, subst, _∙_}
 use mathlib.Core.List.{List}
-use Prim.Native.Nat.{ℕ, _^_}
+use Prim.Native.Nat.{ℕ, _%_, _^_}
 use lib.IntN.{ℤ, pos}
 use lib.ListN.{length}
 use Rattle.integers.specs.Places.{Within}
@@ -13,6 +13,7 @@ use Rattle.lifting.specs.Gate.{told, firstBeyond}
 use Rattle.lifting.specs.declared.gate.Answer.the-variants.{Done}
 use Rattle.lifting.specs.declared.gate.Found.the-variants.{Nothing}
 use Rattle.steps.proofs.Undo.{length-unstages}
+use Rattle.lifting.proofs.FrameLaws.{width-in-fours}
 use Rattle.lifting.proofs.GateLaws.{none-within, unstages-refused, unstaged-refused, unstages-done}
 use Rattle.lifting.proofs.frame.unstaged.Statement.{statement}
 use Rattle.lifting.proofs.frame.unstaged.Tie as tie
@@ -47,14 +48,17 @@ module _ (h : tie.After-first-beyond2) where
   abbrev source : tie.Start
   source = from (h .before .before .before .before .before .before .before)
 
-  made : h .before .before .before .alone .last .1 .1 .0 ≡ unstages (N source) (values source)
-  made = h .before .before .before .alone .ensures ∙ ap (unstages (N source)) (wide (h .before .before .before .before .before .before .before))
+  made : h .before .before .before .alone .last .1 .1 .1 .0 ≡ unstages (N source) (values source)
+  made = h .before .before .before .alone .ensures
 
   seen2 : firstBeyond (pos 50000) (unstages (N source) (values source)) 0 ≡ h .first-beyond2 .result
   seen2 = sym (h .first-beyond2 .ensures ∙ ap (λ l. firstBeyond (pos 50000) l 0) made)
 
 none2 : (d : tie.After-enum-told2) → firstBeyond (pos 50000) (unstages (N (source (d .before .before))) (values (source (d .before .before)))) 0 ≡ Nothing
 none2 d = seen2 (d .before .before) ∙ d .enum-told2 .given .1
+
+widen-requires : tie.Need-widen-requires
+widen-requires c κs = let s = c .before in (s .pre .1 .0 ∙ sym (s .pre .1 .1), ap (λ n. n % 4) (s .pre .1 .0) ∙ width-in-fours (N s) (s .pre .0))
 
 returns : tie.Need-returns
 returns c = let f = c .before .before .before in unstages-refused (N (from f)) (values (from f)) (from f .args .folded .now) _ (seen f ∙ c .before .coefficient .given .1)
@@ -66,7 +70,7 @@ alone-requires : tie.Need-alone-requires
 alone-requires c κs =
     let f = c .before .before .before in
     let s = from f in
-    (s .pre .0, (ap length (wide f) ∙ s .pre .1 .0, subst (Within 1048576) (sym (wide f)) (inside (c .before))))
+    (s .pre .0, ((s .pre .1 .0, ap length (wide f) ∙ s .pre .1 .0), inside (c .before)))
 
 returns-2 : tie.Need-returns-2
 returns-2 c =
@@ -79,7 +83,10 @@ narrow-requires c κs =
     let d = c .before .before in
     let h = d .before .before in
     let s = source h in (
-      ap length (made h) ∙ length-unstages (N s) (values s) ∙ sym (s .pre .1 .2),
+      (
+        ap length (made h) ∙ length-unstages (N s) (values s) ∙ sym (s .pre .1 .2),
+        ap (λ l. length l % 4) (made h) ∙ ap (λ n. n % 4) (length-unstages (N s) (values s)) ∙ width-in-fours (N s) (s .pre .0),
+      ),
       subst (Within (2 ^ 30)) (sym (made h)) (within-up (none-within 50000 _ (none2 d)) (omega arith)),
     )
 
@@ -94,7 +101,7 @@ pub unstaged-spec : {M : Type 1} → statement M
 unstaged-spec =
     tie.close
     (tie.spec
-    (λ c κs. search needs)
+    widen-requires
     (λ c κs. search needs)
     (λ c. search needs)
     (λ c. search needs)

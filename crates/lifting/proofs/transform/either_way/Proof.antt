@@ -14,14 +14,14 @@ unstages-requires c κs =
     let s = t .before in
     let p = s .pre .1 .1 in
     let e = ap (λ u. cond {A = ℕ} u 1048576 50000) (t .if1 .taken) in
-    (s .pre .0, (s .pre .1 .0, (p .0, (p .1 .0, (p .1 .1 .0, subst (λ k. Within k (s .args .work .now)) e (p .1 .1 .1))))))
+    (s .pre .0, (s .pre .1 .0, (p .0, (p .1 .0, (p .1 .1 .0, subst (λ k. Within k (s .args .given .now)) e (p .1 .1 .1))))))
 
 returns : tie.Need-returns
 returns c =
     let k = c .before .before .before .before .before in
     let t = k .before .before .before .before .before .before in
     let s = t .before in
-    k .unstages .ensures ∙ sym (ap (λ u. cond u (unstages (s .args .width) (s .args .work .now)) (stages (s .args .width) (s .args .work .now))) (t .if1 .taken))
+    k .unstages .ensures ∙ sym (ap (λ u. cond u (unstages (s .args .width) (s .args .given .now)) (stages (s .args .width) (s .args .given .now))) (t .if1 .taken))
 
 stages-requires : tie.Need-stages-requires
 stages-requires c κs =
@@ -29,14 +29,14 @@ stages-requires c κs =
     let s = t .before in
     let p = s .pre .1 .1 in
     let e = ap (λ u. cond {A = ℕ} u 1048576 50000) (t .if1 .left) in
-    (s .pre .0, (s .pre .1 .0, (p .0, (p .1 .0, (p .1 .1 .0, subst (λ k. Within k (s .args .work .now)) e (p .1 .1 .1))))))
+    (s .pre .0, (s .pre .1 .0, (p .0, (p .1 .0, (p .1 .1 .0, subst (λ k. Within k (s .args .given .now)) e (p .1 .1 .1))))))
 
 returns-2 : tie.Need-returns-2
 returns-2 c =
     let k = c .before .before .before .before .before in
     let t = k .before .before .before .before .before .before in
     let s = t .before in
-    k .stages .ensures ∙ sym (ap (λ u. cond u (unstages (s .args .width) (s .args .work .now)) (stages (s .args .width) (s .args .work .now))) (t .if1 .left))
+    k .stages .ensures ∙ sym (ap (λ u. cond u (unstages (s .args .width) (s .args .given .now)) (stages (s .args .width) (s .args .given .now))) (t .if1 .left))
 
 pub either-way-spec : {M : Type 1} → statement M
 either-way-spec =

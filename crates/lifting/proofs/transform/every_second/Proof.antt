@@ -2,10 +2,10 @@
 use borrow.Author.Needs.{needs}
 use native.Mathlib.Omega.{arith}
 use Prim.Native.Nat.{_+_, _-_, _*_, _≤_}
+use lib.IntN.{ℤ}
 use lib.ListN.{length}
-use mir.Syntax.{w64}
 use Rattle.integers.specs.Places.{at}
-use Rattle.integers.proofs.Held.{held-ok}
+use Rattle.integers.proofs.Held.{asks-wide, h-wide}
 use Rattle.integers.proofs.Fills.{Filling, filling-none, filling-next, filling-all}
 use Rattle.lifting.proofs.transform.every_second.Statement.{statement}
 use Rattle.lifting.proofs.transform.every_second.Tie as tie
@@ -15,6 +15,10 @@ Inv-loop x first out₀ i₀ out i = (i ≤ length out₀) × Filling (λ i. at 
 
 abbrev μ-loop : tie.MeasureT-loop
 μ-loop x first out₀ i₀ out i = length out₀ - i
+
+-- the number of a turn
+abbrev value : tie.After-out Inv-loop μ-loop → ℤ
+value c = let s = c .before .before .before in at (s .args .x .now) (2 * c .before .before .loop .i + s .args .first)
 
 loop-holds : tie.Need-loop-holds Inv-loop μ-loop
 loop-holds c = (omega arith, filling-none _ _)
@@ -31,6 +35,9 @@ mul-out-2 c = omega (arith, c .before .loop .inv .1 .long, c .before .before .pr
 shared-slice-copy-out-out : tie.Need-shared-slice-copy-out-out Inv-loop μ-loop
 shared-slice-copy-out-out c = omega (arith, c .before .loop .inv .1 .long, c .before .before .pre)
 
+cast-out : tie.Need-cast-out Inv-loop μ-loop
+cast-out c = asks-wide (value c) (c .out .given)
+
 slice-set-from-out : tie.Need-slice-set-from-out Inv-loop μ-loop
 slice-set-from-out c = omega arith
 
@@ -41,7 +48,7 @@ loop-less : tie.Need-loop-less Inv-loop μ-loop
 loop-less c = omega arith
 
 loop-again : tie.Need-loop-again Inv-loop μ-loop
-loop-again c = (omega arith, filling-next (c .before .before .loop .inv .1) (held-ok w64 _ (c .out .given) .is))
+loop-again c = (omega arith, filling-next (c .before .before .loop .inv .1) (h-wide (value c) (c .out .given) .is))
 
 same-length : tie.Need-same-length Inv-loop μ-loop
 same-length c = omega arith
@@ -60,6 +67,7 @@ every-second-spec =
     add-out
     mul-out-2
     shared-slice-copy-out-out
+    cast-out
     (λ c. search needs)
     slice-set-from-out
     add-i

@@ -27,13 +27,19 @@ module _ (s : tie.Start) where
   M = halfWidth N
 
   abbrev work : List ℤ
-  work = s .args .work .now
+  work = s .args .given .now
+
+  abbrev out : List ℤ
+  out = s .args .out .now
 
   abbrev half : ℕ
   half = N / 2
 
   long : length work ≡ N
-  long = s .pre .1 .1 .1 .1 .0
+  long = s .pre .1 .1 .1 .1 .0 .0
+
+  out-long : length out ≡ N
+  out-long = s .pre .1 .1 .1 .1 .0 .1
 
   inside : Within 50000 work
   inside = s .pre .1 .1 .1 .1 .1
@@ -41,30 +47,30 @@ module _ (s : tie.Start) where
   half-long : (half ≡ M) × (M + M ≡ N)
   half-long = (half-is N (s .pre .0), width-half N (s .pre .0))
 
-  half-le : half ≤ length work
-  half-le = omega (arith, half-long, long)
+  half-le : half ≤ length out
+  half-le = omega (arith, half-long, out-long)
 
-top1 : (c : tie.After-every-second) → c .every-second .last .1 .1 .0 ≡ topOf (N (c .before .before .before)) (work (c .before .before .before))
+top1 : (c : tie.After-every-second) → c .every-second .last .1 .1 .0 ≡ topOf (N (c .before .before)) (work (c .before .before))
 top1 c =
-    let s = c .before .before .before in
+    let s = c .before .before in
     c .every-second .ensures ∙ ap (λ n. places n (λ i. at (work s) (2 * i + 0))) (s .pre .1 .1 .0 .top-long) ∙ read-evens (N s) (work s)
 
-bottom1 : (c : tie.After-every-second2) → c .every-second2 .last .1 .1 .0 ≡ bottomOf (N (c .before .before .before .before .before .before .before)) (work (c .before .before .before .before .before .before .before))
+bottom1 : (c : tie.After-every-second2) → c .every-second2 .last .1 .1 .0 ≡ bottomOf (N (c .before .before .before .before .before)) (work (c .before .before .before .before .before))
 bottom1 c =
-    let s = c .before .before .before .before .before .before .before in
+    let s = c .before .before .before .before .before in
     c .every-second2 .ensures ∙ ap (λ n. places n (λ i. at (work s) (2 * i + 1))) (s .pre .1 .1 .0 .bottom-long) ∙ read-odds (N s) (work s)
 
 every-second-requires : tie.Need-every-second-requires
-every-second-requires c κs = let s = c .before .before in (omega arith, omega (arith, half-long s, long s, s .pre .1 .1 .0 .top-long))
+every-second-requires c κs = let s = c .before in (omega arith, omega (arith, half-long s, long s, s .pre .1 .1 .0 .top-long))
 
 every-second-requires-2 : tie.Need-every-second-requires-2
-every-second-requires-2 c κs = let s = c .before .before .before .before .before .before in (omega arith, omega (arith, half-long s, long s, s .pre .1 .1 .0 .bottom-long))
+every-second-requires-2 c κs = let s = c .before .before .before .before in (omega arith, omega (arith, half-long s, long s, s .pre .1 .1 .0 .bottom-long))
 
 forward-requires : tie.Need-forward-requires
 forward-requires c κs =
     let q = c .before .before .before .before .before in
-    let p = q .before .before .before .before in
-    let s = p .before .before .before in (
+    let p = q .before .before .before in
+    let s = p .before .before in (
       s .pre .0,
       (
         s .pre .1 .0,
@@ -81,7 +87,7 @@ forward-requires c κs =
 -- the halves of the frame, and where they are put
 module _ (g : tie.After-forward) where
   abbrev from : tie.Start
-  from = g .before .before .before .before .before .before .before .before .before .before .before .before .before
+  from = g .before .before .before .before .before .before .before .before .before .before .before
 
   abbrev top-of : List ℤ
   top-of = g .forward .last .1 .1 .0
@@ -103,25 +109,25 @@ module _ (k : tie.After-copy) where
   front-of = k .copy .last .1 .0
 
   abbrev behind : List ℤ
-  behind = drop (half (from made)) (work (from made))
+  behind = drop (half (from made)) (out (from made))
 
   front-is : length front-of ≡ half (from made)
   front-is = ap length (k .copy .ensures) ∙ top-of-long made ∙ sym (half-long (from made) .0)
 
   behind-long : length behind ≡ M (from made)
-  behind-long = omega (arith, length-drop (half (from made)) (work (from made)), long (from made), half-long (from made))
+  behind-long = omega (arith, length-drop (half (from made)) (out (from made)), out-long (from made), half-long (from made))
 
 slice-relend-prefix-copy : tie.Need-slice-relend-prefix-copy
 slice-relend-prefix-copy c = half-le (from (c .before .before .before .before .before))
 
 slice-aggregate-copy : tie.Need-slice-aggregate-copy
-slice-aggregate-copy c = let s = from (c .before .before .before .before .before .before) in part-long _ (work s) (half-le s)
+slice-aggregate-copy c = let s = from (c .before .before .before .before .before .before) in part-long _ (out s) (half-le s)
 
 copy-requires : tie.Need-copy-requires
 copy-requires c κs =
     let g = c .before .before .before .before .before .before in
     let s = from g in
-    top-of-long g ∙ sym (half-long s .0) ∙ part-long _ (work s) (half-le s)
+    top-of-long g ∙ sym (half-long s .0) ∙ part-long _ (out s) (half-le s)
 
 mul-copy : tie.Need-mul-copy
 mul-copy c = let s = from (c .before .before .before .before .before .before .before .before .before) in record { fits = omega (arith, half-long s, half-width-le (N s)) }
@@ -142,7 +148,7 @@ returns c =
     let k = c .before .before .before .before .before in
     let g = made k in
     let q = g .before .before .before .before .before .before in
-    let p = q .before .before .before .before in
+    let p = q .before .before .before in
     let s = from g in
     rest-put (half s) (front-of k) (behind k) (front-is k) _
     ∙ ap₂ _++_ (k .copy .ensures ∙ g .forward .ensures .0 ∙ ap₂ (top4 (N s)) (top1 p) (bottom1 q)) (c .before .copy2 .ensures ∙ g .forward .ensures .1 ∙ ap₂ (bottom5 (N s)) (top1 p) (bottom1 q))

@@ -16,10 +16,10 @@ use Rattle.run.proofs.gate.in_range.Statement.{statement}
 use Rattle.run.proofs.gate.in_range.Tie as tie
 
 abbrev Inv-loop : tie.InvT-loop
-Inv-loop readings out₀ i₀ out i = (i ≤ length readings) × (out ≤ i) × Counted readings i out
+Inv-loop x limit out₀ i₀ out i = (i ≤ length x) × (out ≤ i) × Counted (toZ w32 limit) x i out
 
 abbrev μ-loop : tie.MeasureT-loop
-μ-loop readings out₀ i₀ out i = length readings - i
+μ-loop x limit out₀ i₀ out i = length x - i
 
 one-at-most : (b : Bool) → cond b 1 0 ≤ 1
 one-at-most true = omega arith
@@ -28,7 +28,7 @@ one-at-most false = omega arith
 -- what a turn counts
 module _ (c : tie.After-out-of-range Inv-loop μ-loop) where
   abbrev value : ℤ
-  value = at (c .before .before .before .before .args .readings .now) (c .before .before .before .loop .i)
+  value = at (c .before .before .before .before .args .x .now) (c .before .before .before .loop .i)
 
   told : c .out-of-range .result ≡ cond (beyond (pos readingLimit) value) 1 0
   told = c .out-of-range .ensures ∙ ap (λ v. cond (beyond (pos readingLimit) v) 1 0) (held-ok w32 value (c .before .out-of-range-arg .given) .is)
@@ -56,7 +56,7 @@ loop-less c = omega arith
 loop-again : tie.Need-loop-again Inv-loop μ-loop
 loop-again c =
     let l = c .before .before .before in
-    let readings = l .before .args .readings .now in
+    let readings = l .before .args .x .now in
     (omega arith, omega (arith, one c), counted-next readings (l .loop .i) (l .loop .out) (c .out-of-range .result) (c .before .before .loop-test .taken) (told c) (l .loop .inv .2))
 
 returns : tie.Need-returns Inv-loop μ-loop
