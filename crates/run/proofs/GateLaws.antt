@@ -1,18 +1,22 @@
 -- What the tests of the code decide of the gate's questions.
-use mathlib.Core.Path.{_≡_, refl, sym, ap, _∙_}
+use mathlib.Core.Path.{_≡_, refl, sym, ap, subst, _∙_}
 use mathlib.Core.Bool.{Bool, true, false, cond, _&&_, and-false}
 use mathlib.Core.List.{List, [], _∷_}
-use Prim.Native.Nat.{ℕ, _+_, _-_, _≤_, _<_, zero-le}
+use Prim.Native.Nat.{ℕ, zero, suc, _+_, _-_, _≤_, _<_, zero-le}
 use native.Mathlib.Omega.{arith}
 use borrow.Author.Tests.{eqb-true, eqb-false, eq-eqb, ne-eqb, lt-ltb, le-ltb, le-leb, lt-leb}
 use lib.Dec.{eqb}
 use lib.Bits.{bitOr, or-add-and, and-le-l, and-le-r}
-use lib.IntN.{ℤ, pos, negsuc, natAbs}
+use lib.IntN.{ℤ, pos, negsuc, natAbs, _-ℤ_}
+use lib.Signed.{_≤ℤ_}
+use mir.Syntax.{Width}
+use mir.Val.{SFits}
 use lib.ListN.{length, take, drop, length-drop, take-append-drop}
 use lib.Seq.{take-all}
 use Rattle.integers.specs.Places.{at}
 use Rattle.integers.specs.Vectors.{AllAbs}
 use Rattle.integers.proofs.Order.{natAbs-zero}
+use Rattle.integers.proofs.Words.{minus}
 use Rattle.integers.proofs.PlaceLaws.{within-all, within-up}
 use Rattle.integers.proofs.Products.{all-append, all-getD}
 use Rattle.tables.specs.Widths.{halfWidth}
@@ -51,6 +55,12 @@ outside limit xs i e = ap nothing e
 pub within : (limit : ℤ) (xs : List ℤ) → firstBeyond limit xs 0 ≡ Nothing → inside limit xs ≡ true
 unfolding inside nothing
 within limit xs e = ap nothing e
+
+-- ---- the lower limit
+pub minus-fits : (w : Width) (l : ℤ) → pos 0 ≤ℤ l → SFits w l → SFits w (pos 0 -ℤ l)
+minus-fits w (pos zero) k f = f
+minus-fits w (pos (suc n)) k f = subst (SFits w) (sym (minus (pos (suc n)))) (record { sfits = omega (arith, f .sfits) })
+minus-fits w (negsuc n) k f = absurd (k .le)
 
 -- ---- numbers beyond a limit, counted up to a place: where there is none yet, the search goes on from there
 pub record Counted (limit : ℤ) (xs : List ℤ) (i out : ℕ) : Type 0 where

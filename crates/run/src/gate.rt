@@ -108,7 +108,7 @@ fn fault_in(block: &[i64]) -> Fault
 
 // The search for the fault of a block that has one.
 fn searched(block: &[i32]) -> Fault
-    requires { ⌜ length (now block) ≤ 128 ⌝ }
+    requires { ⌜ (length (now block) ≤ 128) × (length (now block) % 4 ≡ 0) ⌝ }
     ensures { λ r. ⌜ r ≡ faultOf (now (block .entry)) ⌝ }
 {
     let n = block.len();
@@ -147,7 +147,7 @@ pub fn in_range(x: &[i32], limit: i32) -> bool
 
 // Questions 8 and 9. The dead mark is out of range too, so that readings in range have no fault.
 pub fn fault_of(block: &[i32]) -> Fault
-    requires { ⌜ length (now block) ≤ 128 ⌝ }
+    requires { ⌜ (length (now block) ≤ 128) × (length (now block) % 4 ≡ 0) ⌝ }
     ensures { λ r. ⌜ r ≡ faultOf (now (block .entry)) ⌝ }
 {
     if in_range(block, 32767) {

@@ -1,9 +1,13 @@
 -- `run::gate::fault_of` meets its contract.
 use borrow.Author.Needs.{needs}
+use native.Mathlib.Omega.{arith}
 use mathlib.Core.Path.{sym, _∙_}
 use Rattle.run.proofs.AskLaws.{range-clear}
 use Rattle.run.proofs.gate.fault_of.Statement.{statement}
 use Rattle.run.proofs.gate.fault_of.Tie as tie
+
+in-range-requires : tie.Need-in-range-requires
+in-range-requires c κs = (omega (arith, c .pre .0), record { le = tt })
 
 returns : tie.Need-returns
 returns c = range-clear _ (sym (c .before .in-range .ensures) ∙ c .if1 .taken)
@@ -12,4 +16,4 @@ returns-2 : tie.Need-returns-2
 returns-2 c = search needs
 
 pub fault-of-spec : {M : Type 1} → statement M
-fault-of-spec = tie.close (tie.spec (λ c κs. search needs) returns (λ c κs. search needs) (λ c. search needs))
+fault-of-spec = tie.close (tie.spec in-range-requires returns (λ c κs. search needs) (λ c. search needs))

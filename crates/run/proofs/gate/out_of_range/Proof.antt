@@ -1,7 +1,6 @@
 -- `run::gate::out_of_range` meets its contract.
 use mathlib.Core.Path.{sym, ap}
 use mathlib.Core.Bool.{cond}
-use native.Mathlib.Omega.{arith}
 use lib.IntN.{pos, negℤ, _-ℤ_}
 use mir.Syntax.{w32}
 use mir.Val.{SFits, toZ, ofZ}
@@ -28,7 +27,7 @@ returns : tie.Need-returns
 returns c = let s = c .before in sym (ap (λ b. cond b 1 0) (above _ (s .args .value) (s .pre) (h-lt (limit s) (value s) (c .if1 .taken))))
 
 sub-if2 : tie.Need-sub-if2
-sub-if2 c = ?
+sub-if2 c = let s = c .before in asks-minus (limit s) (low-fits s)
 
 returns-2 : tie.Need-returns-2
 returns-2 c = let s = c .before .before in sym (ap (λ b. cond b 1 0) (below _ (s .args .value) (s .pre) (h-lt (value s) (low s) (c .if2 .taken))))

@@ -31,7 +31,7 @@ slice-aggregate-widen : tie.Need-slice-aggregate-widen
 slice-aggregate-widen c = room (c .before)
 
 widen-requires : tie.Need-widen-requires
-widen-requires c κs = room (c .before)
+widen-requires c κs = (room (c .before), c .before .before .pre .1)
 
 array-share-prefix-wide : tie.Need-array-share-prefix-wide
 array-share-prefix-wide c = let w = c .before in front-le (length (block (from w))) (w .widen .last .1 .0) (drop (length (block (from w))) (w .before .before .of-128 .result)) (wide-long w)

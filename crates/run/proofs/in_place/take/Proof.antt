@@ -14,7 +14,7 @@ use Rattle.steps.specs.Limits.{foldedLimit}
 use Rattle.lifting.specs.Gate.{told}
 use Rattle.lifting.specs.declared.gate.Answer.the-variants.{Done}
 use Rattle.lifting.proofs.Parts.{part-long}
-use Rattle.lifting.proofs.FrameLaws.{take-within}
+use Rattle.lifting.proofs.FrameLaws.{width-in-fours, take-within}
 use Rattle.run.specs.declared.record.Run.{Run}
 use Rattle.run.specs.declared.gate.Fault.the-variants.{Clear}
 use Rattle.run.specs.Record.{blockLimit, recordOf, nextCount}
@@ -103,7 +103,9 @@ unfolding taken told nextCount
 returns-5 c = let e = c .before .before .before .before in let s = start e in output-refused blockLimit (run s) (block s) (out s) (next s) (is-sound e) (c .before .before .before .if2 .left) (c .before .before .if3 .left) (c .before .if4 .left) (c .if5 .taken)
 
 fault-of-requires : tie.Need-fault-of-requires
-fault-of-requires c κs = omega (arith, c .before .if4 .left, width-le (from c .args .width) (ready c _ refl .wide))
+fault-of-requires c κs =
+    let w = ready c _ refl .wide in
+    (omega (arith, c .before .if4 .left, width-le (from c .args .width) w), omega (arith, c .before .if4 .left, width-in-fours (from c .args .width) w))
 
 enum-told : tie.Need-enum-told
 enum-told c = search needs

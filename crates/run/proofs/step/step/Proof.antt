@@ -3,7 +3,7 @@ use borrow.Author.Needs.{needs}
 use native.Mathlib.Omega.{arith}
 use mathlib.Core.Path.{_≡_, sym, ap, ap₂, subst, _∙_}
 use mathlib.Core.List.{List, _++_}
-use Prim.Native.Nat.{ℕ, _/_, _^_, _≤_}
+use Prim.Native.Nat.{ℕ, _/_, _%_, _^_, _≤_}
 use lib.IntN.{ℤ}
 use lib.ListN.{length, drop, length-drop}
 use Rattle.integers.specs.Places.{Within}
@@ -11,6 +11,7 @@ use Rattle.integers.proofs.PlaceLaws.{within-up}
 use Rattle.tables.specs.Widths.{halfWidth}
 use Rattle.tables.proofs.Reading.{half-is}
 use Rattle.stages.specs.Expanded.{Halves, top4, bottom5}
+use Rattle.stages.proofs.PartLaws.{half-in-fours}
 use Rattle.stages.proofs.FrameSizes.{long4, long5, within4, within5}
 use Rattle.steps.specs.Limits.{foldedLimit}
 use Rattle.steps.specs.Steps.{lower, topOf, bottomOf}
@@ -151,7 +152,10 @@ narrow-requires : tie.Need-narrow-requires
 narrow-requires c κs =
     let g = c .before .before .before .before .before .before in
     let s = start g in (
-      ap length (top-is g) ∙ long4 (N s) _ _ ∙ sym (halved s) ∙ part-long _ (out s) (half-le s),
+      (
+        ap length (top-is g) ∙ long4 (N s) _ _ ∙ sym (halved s) ∙ part-long _ (out s) (half-le s),
+        ap (λ n. n % 4) (ap length (top-is g) ∙ long4 (N s) _ _) ∙ half-in-fours (N s),
+      ),
       subst (Within (2 ^ 30)) (sym (top-is g)) (within-up (within4 (N s) _ _ (evens-within (made g)) (odds-within (made g))) (omega arith)),
     )
 
@@ -169,7 +173,10 @@ narrow-requires-2 c κs =
     let n = c .before .before .before in
     let g = through n in
     let s = from n in (
-      ap length (bottom-is g) ∙ long5 (N s) _ _ ∙ sym (behind-long n) ∙ sym (rest-long (half s) (first n) (behind n) (first-long n)),
+      (
+        ap length (bottom-is g) ∙ long5 (N s) _ _ ∙ sym (behind-long n) ∙ sym (rest-long (half s) (first n) (behind n) (first-long n)),
+        ap (λ n. n % 4) (ap length (bottom-is g) ∙ long5 (N s) _ _) ∙ half-in-fours (N s),
+      ),
       subst (Within (2 ^ 30)) (sym (bottom-is g)) (within-up (within5 (N s) _ _ (evens-within (made g)) (odds-within (made g))) (omega arith)),
     )
 

@@ -7,7 +7,7 @@ use Rattle.run.proofs.whole.first_fault.Statement.{statement}
 use Rattle.run.proofs.whole.first_fault.Tie as tie
 
 in-range-requires : tie.Need-in-range-requires
-in-range-requires c κs = few-readings (c .args .width) (c .args .readings .now) (c .pre)
+in-range-requires c κs = (few-readings (c .args .width) (c .args .readings .now) (c .pre), record { le = tt })
 
 returns : tie.Need-returns
 returns c = let s = c .before .before in sym (none-at-all (s .args .width) 0 _ (s .args .readings .now) (sym (c .before .in-range .ensures) ∙ c .if1 .taken))

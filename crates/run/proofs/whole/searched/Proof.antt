@@ -3,9 +3,10 @@ use borrow.Author.Needs.{needs}
 use native.Mathlib.Omega.{arith}
 use mathlib.Core.Path.{_≡_, refl, sym, ap, _∙_}
 use mathlib.Core.List.{List}
-use Prim.Native.Nat.{ℕ, _+_, _*_, _/_, _≤_}
+use Prim.Native.Nat.{ℕ, _+_, _*_, _/_, _%_, _≤_}
 use lib.IntN.{ℤ}
 use lib.ListN.{length, take, drop}
+use Rattle.lifting.proofs.FrameLaws.{width-in-fours}
 use Rattle.run.specs.Faults.{faultOf, firstFault}
 use Rattle.run.proofs.FaultLaws.{width-le, width-pos, few-readings, block-next, block-in, block-long, part-is, dead-place, beyond-place, dead-here, beyond-here, clear-here, none-left}
 use Rattle.run.proofs.whole.searched.Statement.{statement}
@@ -73,7 +74,8 @@ part-fault-of-end c = inner c
 fault-of-requires : tie.Need-fault-of-requires Inv-loop μ-loop
 fault-of-requires c κs =
     let i = c .before in
-    omega (arith, ap length (part-is (place i) (N (from i)) (readings (from i))), block-long (place i) (N (from i)) (readings (from i)) (inner i), width-le (N (from i)) (from i .pre .wide))
+    let l = ap length (part-is (place i) (N (from i)) (readings (from i))) ∙ block-long (place i) (N (from i)) (readings (from i)) (inner i) in
+    (omega (arith, l, width-le (N (from i)) (from i .pre .wide)), ap (λ n. n % 4) l ∙ width-in-fours (N (from i)) (from i .pre .wide))
 
 add-t16 : tie.Need-add-t16 Inv-loop μ-loop
 add-t16 c =
