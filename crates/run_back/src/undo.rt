@@ -1,6 +1,6 @@
 // One frame back: its folded values, the block before it, and what it holds for the next.
 ghost use mathlib.Core.Path.{_≡_};
-ghost use Prim.Native.Nat.{_≤_, _<_};
+ghost use Prim.Native.Nat.{_%_, _≤_, _<_};
 ghost use lib.IntN.{pos};
 ghost use lib.ListN.{length};
 ghost use Rattle.integers.specs.Places.{Within};
@@ -72,7 +72,7 @@ fn unfolded(
 
 // Question 9. The search is for a frame that is out of range; wide is room for it.
 fn coefficient_beyond(frame: &[i32], wide: &mut [i64]) -> Found
-    requires { ⌜ (length (now frame) ≤ 128) × (length (now frame) ≡ length (now wide)) ⌝ }
+    requires { ⌜ (length (now frame) ≤ 128) × (length (now frame) % 4 ≡ 0) × (length (now frame) ≡ length (now wide)) ⌝ }
     ensures { λ r. ⌜ r ≡ firstBeyond (pos coefficientLimit) (now (frame .entry)) 0 ⌝ }
 {
     if run::gate::in_range(frame, 1048576) {

@@ -2,7 +2,8 @@
 use borrow.Author.Needs.{needs}
 use mathlib.Core.Path.{_≡_, sym, ap, subst, _∙_}
 use mathlib.Core.List.{List}
-use Prim.Native.Nat.{ℕ}
+use Prim.Native.Nat.{ℕ, _%_}
+use native.Mathlib.Omega.{arith}
 use lib.IntN.{ℤ, pos}
 use lib.ListN.{length}
 use Rattle.integers.specs.Places.{Within}
@@ -11,6 +12,8 @@ use Rattle.steps.specs.Steps.{unstages}
 use Rattle.steps.proofs.Undo.{length-unstages}
 use Rattle.lifting.specs.Gate.{firstBeyond}
 use Rattle.lifting.specs.declared.gate.Found.the-variants.{Nothing}
+use Rattle.lifting.proofs.FrameLaws.{width-in-fours}
+use Rattle.run.proofs.FaultLaws.{width-le}
 use Rattle.lifting.proofs.GateLaws.{none-within}
 use Rattle.run.specs.Record.{opened}
 use Rattle.run_back.specs.Back.{unfoldedIn}
@@ -31,60 +34,52 @@ module _ (s : tie.Start) where
   abbrev out : List ℤ
   out = s .args .block .now
 
--- the coefficients widened, and the question's finding about them
-module _ (f : tie.After-first-beyond) where
+-- what question 9 finds
+module _ (f : tie.After-coefficient-beyond) where
   abbrev from : tie.Start
-  from = f .before .before .before .before .before
+  from = f .before .before
 
-  wide : f .before .before .before .widen .last .1 .0 ≡ frame from
-  wide = f .before .before .before .widen .ensures
+  seen : firstBeyond (pos coefficientLimit) (frame from) 0 ≡ f .coefficient-beyond .result
+  seen = sym (f .coefficient-beyond .ensures)
 
-  seen : firstBeyond (pos coefficientLimit) (frame from) 0 ≡ f .first-beyond .result
-  seen = sym (f .first-beyond .ensures ∙ ap (λ (l : List ℤ). firstBeyond (pos coefficientLimit) l 0) wide)
-
-none : (c : tie.After-enum-told) → firstBeyond (pos coefficientLimit) (frame (from (c .before .before))) 0 ≡ Nothing
-none c = seen (c .before .before) ∙ c .enum-told .given .1
+none : (c : tie.After-enum-told) → firstBeyond (pos coefficientLimit) (frame (from (c .before .before .before))) 0 ≡ Nothing
+none c = seen (c .before .before .before) ∙ c .enum-told .given .1
 
 -- the folded values made of them, and the finding about these
-module _ (h : tie.After-first-beyond2) where
+module _ (h : tie.After-first-beyond) where
   abbrev passed : tie.After-enum-told
   passed = h .before .before .before .before .before .before .before .before .before .before .before .before .before
 
   abbrev source : tie.Start
-  source = from (passed .before .before)
+  source = from (passed .before .before .before)
 
-  made : h .before .before .before .before .before .before .before .unstages .last .1 .1 .0 ≡ unstages (N source) (frame source)
-  made = h .before .before .before .before .before .before .before .unstages .ensures ∙ ap (unstages (N source)) (wide (passed .before .before))
+  made : h .before .before .before .before .before .before .before .unstages .last .1 .1 .1 .0 ≡ unstages (N source) (frame source)
+  made = h .before .before .before .before .before .before .before .unstages .ensures
 
-  seen2 : firstBeyond (pos foldedLimit) (unstages (N source) (frame source)) 0 ≡ h .first-beyond2 .result
-  seen2 = sym (h .first-beyond2 .ensures ∙ ap (λ (l : List ℤ). firstBeyond (pos foldedLimit) l 0) made)
+  seen2 : firstBeyond (pos foldedLimit) (unstages (N source) (frame source)) 0 ≡ h .first-beyond .result
+  seen2 = sym (h .first-beyond .ensures ∙ ap (λ (l : List ℤ). firstBeyond (pos foldedLimit) l 0) made)
 
 none2 : (d : tie.After-enum-told2) → firstBeyond (pos foldedLimit) (unstages (N (source (d .before .before))) (frame (source (d .before .before)))) 0 ≡ Nothing
 none2 d = seen2 (d .before .before) ∙ d .enum-told2 .given .1
 
 returns : tie.Need-returns
-returns c = let f = c .before .before .before in let s = from f in range-refused (N s) (s .args .count) (low s) (frame s) (out s) _ (seen f ∙ c .before .coefficient .given .1)
+returns c = let f = c .before .before .before .before in let s = from f in range-refused (N s) (s .args .count) (low s) (frame s) (out s) _ (seen f ∙ c .before .coefficient .given .1)
 
 enum-told : tie.Need-enum-told
 enum-told c = search needs
 
+coefficient-beyond-requires : tie.Need-coefficient-beyond-requires
+coefficient-beyond-requires c κs =
+    let s = c .before in
+    let l = s .pre .1 .1 .0 in
+    (omega (arith, l .0, width-le (N s) (s .pre .0)), ap (λ n. n % 4) (l .0) ∙ width-in-fours (N s) (s .pre .0), l .0 ∙ sym (l .2))
+
 unstages-requires : tie.Need-unstages-requires
 unstages-requires c κs =
     let n = c .before .before .before .before .before in
-    let f = n .before .before in
-    let s = from f in (
-      s .pre .0,
-      (
-        s .pre .1 .0,
-        (
-          s .pre .1 .1 .1 .0,
-          (
-            s .pre .1 .1 .1 .1 .0,
-            (ap length (wide f) ∙ s .pre .1 .1 .0 .0, subst (Within coefficientLimit) (sym (wide f)) (none-within coefficientLimit _ (none n))),
-          ),
-        ),
-      ),
-    )
+    let s = from (n .before .before .before) in
+    let l = s .pre .1 .1 .0 in
+    (s .pre .0, (s .pre .1 .0, (s .pre .1 .1 .1 .0, (s .pre .1 .1 .1 .1 .0, ((l .0, n .before .before .folded .given ∙ l .2), none-within coefficientLimit _ (none n))))))
 
 returns-2 : tie.Need-returns-2
 returns-2 c = let h = c .before .before .before in let s = source h in folded-refused (N s) (s .args .count) (low s) (frame s) (out s) (none (passed h)) _ (seen2 h ∙ c .before .value .given .1)
@@ -117,8 +112,7 @@ pub undo-spec : {M : Type 1} → statement M
 undo-spec =
     tie.close
     (tie.spec
-    (λ c κs. search needs)
-    (λ c κs. search needs)
+    coefficient-beyond-requires
     (λ c. search needs)
     (λ c. search needs)
     returns

@@ -3,7 +3,7 @@ use borrow.Author.Needs.{needs}
 use native.Mathlib.Omega.{arith}
 use mathlib.Core.Path.{_≡_, refl, sym, ap, subst, _∙_}
 use mathlib.Core.List.{List}
-use Prim.Native.Nat.{ℕ, _^_, _-_, _/_, _≤_}
+use Prim.Native.Nat.{ℕ, _^_, _-_, _/_, _%_, _≤_}
 use lib.IntN.{ℤ, pos}
 use lib.ListN.{length, take, drop, length-drop}
 use Rattle.integers.specs.Places.{Within}
@@ -17,7 +17,7 @@ use Rattle.steps.proofs.Undo.{width-half}
 use Rattle.lifting.specs.Gate.{firstBeyond}
 use Rattle.lifting.specs.declared.gate.Found.the-variants.{Nothing}
 use Rattle.lifting.proofs.Parts.{part-long}
-use Rattle.lifting.proofs.FrameLaws.{drop-within}
+use Rattle.lifting.proofs.FrameLaws.{width-in-fours, drop-within}
 use Rattle.lifting.proofs.GateLaws.{none-within}
 use Rattle.run.specs.Record.{opened}
 use Rattle.run.specs.Gate.{firstOut}
@@ -162,7 +162,10 @@ narrow-requires c κs =
     let n = c .before .before in
     let u = block-made (n .before .before) in
     let s = later u in (
-      ap length (made u) ∙ block-long (N s) (s .args .count) (low s) (folded s) (out s) ∙ sym (s .pre .1 .1 .0 .3),
+      (
+        ap length (made u) ∙ block-long (N s) (s .args .count) (low s) (folded s) (out s) ∙ sym (s .pre .1 .1 .0 .3),
+        ap (λ n. n % 4) (ap length (made u) ∙ block-long (N s) (s .args .count) (low s) (folded s) (out s)) ∙ width-in-fours (N s) (s .pre .0),
+      ),
       subst (Within (2 ^ 30)) (sym (made u)) (within-up (none-within readingLimit _ (none n)) (omega arith)),
     )
 
