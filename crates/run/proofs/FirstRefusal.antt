@@ -10,20 +10,20 @@ use lib.IntN.{ℤ}
 use lib.ListN.{length, take, drop, length-drop}
 use lib.Seq.{length-take-le}
 use Rattle.steps.specs.Steps.{held}
-use Rattle.lifting.specs.declared.gate.Found.{Found}
-use Rattle.lifting.specs.declared.gate.Found.the-variants.{At, Nothing}
-use Rattle.run.specs.declared.record.Run.{Run}
+use Rattle.runs.specs.declared.answer.Found.{Found}
+use Rattle.runs.specs.declared.answer.Found.the-variants.{At, Nothing}
+use Rattle.runs.specs.declared.record.Run.{Run}
 use Rattle.run.specs.declared.gate.Fault.{Fault}
 use Rattle.run.specs.declared.gate.Fault.the-variants.{Clear}
-use Rattle.run.specs.Record.{blockLimit, opened}
-use Rattle.run.specs.Gate.{askEach, nothing, every, firstDead, firstOut}
-use Rattle.run.specs.Forward.{takenIn}
-use Rattle.run.specs.Calls.{Call, block, finish, give, made, works, accepted}
-use Rattle.run.specs.Whole.{callsOf, firstRefusal}
-use Rattle.run.specs.Faults.{toldFault, faultBy, faultOf, faultFrom, firstFault}
-use Rattle.run.proofs.RecordLaws.{Reached, reached-next}
-use Rattle.run.proofs.CallLaws.{accepted-block, taken-decided, ended-decided, taken-in}
-use Rattle.run.proofs.AskLaws.{clear-both}
+use Rattle.runs.specs.Record.{blockLimit, opened}
+use Rattle.runs.specs.Gate.{askEach, nothing, every, firstDead, firstOut}
+use Rattle.runs.specs.Forward.{takenIn}
+use Rattle.runs.specs.Calls.{Call, block, finish, give, made, works, accepted}
+use Rattle.runs.specs.Whole.{callsOf, firstRefusal}
+use Rattle.run.specs.Own.Faults.{toldFault, faultBy, faultOf, faultFrom, firstFault}
+use Rattle.runs.proofs.RecordLaws.{Reached, reached-next}
+use Rattle.runs.proofs.CallLaws.{accepted-block, taken-decided, ended-decided, taken-in}
+use Rattle.run.proofs.BlockLaws.{clear-both}
 
 -- ---- the first refusal: of the first call, or of those after it
 module _ (N before : ℕ) (run : Run) (c : Call) (calls : List Call) where

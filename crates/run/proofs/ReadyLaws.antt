@@ -18,18 +18,14 @@ use Rattle.steps.specs.Limits.{readingLimit, foldedLimit}
 use Rattle.steps.specs.Steps.{held, frame}
 use Rattle.steps.proofs.Undo.{length-held}
 use Rattle.distance.proofs.ZeroBlock.{zero-block}
-use Rattle.run.specs.declared.record.Run.{Run}
-use Rattle.run.specs.Record.{frameLimit, zeros, recordOf, filled, opened, advanced}
-use Rattle.run.specs.Gate.{inside, sound}
-use Rattle.run.specs.Forward.{frameOn}
-use Rattle.run.specs.Ready.{Ready}
-use Rattle.run.proofs.FaultLaws.{width-le}
-use Rattle.run.proofs.Searches.{all-inside}
-use Rattle.run.proofs.CallLaws.{every-answer}
-
-pub zeros-are : (xs : List ℤ) → AllAbs 0 xs → xs ≡ zeros (length xs)
-zeros-are [] h = refl
-zeros-are (x ∷ xs) h = ap₂ (λ (y : ℤ) (ys : List ℤ). y ∷ ys) (natAbs-zero x (omega (arith, h .0))) (zeros-are xs (h .1))
+use Rattle.runs.specs.declared.record.Run.{Run}
+use Rattle.runs.specs.Record.{frameLimit, zeros, recordOf, filled, opened, advanced}
+use Rattle.runs.specs.Gate.{inside, sound}
+use Rattle.runs.specs.Forward.{frameOn}
+use Rattle.run.specs.Own.Ready.{Ready}
+use Rattle.runs.proofs.RecordLaws.{width-le}
+use Rattle.runs.proofs.Searches.{all-inside}
+use Rattle.runs.proofs.CallLaws.{every-answer}
 
 -- zeros in front of zeros
 pub zeros-part : (n m : ℕ) → n ≤ m → take n (zeros m) ≡ zeros n

@@ -18,13 +18,6 @@ use Rattle.steps.specs.Steps.{lower, stages, frame}
 use Rattle.steps.proofs.Undo.{width-half, length-stages}
 use Rattle.steps.proofs.Rotation.{lower-gate}
 
-pub all-within : (B : ℕ) (xs : List ℤ) → Within B xs → AllAbs B xs
-all-within B xs h = all-getD B xs (λ i l. h .size i)
-
-pub length-frame : (N : ℕ) (previous block : List ℤ) → 0 < halfWidth N → length (frame N previous block) ≡ N
-unfolding frame
-length-frame N previous block wide = length-stages N (lower N block ++ previous) ∙ width-half N wide
-
 pub folded-within : (N : ℕ) (previous block : List ℤ) → Within foldedLimit previous → Within readingLimit block → Within foldedLimit (lower N block ++ previous)
 folded-within N previous block p b =
     within-all foldedLimit _ (all-append foldedLimit (lower N block) previous (lower-gate N block (all-within readingLimit block b)) (all-within foldedLimit previous p))

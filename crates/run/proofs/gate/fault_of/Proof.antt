@@ -1,7 +1,7 @@
 -- `run::gate::fault_of` meets its contract.
 use borrow.Author.Needs.{needs}
 use mathlib.Core.Path.{sym, _∙_}
-use Rattle.run.proofs.AskLaws.{range-clear}
+use Rattle.run.proofs.BlockLaws.{range-clear}
 use Rattle.run.proofs.gate.fault_of.Statement.{statement}
 use Rattle.run.proofs.gate.fault_of.Tie as tie
 

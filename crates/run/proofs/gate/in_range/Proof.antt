@@ -10,7 +10,7 @@ use mir.Syntax.{w32}
 use Rattle.integers.specs.Places.{at}
 use Rattle.integers.proofs.Held.{held-ok}
 use Rattle.steps.specs.Limits.{readingLimit}
-use Rattle.lifting.specs.Gate.{beyond}
+use Rattle.runs.specs.Answers.{beyond}
 use Rattle.run.proofs.GateLaws.{Counted, counted-none, counted-next, counted-end}
 use Rattle.run.proofs.gate.in_range.Statement.{statement}
 use Rattle.run.proofs.gate.in_range.Tie as tie
