@@ -1,3 +1,25 @@
+-- A block's fault, and what questions 8 and 9 say to a block that has it.
+use mathlib.Core.Path.{_≡_, refl, sym, ap, _∙_}
+use mathlib.Core.Bool.{true}
+use mathlib.Core.List.{List}
+use Prim.Native.Nat.{ℕ}
+use lib.IntN.{ℤ, pos}
+use Rattle.integers.specs.Places.{Within}
+use Rattle.steps.specs.Limits.{readingLimit}
+use Rattle.runs.specs.Answers.{told}
+use Rattle.runs.specs.declared.answer.Answer.the-variants.{Done, DeadMark, Range}
+use Rattle.runs.specs.declared.answer.Found.{Found}
+use Rattle.runs.specs.declared.answer.Found.the-variants.{At, Nothing}
+use Rattle.runs.specs.declared.record.Run.{Run}
+use Rattle.runs.specs.Record.{advanced}
+use Rattle.runs.specs.Gate.{Given, askEach, inside, firstDead, firstOut}
+use Rattle.runs.specs.Forward.{frameOn, takenIn}
+use Rattle.runs.proofs.Searches.{none-within, nothing-is, all-inside}
+use Rattle.run.specs.declared.gate.Fault.{Fault}
+use Rattle.run.specs.declared.gate.Fault.the-variants.{Dead, Beyond, Clear}
+use Rattle.run.specs.Own.Faults.{faultBy, faultOf}
+use Rattle.run.proofs.GateLaws.{none-marked}
+
 -- ---- a block's fault
 module _ (block : List ℤ) where
   pub dead-found : (place : ℕ) → firstDead block 0 ≡ At place → Dead place ≡ faultOf block

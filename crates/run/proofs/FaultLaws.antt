@@ -1,7 +1,7 @@
 -- The first fault of the blocks of a whole run, block by block; and parts of the readings that are blocks.
 use mathlib.Core.Path.{_≡_, refl, sym, ap, _∙_}
-use mathlib.Core.Bool.{Bool, true, false, cond}
-use mathlib.Core.List.{List, [], _∷_, _++_}
+use mathlib.Core.Bool.{true}
+use mathlib.Core.List.{List, _++_}
 use Prim.Native.Nat.{ℕ, zero, suc, _+_, _-_, _*_, _≤_, _<_}
 use native.Mathlib.Nat.{mul-le-mul-right}
 use native.Mathlib.Omega.{arith}
@@ -10,16 +10,16 @@ use lib.ListN.{length, take, drop, length-append, length-drop}
 use lib.Seq.{length-take-le, drop-drop}
 use Rattle.tables.specs.Widths.{halfWidth}
 use Rattle.tables.proofs.ByWidth.{half-width-le}
-use Rattle.runs.specs.Answers.{first, beyond, firstBeyond}
 use Rattle.runs.specs.declared.answer.Found.{Found}
 use Rattle.runs.specs.declared.answer.Found.the-variants.{At, Nothing}
-use Rattle.steps.proofs.Undo.{width-half}
 use Rattle.run.specs.declared.gate.Fault.{Fault}
 use Rattle.run.specs.declared.gate.Fault.the-variants.{Dead, Beyond, Clear}
 use Rattle.runs.specs.Gate.{inside, firstDead, firstOut}
 use Rattle.run.specs.Own.Faults.{faultBy, faultOf, faultFrom, firstFault}
 use Rattle.run.specs.Own.Ready.{Blocks}
 use Rattle.steps.specs.Limits.{readingLimit}
+use Rattle.runs.proofs.Searches.{placeFound, found-place}
+use Rattle.runs.proofs.RecordLaws.{width-le}
 use Rattle.run.proofs.GateLaws.{inside-take, inside-drop}
 use Rattle.run.proofs.BlockLaws.{range-clear}
 

@@ -1,7 +1,7 @@
 -- A record that the gate has passed: what the steps can rely on, and the record that they leave.
-use mathlib.Core.Path.{_≡_, refl, sym, ap, ap₂, _∙_}
+use mathlib.Core.Path.{_≡_, refl, sym, ap, _∙_}
 use mathlib.Core.Bool.{Bool, true, false}
-use mathlib.Core.List.{List, [], _∷_, _++_}
+use mathlib.Core.List.{List, _∷_, _++_}
 use Prim.Native.Nat.{ℕ, zero, suc, _-_, _≤_, _<_}
 use native.Mathlib.Omega.{arith}
 use borrow.Author.Tests.{ltb-true, leb-true}
@@ -9,8 +9,6 @@ use lib.IntN.{ℤ, pos}
 use lib.ListN.{length, take, drop, length-drop, take-append-drop}
 use lib.Seq.{length-take-le}
 use Rattle.integers.specs.Places.{Within}
-use Rattle.integers.specs.Vectors.{AllAbs}
-use Rattle.integers.proofs.Order.{natAbs-zero}
 use Rattle.integers.proofs.PlaceLaws.{within-all}
 use Rattle.tables.specs.Widths.{halfWidth}
 use Rattle.tables.proofs.ByWidth.{half-width-le}
@@ -23,7 +21,7 @@ use Rattle.runs.specs.Record.{frameLimit, zeros, recordOf, filled, opened, adva
 use Rattle.runs.specs.Gate.{inside, sound}
 use Rattle.runs.specs.Forward.{frameOn}
 use Rattle.run.specs.Own.Ready.{Ready}
-use Rattle.runs.proofs.RecordLaws.{width-le}
+use Rattle.runs.proofs.RecordLaws.{width-le, zeros-are}
 use Rattle.runs.proofs.Searches.{all-inside}
 use Rattle.runs.proofs.CallLaws.{every-answer}
 
