@@ -1,29 +1,24 @@
--- The calls of a whole run back, one by one: the answer of the calls left, and their outputs.
-use mathlib.Core.Path.{_≡_, refl, sym, ap, ap₂, _∙_}
-use mathlib.Core.Bool.{Bool, true, false, cond}
-use mathlib.Core.List.{List, [], _++_, append-assoc, append-nil}
-use Prim.Native.Nat.{ℕ, zero, suc, _+_, _-_, _*_, _/_, _%_, _≤_, _<_}
+-- A whole run back as the code counts it: frames that are whole, the calls left behind the first frame, and their outputs in parts of one list.
+use mathlib.Core.Path.{_≡_, sym, ap, ap₂, _∙_}
+use mathlib.Core.List.{List, _++_, append-assoc, append-nil}
+use Prim.Native.Nat.{ℕ, suc, _+_, _-_, _*_, _/_, _%_, _≤_, _<_}
 use native.Mathlib.Nat.{mul-le-mul-right, add-div-right}
 use native.Mathlib.Numerals.{add-one}
 use native.Mathlib.Omega.{arith}
-use borrow.Author.Tests.{eqb-true, eqb-false, eq-eqb, ne-eqb}
-use lib.Dec.{eqb}
-use lib.IntN.{ℤ, pos}
-use lib.ListN.{length, take, drop, length-drop, length-replicate}
-use lib.Seq.{take-all, drop-drop, take-at, drop-at}
+use lib.IntN.{ℤ}
+use lib.ListN.{length, take, drop, length-drop}
+use lib.Seq.{take-all, drop-drop}
 use Rattle.tables.specs.Widths.{halfWidth}
-use Rattle.runs.specs.declared.answer.Found.{Found}
-use Rattle.runs.specs.declared.answer.Found.the-variants.{At, Nothing}
 use Rattle.runs.specs.declared.record.Run.{Run}
-use Rattle.runs.specs.Record.{frameLimit, zeros, opened}
-use Rattle.runs.specs.Gate.{Given, ask, askEach, admitted}
+use Rattle.runs.specs.Record.{frameLimit, zeros}
 use Rattle.runs.specs.Forward.{started}
 use Rattle.run.specs.Own.Ready.{Blocks}
 use Rattle.runs.proofs.RecordLaws.{width-le, width-pos}
-use Rattle.runs.proofs.WholeLaws.{whole-blocks}
+use Rattle.runs.proofs.WholeLaws.{whole-blocks, some-blocks}
+use Rattle.runs.proofs.OneByOne.{outputs-next, first-behind, outputs-behind}
 use Rattle.run.proofs.PartLaws.{written, written-front, written-rest}
-use Rattle.runs.specs.Back.{firstFrame, unfoldedIn, undoneIn, takenBack, endedBack}
-use Rattle.runs.specs.WholeBack.{placed, answerFrom, outputsFrom, allOutputs, firstAnswer}
+use Rattle.runs.specs.Back.{takenBack}
+use Rattle.runs.specs.WholeBack.{answerFrom, outputsFrom, allOutputs, firstAnswer}
 use Rattle.run_back.specs.Own.Ready.{Frames}
 
 -- ---- frames that are whole
@@ -37,11 +32,7 @@ module _ (N : ℕ) (frames : List ℤ) (f : Frames N frames) where
 pub frames-whole : (N : ℕ) (frames : List ℤ) → 0 < halfWidth N → length frames % N ≡ 0 → length frames / N ≤ frameLimit → 0 < length frames → Frames N frames
 frames-whole N frames w e few some =
     let whole = whole-blocks N frames e in
-    record { wide = w; whole = whole; some = by (length frames / N) whole; few = few }
-  where
-    by : (q : ℕ) → length frames ≡ q * N → 0 < q
-    by zero d = absurd (omega arith)
-    by (suc q) d = omega arith
+    record { wide = w; whole = whole; some = some-blocks N frames whole some; few = few }
 
 -- readings are one block less
 module _ (N : ℕ) (frames out : List ℤ) (f : Frames N frames) (r : length out + N ≡ length frames) where

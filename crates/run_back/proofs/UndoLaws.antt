@@ -5,13 +5,11 @@ use mathlib.Core.List.{List, [], _∷_}
 use Prim.Native.Nat.{ℕ, suc, _+_}
 use native.Mathlib.Nat.{add-suc, add-zero}
 use borrow.Author.Tests.{eq-eqb, ne-eqb}
-use lib.Dec.{eqb}
 use lib.IntN.{ℤ, pos}
 use lib.ListN.{length, take, drop}
 use Rattle.tables.specs.Widths.{halfWidth}
 use Rattle.steps.specs.Limits.{foldedLimit, coefficientLimit}
 use Rattle.steps.specs.Steps.{unstages, unfolded}
-use Rattle.steps.proofs.Undo.{length-unfolded}
 use Rattle.runs.specs.Answers.{first, firstBeyond}
 use Rattle.runs.specs.declared.answer.Found.{Found}
 use Rattle.runs.specs.declared.answer.Found.the-variants.{At, Nothing}
@@ -19,11 +17,11 @@ use Rattle.runs.specs.declared.record.Run.{Run}
 use Rattle.runs.specs.Record.{nextCount, opened}
 use Rattle.runs.specs.Gate.{askEach, firstOut}
 use Rattle.runs.proofs.RecordLaws.{take-filled}
-use Rattle.runs.proofs.Refusals.{Same, same-done, same-each, same-admitted}
+use Rattle.runs.proofs.BackLaws.{length-block}
 use Rattle.run_back.specs.declared.undo.Fault.{Fault}
 use Rattle.run_back.specs.declared.undo.Fault.the-variants.{Range, Folded, Halves, Unfolded, Clear}
 use Rattle.run_back.specs.Own.Faults.{toldFault, countAfter}
-use Rattle.runs.specs.Back.{framed, blockOn, firstUpper, firstFrame, laterFrame, unfoldedIn, undoneIn, takenBack}
+use Rattle.runs.specs.Back.{framed, blockOn, firstUpper, firstFrame, laterFrame, unfoldedIn, undoneIn}
 
 -- ---- a search whose places count from elsewhere
 from : ℕ → Found → Found

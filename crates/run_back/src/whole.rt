@@ -30,7 +30,7 @@ use tables::widths;
 // An answer with its place counted through the run; 12 counts by blocks.
 fn placed(width: usize, offset: usize, answer: Answer) -> Answer
     requires { ⌜ (offset ≤ 8388736) × (told answer .1 ≤ 128) ⌝ }
-    ensures { λ r. ⌜ told r ≡ Whole.placed width offset (told answer) ⌝ }
+    ensures { λ r. ⌜ told r ≡ WholeBack.placed width offset (told answer) ⌝ }
 {
     match answer {
         Answer::DeadMark(i) => Answer::DeadMark(offset + i),
