@@ -10,3 +10,4 @@ pub mod Cases
 pub mod Back
 pub mod WholeBack
 pub mod Return
+pub mod Samples
