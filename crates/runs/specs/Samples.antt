@@ -136,6 +136,11 @@ list-told : acceptedAll 8 0 false list ≡ false ∷ false ∷ false ∷ false �
 unfolding acceptedAll accepted countAfter overAfter nothing every first beyond dead
 list-told = refl
 
+-- a refused block is not counted, and behind 65,536 no block is taken
+last-told : acceptedAll 8 65535 false (block marked output ∷ block sample output ∷ block sample output ∷ finish output ∷ []) ≡ false ∷ true ∷ false ∷ true ∷ []
+unfolding acceptedAll accepted countAfter overAfter nothing every first beyond dead
+last-told = refl
+
 list-frames : framesGiven (madeFrom 8 list) ++ tab (frameAt 8 (blocksTaken 8 list)) 3 0 ≡ one ∷ between ∷ two ∷ one ∷ between ∷ two ∷ []
 unfolding framesGiven madeFrom made give works blocksTaken working kept blocksOf acceptedAll accepted countAfter overAfter frameAt blockAt blockBefore byWidth halfWidth halfTurn reflected minus signed sines halfTangents halfTangents8 secants secants8 cosineOf sineOf halfTangentOf secantOf round floorDiv tab sum rootLog tangent sine cosine oddOf secant alternate tangentAmount sineAmount rotatedA rotatedB lower held topOf bottomOf amount1 amount2 amount3 stage1 stage2 stage3 stage4 stage5 stages frame first beyond ask askEach nothing inside every sound admitted filled opened advanced closed started frameOn takenIn taken ended dead
 list-frames = refl
@@ -162,7 +167,8 @@ ends-given : Said {A = Given}
     ∷ (endedBack (recordOf 8 0 (zeros 64) true), ((3, 0), recordOf 8 0 (zeros 64) true, []))
     ∷ (endedBack start, ((5, 0), start, []))
     ∷ (endedBack back1, ((11, 3), back1, []))
-    ∷ (endedBack (opened 8 2 []), ((0, 0), recordOf 8 2 (zeros 64) true, []))
+    ∷ (endedBack (opened 8 65538 []), ((2, 0), opened 8 65538 [], []))
+    ∷ (endedBack (opened 8 65537 []), ((0, 0), recordOf 8 65537 (zeros 64) true, []))
     ∷ [])
 unfolding halfWidth byWidth first beyond ask askEach nothing inside every sound admitted filled opened closed started firstHeld endedBack
 ends-given = refl
@@ -185,6 +191,7 @@ whole-back-given : Said {A = (ℕ × ℕ) × List ℤ}
     ∷ (Back.wholeBack 8 (zeros 9) (ones 1), ((6, 0), ones 1))
     ∷ (Back.wholeBack 8 [] [], ((6, 0), []))
     ∷ (Back.wholeBack 8 one (ones 1), ((7, 0), ones 1))
+    ∷ (Back.wholeBack 8 (one ++ two) [], ((7, 0), []))
     ∷ (Back.wholeBack 8 (one ++ two ++ large) (ones 16), ((9, 18), ones 16))
     ∷ (Back.wholeBack 8 (one ++ two ++ beyondBlock) (ones 16), ((12, 13), ones 16))
     ∷ (Back.wholeBack 8 (one ++ between) output, ((11, 11), output))
