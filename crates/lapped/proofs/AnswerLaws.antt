@@ -2,9 +2,9 @@
 use mathlib.Core.Path.{_≡_, refl}
 use Prim.Native.Nat.{ℕ, _≤_}
 use native.Mathlib.Omega.{arith}
-use Rattle.lifting.specs.Gate.{told}
-use Rattle.lifting.specs.declared.gate.Answer.{Answer}
-use Rattle.lifting.specs.declared.gate.Answer.the-variants.{Done, Width, Record, Closed, Full, Empty, InputLength, OutputLength, DeadMark, Range, Folded, Halves, Unfolded}
+use Rattle.runs.specs.Answers.{told}
+use Rattle.runs.specs.declared.answer.Answer.{Answer}
+use Rattle.runs.specs.declared.answer.Answer.the-variants.{Done, Width, Record, Closed, Full, Empty, InputLength, OutputLength, DeadMark, Range, Folded, Halves, Unfolded}
 
 pub told-pair : (answer : ℕ × ℕ) {a b : ℕ} → a ≡ answer .0 → b ≡ answer .1 → (a, b) ≡ answer
 told-pair (n, m) p q = rw (p, q)

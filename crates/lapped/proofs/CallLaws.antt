@@ -11,22 +11,22 @@ use lib.IntN.{ℤ, pos}
 use lib.ListN.{length, take, set}
 use Rattle.integers.specs.Places.{at}
 use Rattle.tables.specs.Widths.{byWidth, halfWidth}
-use Rattle.lifting.specs.Gate.{told}
-use Rattle.lifting.specs.declared.gate.Answer.the-variants.{Record}
-use Rattle.lifting.specs.declared.gate.Found.{Found}
-use Rattle.lifting.specs.declared.gate.Found.the-variants.{At, Nothing}
-use Rattle.run.specs.declared.record.Run.{Run}
-use Rattle.run.specs.Record.{blockLimit, frameLimit, zeros, recordOf, nextCount, opened, closed}
-use Rattle.run.specs.Gate as Gate
-use Rattle.run.specs.Gate.{ask, askEach, admitted, sound}
-use Rattle.run.specs.Forward.{started, ended}
-use Rattle.run.proofs.AskLaws.{record-refused}
-use Rattle.run.proofs.CallLaws.{every-answer}
-use Rattle.run.proofs.FaultLaws.{width-le}
+use Rattle.runs.specs.Answers.{told}
+use Rattle.runs.specs.declared.answer.Answer.the-variants.{Record}
+use Rattle.runs.specs.declared.answer.Found.{Found}
+use Rattle.runs.specs.declared.answer.Found.the-variants.{At, Nothing}
+use Rattle.runs.specs.declared.record.Run.{Run}
+use Rattle.runs.specs.Record.{blockLimit, frameLimit, zeros, recordOf, nextCount, opened, closed}
+use Rattle.runs.specs.Gate as Gate
+use Rattle.runs.specs.Gate.{ask, askEach, admitted, sound}
+use Rattle.runs.specs.Forward.{started, ended}
+use Rattle.runs.proofs.AskLaws.{record-refused}
+use Rattle.runs.proofs.CallLaws.{every-answer}
+use Rattle.runs.proofs.RecordLaws.{width-le}
 use Rattle.run.proofs.GateLaws.{no-width}
 use Rattle.run.proofs.PartLaws.{written-end}
-use Rattle.run.proofs.Refusals.{Same}
-use Rattle.run_back.specs.Back.{endedBack}
+use Rattle.runs.proofs.Refusals.{Same}
+use Rattle.runs.specs.Back.{endedBack}
 use Rattle.lapped.specs.Record.{runLength, isRecord, packed, unpacked}
 use Rattle.lapped.specs.Ready.{Packable}
 use Rattle.lapped.specs.Calls.{Given, kept, handed, lappedStart}

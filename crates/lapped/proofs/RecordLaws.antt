@@ -15,10 +15,10 @@ use mir.Val.{toZ, ofZ, boolByte}
 use borrow.Rule.Slice.PartMut.{putMid}
 use Rattle.integers.specs.Places.{at}
 use Rattle.integers.proofs.Held.{held-ok}
-use Rattle.run.specs.declared.record.Run.{Run}
-use Rattle.run.specs.Record.{zeros, recordOf, filled, opened}
-use Rattle.run.specs.Gate.{every}
-use Rattle.run.proofs.CallLaws.{every-answer}
+use Rattle.runs.specs.declared.record.Run.{Run}
+use Rattle.runs.specs.Record.{zeros, recordOf, filled, opened}
+use Rattle.runs.specs.Gate.{every}
+use Rattle.runs.proofs.CallLaws.{every-answer}
 use Rattle.run.proofs.PartLaws.{written-end}
 use Rattle.lapped.specs.Record.{runLength, isRecord, packed, unpacked}
 use Rattle.lapped.specs.Ready.{Packable}

@@ -5,10 +5,10 @@ use Prim.Native.Nat.{ℕ}
 use lib.Dec.{eqb}
 use lib.IntN.{ℤ}
 use lib.ListN.{length}
-use Rattle.run.specs.declared.record.Run.{Run}
-use Rattle.run.specs.Gate as Gate
-use Rattle.run.specs.Forward.{started, taken, ended}
-use Rattle.run_back.specs.Back.{takenBack, endedBack}
+use Rattle.runs.specs.declared.record.Run.{Run}
+use Rattle.runs.specs.Gate as Gate
+use Rattle.runs.specs.Forward.{started, taken, ended}
+use Rattle.runs.specs.Back.{takenBack, endedBack}
 use Rattle.lapped.specs.Record.{runLength, packed, unpacked}
 
 abbrev pub Given : Type 0

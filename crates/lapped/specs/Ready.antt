@@ -4,7 +4,7 @@ use mathlib.Core.List.{List}
 use Prim.Native.Nat.{_<_, _^_}
 use lib.IntN.{ℤ}
 use lib.ListN.{length}
-use Rattle.run.specs.declared.record.Run.{Run}
+use Rattle.runs.specs.declared.record.Run.{Run}
 use Rattle.lapped.specs.Record.{runLength}
 
 pub record Packable (run : Run) (numbers : List ℤ) : Type 0 where

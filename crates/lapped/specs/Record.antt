@@ -7,9 +7,9 @@ use lib.IntN.{ℤ, pos, natAbs}
 use lib.ListN.{length, drop}
 use lib.Signed.{nonNeg}
 use Rattle.integers.specs.Places.{at}
-use Rattle.run.specs.declared.record.Run.{Run}
-use Rattle.run.specs.Record.{opened}
-use Rattle.run.specs.Gate.{every}
+use Rattle.runs.specs.declared.record.Run.{Run}
+use Rattle.runs.specs.Record.{opened}
+use Rattle.runs.specs.Gate.{every}
 
 -- three numbers and 64 held values
 abbrev pub runLength : ℕ

@@ -1,18 +1,17 @@
 // An answer for C: its number by value, its place in a lent number, and the record in a lent slice.
 ghost use mathlib.Core.Path.{_≡_};
-ghost use Rattle.lifting.specs.Gate.{told};
+ghost use Rattle.runs.specs.Answers.{told};
 ghost use Rattle.lapped.specs.Calls.{kept};
 ghost use Rattle.lapped.specs.Ready.{Packable};
 use crate::record;
-use lifting::gate;
-use lifting::gate::Answer;
-use run::record::Outcome;
+use runs::answer::Answer;
+use runs::record::Outcome;
 
 pub fn tell(answer: Answer, place: &mut usize) -> u32
     ensures { λ r. ⌜ (r, now (place .exit)) ≡ told answer ⌝ }
 {
-    *place = gate::place(answer);
-    gate::number(answer) as u32
+    *place = runs::answer::place(answer);
+    runs::answer::number(answer) as u32
 }
 
 // The record is packed where the call has worked.
@@ -22,7 +21,7 @@ pub fn hand_back(outcome: Outcome, numbers: &mut [i64], place: &mut usize) -> u3
     ensures { λ _. ⌜ now (numbers .exit) ≡ kept (told (outcome .answer) .0) (outcome .run) (now (numbers .entry)) ⌝ }
 {
     let answer = outcome.answer;
-    if gate::number(answer) != 0 {
+    if runs::answer::number(answer) != 0 {
         return tell(answer, place);
     }
     let run = outcome.run;

@@ -4,11 +4,10 @@ ghost use mathlib.Core.List.{[]};
 ghost use Rattle.lapped.specs.Calls.{lappedStart, lappedTake, lappedFinish, lappedBackTake, lappedBackFinish};
 use crate::answer;
 use crate::record;
-use lifting::gate;
-use lifting::gate::Answer;
 use run::forward;
 use run::in_place;
 use run_back::back;
+use runs::answer::Answer;
 
 // A fresh run of a width, either way.
 #[no_mangle]
@@ -22,7 +21,7 @@ pub extern "C" fn lapped_start(width: usize, run: &mut [i64], place: &mut usize)
         record::pack(begun, run);
         return answer::tell(answer, place);
     }
-    if gate::number(answer) == 0 {
+    if runs::answer::number(answer) == 0 {
         return answer::tell(Answer::Record, place);
     }
     answer::tell(answer, place)

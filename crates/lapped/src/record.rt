@@ -5,14 +5,13 @@ ghost use Prim.Native.Nat.{_<_};
 ghost use lib.IntN.{pos};
 ghost use lib.ListN.{length, drop, set};
 ghost use Rattle.integers.specs.Places.{at};
-ghost use Rattle.lifting.specs.Gate.{told};
-ghost use Rattle.run.specs.Record.{recordOf, nextCount};
+ghost use Rattle.runs.specs.Answers.{told};
+ghost use Rattle.runs.specs.Record.{recordOf, nextCount};
 ghost use Rattle.lapped.specs.Record.{isRecord, packed, unpacked};
 ghost use Rattle.lapped.specs.Ready.{Packable};
-use lifting::gate;
-use lifting::gate::Answer;
-use run::record;
-use run::record::Run;
+use runs::answer::Answer;
+use runs::record;
+use runs::record::Run;
 
 pub struct Head {
     pub width: usize,
@@ -68,7 +67,7 @@ pub fn store_count(count: usize, answer: Answer, numbers: &mut [i64])
     requires { ⌜ (length (now numbers) ≡ 67) × (at (now numbers) 1 ≡ pos count) ⌝ }
     ensures { λ _. ⌜ now (numbers .exit) ≡ set (now (numbers .entry)) 1 (pos (nextCount (told answer .0) count)) ⌝ }
 {
-    if gate::number(answer) != 0 {
+    if runs::answer::number(answer) != 0 {
         return;
     }
     numbers[1] = (count + 1) as i64;

@@ -1,8 +1,8 @@
 // Whole runs over lent slices, and the five stages alone, for C.
 ghost use mathlib.Core.Path.{_≡_};
-ghost use Rattle.lifting.specs.Gate.{stagesAlone, unstagesAlone};
-ghost use Rattle.run.specs.Whole.{wholeForward, WholeRun};
-ghost use Rattle.run_back.specs.Whole.{wholeBack};
+ghost use Rattle.runs.specs.Alone.{stagesAlone, unstagesAlone};
+ghost use Rattle.runs.specs.Whole.{wholeForward, WholeRun};
+ghost use Rattle.runs.specs.WholeBack.{wholeBack};
 use crate::answer;
 use lifting::frame;
 

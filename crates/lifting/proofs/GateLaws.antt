@@ -1,23 +1,18 @@
--- The search for the first number beyond a limit: what a number decides, by the two tests of the code, and what a search without result tells.
-use mathlib.Core.Path.{_≡_, refl, sym, ap, subst, _∙_}
-use mathlib.Core.Bool.{Bool, true, false, cond}
-use mathlib.Core.List.{List, [], _∷_}
-use Prim.Native.Nat.{ℕ, zero, suc, _+_, _≤_, _<_}
+-- The search for the first number beyond a limit: what a number decides, by the two tests of the code, and how the search goes on.
+use mathlib.Core.Path.{_≡_, sym, subst}
+use mathlib.Core.Bool.{Bool, true, false}
+use mathlib.Core.List.{List}
+use Prim.Native.Nat.{ℕ, zero, suc, _+_, _<_}
 use native.Mathlib.Numerals.{add-one}
 use native.Mathlib.Omega.{arith}
-use borrow.Author.Tests.{lt-ltb, le-ltb, ltb-true, ltb-false, eq-eqb, ne-eqb}
+use borrow.Author.Tests.{lt-ltb, le-ltb, ltb-true, ltb-false}
 use lib.Dec.{T}
-use lib.IntN.{ℤ, pos, negsuc, negℤ, natAbs}
+use lib.IntN.{ℤ, pos, negsuc, negℤ}
 use lib.ListN.{length, getD, drop}
 use lib.Seq.{drop-cons, drop-length}
 use lib.Signed.{ltZ, _≤ℤ_}
-use Rattle.integers.specs.Places.{at, Within}
-use Rattle.tables.specs.Widths.{halfWidth}
-use Rattle.steps.specs.Steps.{stages, unstages}
-use Rattle.lifting.specs.Gate.{told, beyond, first, firstBeyond, Given, refusedAt, shaped, stagesAsked, unstagesAsked}
-use Rattle.lifting.specs.declared.gate.Answer.the-variants.{Done, Width, InputLength, OutputLength, Range, Folded}
-use Rattle.lifting.specs.declared.gate.Found.{Found}
-use Rattle.lifting.specs.declared.gate.Found.the-variants.{At, Nothing}
+use Rattle.runs.specs.Answers.{beyond, first}
+use Rattle.runs.specs.declared.answer.Found.the-variants.{At, Nothing}
 
 pub above : (l x : ℤ) → pos 0 ≤ℤ l → ltZ l x ≡ true → beyond l x ≡ true
 unfolding beyond
@@ -53,73 +48,3 @@ module _ (test : ℤ → Bool) (s : List ℤ) (i : ℕ) where
   pub ends : i ≡ length s → first test (drop i s) i ≡ Nothing
   unfolding first
   ends e = rw (e, drop-length)
-
--- ---- a search without result
-found : Found → Bool
-found (At i) = true
-found Nothing = false
-
-unfound : (b : Bool) (k : ℕ) (f : Found) → cond b (At k) f ≡ Nothing → (b ≡ false) × (f ≡ Nothing)
-unfolding found
-unfound true k f e = absurd (subst T (ap found e) tt)
-unfound false k f e = (refl, e)
-
-none-beyond : (l : ℕ) (s : List ℤ) (k : ℕ) → firstBeyond (pos l) s k ≡ Nothing → (i : ℕ) → natAbs (at s i) ≤ l
-unfolding first beyond
-none-beyond l [] k e i = omega arith
-none-beyond l (x ∷ s) k e zero = ltb-false l (natAbs x) (unfound (beyond (pos l) x) k (firstBeyond (pos l) s (suc k)) e .0)
-none-beyond l (x ∷ s) k e (suc i) = none-beyond l s (suc k) (unfound (beyond (pos l) x) k (firstBeyond (pos l) s (suc k)) e .1) i
-
-pub none-within : (l : ℕ) (s : List ℤ) → firstBeyond (pos l) s 0 ≡ Nothing → Within l s
-none-within l s e = record { size = none-beyond l s 0 e }
-
--- ---- what a question about every number decides
-refused : (n i : ℕ) (f : Found) (out : List ℤ) (next : Given) → f ≡ At i → ((n, i), out) ≡ refusedAt n f out next
-unfolding refusedAt
-refused n i f out next e = sym (ap (λ g. refusedAt n g out next) e)
-
-passed : (n : ℕ) (f : Found) (out : List ℤ) (next : Given) → f ≡ Nothing → next ≡ refusedAt n f out next
-unfolding refusedAt
-passed n f out next e = sym (ap (λ g. refusedAt n g out next) e)
-
-module _ (N : ℕ) (values out : List ℤ) where
-  pub stages-refused : (i : ℕ) → firstBeyond (pos 50000) values 0 ≡ At i → (told (Folded i), out) ≡ stagesAsked N values out
-  unfolding told stagesAsked
-  stages-refused i e = refused 10 i _ out _ e
-
-  pub stages-done : firstBeyond (pos 50000) values 0 ≡ Nothing → (told Done, stages N values) ≡ stagesAsked N values out
-  unfolding told stagesAsked
-  stages-done e = passed 10 _ out _ e
-
-  pub unstages-refused : (i : ℕ) → firstBeyond (pos 1048576) values 0 ≡ At i → (told (Range i), out) ≡ unstagesAsked N values out
-  unfolding told unstagesAsked
-  unstages-refused i e = refused 9 i _ out _ e
-
-  module _ (e : firstBeyond (pos 1048576) values 0 ≡ Nothing) where
-    pub unstaged-refused : (i : ℕ) → firstBeyond (pos 50000) (unstages N values) 0 ≡ At i → (told (Folded i), out) ≡ unstagesAsked N values out
-    unfolding told unstagesAsked
-    unstaged-refused i d = refused 10 i _ out _ d ∙ passed 9 _ out _ e
-
-    pub unstages-done : firstBeyond (pos 50000) (unstages N values) 0 ≡ Nothing → (told Done, unstages N values) ≡ unstagesAsked N values out
-    unfolding told unstagesAsked
-    unstages-done d = passed 10 _ out _ d ∙ passed 9 _ out _ e
-
--- ---- questions 1, 6 and 7
-module _ (N : ℕ) (given out : List ℤ) (next : Given) where
-  pub width-refused : halfWidth N ≡ 0 → (told Width, out) ≡ shaped N given out next
-  unfolding told shaped
-  width-refused e = rw (eq-eqb _ _ e)
-
-  module _ (w : halfWidth N ≡ 0 → ⊥) where
-    pub input-refused : (length given ≡ N → ⊥) → (told InputLength, out) ≡ shaped N given out next
-    unfolding told shaped
-    input-refused e = rw (ne-eqb _ _ w, ne-eqb _ _ e)
-
-    module _ (g : length given ≡ N) where
-      pub output-refused : (length out ≡ N → ⊥) → (told OutputLength, out) ≡ shaped N given out next
-      unfolding told shaped
-      output-refused e = rw (ne-eqb _ _ w, eq-eqb _ _ g, ne-eqb _ _ e)
-
-      pub shape-passed : length out ≡ N → next ≡ shaped N given out next
-      unfolding shaped
-      shape-passed e = rw (ne-eqb _ _ w, eq-eqb _ _ g, eq-eqb _ _ e)

@@ -1,7 +1,7 @@
 -- The first fault of the blocks of a whole run, block by block; and parts of the readings that are blocks.
 use mathlib.Core.Path.{_≡_, refl, sym, ap, _∙_}
-use mathlib.Core.Bool.{Bool, true, false, cond}
-use mathlib.Core.List.{List, [], _∷_, _++_}
+use mathlib.Core.Bool.{true}
+use mathlib.Core.List.{List, _++_}
 use Prim.Native.Nat.{ℕ, zero, suc, _+_, _-_, _*_, _≤_, _<_}
 use native.Mathlib.Nat.{mul-le-mul-right}
 use native.Mathlib.Omega.{arith}
@@ -10,37 +10,24 @@ use lib.ListN.{length, take, drop, length-append, length-drop}
 use lib.Seq.{length-take-le, drop-drop}
 use Rattle.tables.specs.Widths.{halfWidth}
 use Rattle.tables.proofs.ByWidth.{half-width-le}
-use Rattle.lifting.specs.Gate.{first, beyond, firstBeyond}
-use Rattle.lifting.specs.declared.gate.Found.{Found}
-use Rattle.lifting.specs.declared.gate.Found.the-variants.{At, Nothing}
-use Rattle.steps.proofs.Undo.{width-half}
+use Rattle.runs.specs.declared.answer.Found.{Found}
+use Rattle.runs.specs.declared.answer.Found.the-variants.{At, Nothing}
 use Rattle.run.specs.declared.gate.Fault.{Fault}
 use Rattle.run.specs.declared.gate.Fault.the-variants.{Dead, Beyond, Clear}
-use Rattle.run.specs.Gate.{inside, firstDead, firstOut}
-use Rattle.run.specs.Faults.{faultBy, faultOf, faultFrom, firstFault}
-use Rattle.run.specs.Ready.{Blocks}
+use Rattle.runs.specs.Gate.{inside, firstDead, firstOut}
+use Rattle.run.specs.Own.Faults.{faultBy, faultOf, faultFrom, firstFault}
+use Rattle.run.specs.Own.Ready.{Blocks}
 use Rattle.steps.specs.Limits.{readingLimit}
+use Rattle.runs.proofs.Searches.{placeFound, found-place}
+use Rattle.runs.proofs.RecordLaws.{width-le}
 use Rattle.run.proofs.GateLaws.{inside-take, inside-drop}
-use Rattle.run.proofs.AskLaws.{range-clear}
+use Rattle.run.proofs.BlockLaws.{range-clear}
 
 -- ---- a fault's place is in its block
-unfoldable pub placeFound : Found → ℕ
-placeFound (At place) = place
-placeFound Nothing = 0
-
 placeOf : Fault → ℕ
 placeOf (Dead place) = place
 placeOf (Beyond place) = place
 placeOf Clear = 0
-
-pub found-place : (test : ℤ → Bool) (xs : List ℤ) (k : ℕ) → placeFound (first test xs k) ≤ k + length xs
-unfolding first placeFound
-found-place test [] k = omega arith
-found-place test (x ∷ xs) k = by (test x) (found-place test xs (suc k))
-  where
-    by : (b : Bool) → placeFound (first test xs (suc k)) ≤ suc k + length xs → placeFound (cond b (At k) (first test xs (suc k))) ≤ k + suc (length xs)
-    by true h = omega arith
-    by false h = omega arith
 
 fault-place : (xs : List ℤ) → placeOf (faultOf xs) ≤ length xs
 unfolding faultOf faultBy placeOf placeFound
@@ -60,12 +47,6 @@ unfolding placeOf
 beyond-place xs place e = omega (arith, fault-place xs, ap placeOf e)
 
 -- ---- blocks of readings
-pub width-le : (N : ℕ) → 0 < halfWidth N → N ≤ 128
-width-le N w = omega (arith, width-half N w, half-width-le N)
-
-pub width-pos : (N : ℕ) → 0 < halfWidth N → 0 < N
-width-pos N w = omega (arith, width-half N w)
-
 -- room for a width, and for half of it
 pub width-room : (N : ℕ) (xs : List ℤ) → 0 < halfWidth N → 128 ≡ length xs → N ≤ length xs
 width-room N xs w e = omega (arith, width-le N w)
@@ -145,11 +126,6 @@ module _ (N before left b : ℕ) (readings : List ℤ) (h : 0 < left) (e : first
 pub none-left : (N before left : ℕ) (xs : List ℤ) → left ≡ 0 → Clear ≡ firstFault N before left xs
 unfolding firstFault
 none-left N before left xs e = rw e
-
--- a number found beyond a limit stands in its list
-pub beyond-at : (limit : ℤ) (xs : List ℤ) (place : ℕ) → firstBeyond limit xs 0 ≡ At place → place ≤ length xs
-unfolding placeFound
-beyond-at limit xs place e = omega (arith, found-place (beyond limit) xs 0, ap placeFound e)
 
 -- readings that are all in range have no fault
 pub none-at-all : (N before b : ℕ) (readings : List ℤ) → inside (pos readingLimit) readings ≡ true → firstFault N before b readings ≡ Clear

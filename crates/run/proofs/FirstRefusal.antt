@@ -1,29 +1,33 @@
--- The first refusal among the calls of a whole run is told from its readings: it is that of their first fault.
-use mathlib.Core.Path.{_≡_, refl, _∙_}
-use mathlib.Core.Bool.{true, false}
+-- The first refusal among the calls of a whole run is told from its readings: it is that of their first fault. What the run gives by it.
+use mathlib.Core.Path.{_≡_, refl, ap, _∙_}
+use mathlib.Core.Bool.{true, false, cond}
 use mathlib.Core.List.{List, [], _∷_}
-use Prim.Native.Nat.{ℕ, zero, suc, _+_, _*_, _≤_, _<_}
+use Prim.Native.Nat.{ℕ, zero, suc, _+_, _*_, _/_, _%_, _≤_, _<_}
 use native.Mathlib.Omega.{arith}
 use borrow.Author.Tests.{lt-ltb, eq-eqb}
-use lib.Dec.{eqb·suc-zero}
+use lib.Dec.{eqb, eqb·suc-zero}
 use lib.IntN.{ℤ}
 use lib.ListN.{length, take, drop, length-drop}
 use lib.Seq.{length-take-le}
+use Rattle.tables.specs.Widths.{halfWidth}
 use Rattle.steps.specs.Steps.{held}
-use Rattle.lifting.specs.declared.gate.Found.{Found}
-use Rattle.lifting.specs.declared.gate.Found.the-variants.{At, Nothing}
-use Rattle.run.specs.declared.record.Run.{Run}
+use Rattle.distance.specs.Statement.{IsWidth}
+use Rattle.runs.specs.declared.answer.Found.{Found}
+use Rattle.runs.specs.declared.answer.Found.the-variants.{At, Nothing}
+use Rattle.runs.specs.declared.record.Run.{Run}
 use Rattle.run.specs.declared.gate.Fault.{Fault}
 use Rattle.run.specs.declared.gate.Fault.the-variants.{Clear}
-use Rattle.run.specs.Record.{blockLimit, opened}
-use Rattle.run.specs.Gate.{askEach, nothing, every, firstDead, firstOut}
-use Rattle.run.specs.Forward.{takenIn}
-use Rattle.run.specs.Calls.{Call, block, finish, give, made, works, accepted}
-use Rattle.run.specs.Whole.{callsOf, firstRefusal}
-use Rattle.run.specs.Faults.{toldFault, faultBy, faultOf, faultFrom, firstFault}
-use Rattle.run.proofs.RecordLaws.{Reached, reached-next}
-use Rattle.run.proofs.CallLaws.{accepted-block, taken-decided, ended-decided, taken-in}
-use Rattle.run.proofs.AskLaws.{clear-both}
+use Rattle.runs.specs.Record.{blockLimit, zeros, opened}
+use Rattle.runs.specs.Gate.{askEach, nothing, every, firstDead, firstOut}
+use Rattle.runs.specs.Forward.{takenIn}
+use Rattle.runs.specs.Calls.{Call, block, finish, give, made, works, accepted}
+use Rattle.runs.specs.Whole.{callsOf, firstRefusal, outputs, wholeForward, WholeRun}
+use Rattle.run.specs.Own.Faults.{toldFault, faultBy, faultOf, faultFrom, firstFault}
+use Rattle.runs.proofs.RecordLaws.{Reached, reached-first, reached-next}
+use Rattle.runs.proofs.CallLaws.{accepted-block, taken-decided, ended-decided, taken-in}
+use Rattle.runs.proofs.EveryList.{started-open}
+use Rattle.runs.proofs.WholeLaws as Whole
+use Rattle.run.proofs.BlockLaws.{clear-both}
 
 -- ---- the first refusal: of the first call, or of those after it
 module _ (N before : ℕ) (run : Run) (c : Call) (calls : List Call) where
@@ -73,3 +77,21 @@ first-refusal N zero count before previous readings out r h l m = finish-refusal
 first-refusal N (suc b) count before previous readings out r h l m =
     block-refusal N count previous r (take N readings) (take N out) (length-take-le N readings (omega arith)) (length-take-le N out (omega arith)) (omega arith) before _ _
     (λ s. first-refusal N b (suc count) (before + N) (take N readings) (drop N readings) (drop N out) s (omega arith) (simp length-drop (omega arith)) (simp length-drop (omega arith)))
+
+-- ---- a whole run, by its first fault
+module _ (N : ℕ) (w : IsWidth N) (readings out : List ℤ) (whole : length readings ≡ length readings / N * N) (few : length readings / N ≤ blockLimit)
+    (room : length out ≡ length readings + N) where
+  refusal-is : firstRefusal N 0 (Whole.callsMade N readings out) ≡ toldFault (firstFault N 0 (length readings / N) readings)
+  refusal-is = rw (started-open N w) (first-refusal N (length readings / N) 0 0 (zeros N) readings out (reached-first N w) (omega arith) whole (omega arith))
+
+  pub whole-run : firstFault N 0 (length readings / N) readings ≡ Clear → WholeRun N readings (outputs (Whole.callsMade N readings out))
+  unfolding toldFault
+  whole-run c = Whole.whole-run N w readings out (refusal-is ∙ ap toldFault c)
+
+module _ (N : ℕ) (readings out : List ℤ) (w : halfWidth N ≡ 0 → ⊥) (e : length readings % N ≡ 0) (few : length readings / N ≤ blockLimit) (room : length out ≡ length readings + N) where
+  pub by-fault : (f : Fault) → firstFault N 0 (length readings / N) readings ≡ f → (toldFault f, cond (eqb (toldFault f .0) 0) (outputs (Whole.callsMade N readings out)) out) ≡ wholeForward N readings out
+  by-fault f d = Whole.by-refusal N readings out w e few room (toldFault f) (refusal-is N (omega (arith, w)) readings out (Whole.whole-blocks N readings e) few room ∙ ap toldFault d)
+
+  pub whole-done : firstFault N 0 (length readings / N) readings ≡ Clear → ((0, 0), outputs (Whole.callsMade N readings out)) ≡ wholeForward N readings out
+  unfolding toldFault
+  whole-done d = by-fault Clear d

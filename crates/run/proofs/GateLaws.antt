@@ -21,14 +21,13 @@ use Rattle.integers.proofs.PlaceLaws.{within-all, within-up}
 use Rattle.integers.proofs.Products.{all-append, all-getD}
 use Rattle.tables.specs.Widths.{halfWidth}
 use Rattle.steps.specs.Limits.{readingLimit, foldedLimit}
-use Rattle.lifting.specs.Gate.{beyond, firstBeyond}
-use Rattle.lifting.specs.declared.gate.Found.the-variants.{At, Nothing}
+use Rattle.runs.specs.Answers.{beyond, firstBeyond}
+use Rattle.runs.specs.declared.answer.Found.the-variants.{At, Nothing}
 use Rattle.lifting.proofs.GateLaws.{stops, goes-on, ends}
-use Rattle.run.specs.declared.record.Run.{Run}
-use Rattle.run.specs.Gate.{nothing, inside, every, sound, dead, firstDead}
-use Rattle.run.proofs.StepLaws.{all-within}
-use Rattle.run.proofs.Searches.{All, none-found, inside-all, all-inside}
-use Rattle.run.proofs.RecordLaws.{all-take, all-drop}
+use Rattle.runs.specs.declared.record.Run.{Run}
+use Rattle.runs.specs.Gate.{nothing, inside, every, sound, dead, firstDead}
+use Rattle.runs.proofs.Searches.{all-within, All, none-found, inside-all, all-inside}
+use Rattle.runs.proofs.RecordLaws.{all-take, all-drop}
 
 pub marked : (x : ℤ) → x ≡ negsuc 32767 → dead x ≡ true
 unfolding dead

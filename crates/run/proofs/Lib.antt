@@ -1,16 +1,9 @@
 pub mod GateLaws
 pub mod StepLaws
 pub mod RoomLaws
-pub mod Searches
-pub mod RecordLaws
-pub mod CallLaws
-pub mod EveryList
+pub mod BlockLaws
 pub mod FirstRefusal
-pub mod WholeLaws
-pub mod Cases
 pub mod ReadyLaws
-pub mod Refusals
-pub mod AskLaws
 pub mod FaultLaws
 pub mod PartLaws
 pub mod Stepping

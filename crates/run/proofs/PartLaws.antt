@@ -7,11 +7,11 @@ use lib.IntN.{ℤ}
 use lib.ListN.{length, take, drop, length-append, length-drop, drop-of-length-le}
 use lib.Seq.{length-take-le, take-at, drop-drop}
 use borrow.Rule.Slice.PartMut.{putMid, drop-put}
-use Rattle.run.specs.declared.record.Run.{Run}
-use Rattle.run.specs.Gate.{Given}
-use Rattle.run.specs.Forward.{taken, ended}
-use Rattle.run.specs.Calls.{give, made}
-use Rattle.run.specs.Whole.{callsOf, outputs}
+use Rattle.runs.specs.declared.record.Run.{Run}
+use Rattle.runs.specs.Gate.{Given}
+use Rattle.runs.specs.Forward.{taken, ended}
+use Rattle.runs.specs.Calls.{give, made}
+use Rattle.runs.specs.Whole.{callsOf, outputs}
 
 -- ---- a part put back into its list
 abbrev pub written : ℕ → ℕ → List ℤ → List ℤ → List ℤ

@@ -1,7 +1,7 @@
 -- A record that the gate has passed: what the steps can rely on, and the record that they leave.
-use mathlib.Core.Path.{_≡_, refl, sym, ap, ap₂, _∙_}
+use mathlib.Core.Path.{_≡_, refl, sym, ap, _∙_}
 use mathlib.Core.Bool.{Bool, true, false}
-use mathlib.Core.List.{List, [], _∷_, _++_}
+use mathlib.Core.List.{List, _∷_, _++_}
 use Prim.Native.Nat.{ℕ, zero, suc, _-_, _≤_, _<_}
 use native.Mathlib.Omega.{arith}
 use borrow.Author.Tests.{ltb-true, leb-true}
@@ -9,8 +9,6 @@ use lib.IntN.{ℤ, pos}
 use lib.ListN.{length, take, drop, length-drop, take-append-drop}
 use lib.Seq.{length-take-le}
 use Rattle.integers.specs.Places.{Within}
-use Rattle.integers.specs.Vectors.{AllAbs}
-use Rattle.integers.proofs.Order.{natAbs-zero}
 use Rattle.integers.proofs.PlaceLaws.{within-all}
 use Rattle.tables.specs.Widths.{halfWidth}
 use Rattle.tables.proofs.ByWidth.{half-width-le}
@@ -18,18 +16,14 @@ use Rattle.steps.specs.Limits.{readingLimit, foldedLimit}
 use Rattle.steps.specs.Steps.{held, frame}
 use Rattle.steps.proofs.Undo.{length-held}
 use Rattle.distance.proofs.ZeroBlock.{zero-block}
-use Rattle.run.specs.declared.record.Run.{Run}
-use Rattle.run.specs.Record.{frameLimit, zeros, recordOf, filled, opened, advanced}
-use Rattle.run.specs.Gate.{inside, sound}
-use Rattle.run.specs.Forward.{frameOn}
-use Rattle.run.specs.Ready.{Ready}
-use Rattle.run.proofs.FaultLaws.{width-le}
-use Rattle.run.proofs.Searches.{all-inside}
-use Rattle.run.proofs.CallLaws.{every-answer}
-
-pub zeros-are : (xs : List ℤ) → AllAbs 0 xs → xs ≡ zeros (length xs)
-zeros-are [] h = refl
-zeros-are (x ∷ xs) h = ap₂ (λ (y : ℤ) (ys : List ℤ). y ∷ ys) (natAbs-zero x (omega (arith, h .0))) (zeros-are xs (h .1))
+use Rattle.runs.specs.declared.record.Run.{Run}
+use Rattle.runs.specs.Record.{frameLimit, zeros, recordOf, filled, opened, advanced}
+use Rattle.runs.specs.Gate.{inside, sound}
+use Rattle.runs.specs.Forward.{frameOn}
+use Rattle.run.specs.Own.Ready.{Ready}
+use Rattle.runs.proofs.RecordLaws.{width-le, zeros-are}
+use Rattle.runs.proofs.Searches.{all-inside}
+use Rattle.runs.proofs.CallLaws.{every-answer}
 
 -- zeros in front of zeros
 pub zeros-part : (n m : ℕ) → n ≤ m → take n (zeros m) ≡ zeros n

@@ -1,29 +1,15 @@
 -- The folded values of a block behind what was held, and the frame that they make.
-use mathlib.Core.Path.{_≡_, refl, ap, ap₂, _∙_}
+use mathlib.Core.Path.{_≡_, refl}
 use mathlib.Core.List.{List, _++_}
-use Prim.Native.Nat.{ℕ, _-_, _/_, _≤_, _<_}
-use native.Mathlib.Omega.{arith}
+use Prim.Native.Nat.{ℕ}
 use lib.IntN.{ℤ}
-use lib.ListN.{length, take, drop}
 use Rattle.integers.specs.Places.{Within}
-use Rattle.integers.specs.Vectors.{AllAbs}
 use Rattle.integers.proofs.PlaceLaws.{within-all}
-use Rattle.integers.proofs.Products.{all-getD, all-append}
-use Rattle.tables.specs.Widths.{halfWidth}
-use Rattle.tables.proofs.Reading.{half-is}
-use Rattle.constants.specs.Filled.{tablesLong, Filled}
-use Rattle.stages.specs.Expanded.{Tangents, Sines}
+use Rattle.integers.proofs.Products.{all-append}
 use Rattle.steps.specs.Limits.{readingLimit, foldedLimit}
 use Rattle.steps.specs.Steps.{lower, stages, frame}
-use Rattle.steps.proofs.Undo.{width-half, length-stages}
 use Rattle.steps.proofs.Rotation.{lower-gate}
-
-pub all-within : (B : ℕ) (xs : List ℤ) → Within B xs → AllAbs B xs
-all-within B xs h = all-getD B xs (λ i l. h .size i)
-
-pub length-frame : (N : ℕ) (previous block : List ℤ) → 0 < halfWidth N → length (frame N previous block) ≡ N
-unfolding frame
-length-frame N previous block wide = length-stages N (lower N block ++ previous) ∙ width-half N wide
+use Rattle.runs.proofs.Searches.{all-within}
 
 pub folded-within : (N : ℕ) (previous block : List ℤ) → Within foldedLimit previous → Within readingLimit block → Within foldedLimit (lower N block ++ previous)
 folded-within N previous block p b =

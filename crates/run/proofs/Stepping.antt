@@ -15,24 +15,23 @@ use Rattle.steps.specs.Limits.{readingLimit, foldedLimit}
 use Rattle.steps.specs.Steps.{held, frame}
 use Rattle.steps.proofs.Rotation.{held-gate}
 use Rattle.steps.proofs.ZeroBlock.{held-zeros}
-use Rattle.run.specs.declared.record.Run.{Run}
+use Rattle.runs.specs.declared.record.Run.{Run}
 use Rattle.run.specs.declared.gate.Fault.the-variants.{Clear}
-use Rattle.run.specs.Record.{blockLimit, zeros, opened, closed}
-use Rattle.run.specs.Gate.{Given, every}
-use Rattle.run.specs.Faults.{faultOf, firstFault}
-use Rattle.run.specs.Forward.{started, taken}
-use Rattle.run.specs.Calls.{block, finish, made, accepted}
-use Rattle.run.specs.Whole.{callsOf, outputs}
-use Rattle.run.specs.Ready.{Blocks}
-use Rattle.run.proofs.StepLaws.{length-frame}
-use Rattle.run.proofs.RecordLaws.{Reached, reached-first, reached-next}
+use Rattle.runs.specs.Record.{blockLimit, zeros, opened, closed}
+use Rattle.runs.specs.Gate.{Given, every}
+use Rattle.run.specs.Own.Faults.{faultOf, firstFault}
+use Rattle.runs.specs.Forward.{started, taken}
+use Rattle.runs.specs.Calls.{block, finish, made, accepted}
+use Rattle.runs.specs.Whole.{callsOf, outputs}
+use Rattle.run.specs.Own.Ready.{Blocks}
+use Rattle.runs.proofs.RecordLaws.{length-frame, Reached, reached-first, reached-next}
 use Rattle.run.proofs.ReadyLaws.{none-held}
-use Rattle.run.proofs.CallLaws.{accepted-block, taken-decided, ended-decided}
-use Rattle.run.proofs.AskLaws.{clear-within}
+use Rattle.runs.proofs.CallLaws.{accepted-block, taken-decided, ended-decided}
+use Rattle.run.proofs.BlockLaws.{clear-within}
 use Rattle.run.proofs.FaultLaws.{block-in, no-block, block-long, both-clear}
 use Rattle.run.proofs.PartLaws.{written, frames-next, frames-end}
 use Rattle.run.proofs.FirstRefusal.{clear-accepted}
-use Rattle.run.proofs.EveryList.{started-open}
+use Rattle.runs.proofs.EveryList.{started-open}
 
 -- `kept` has what the last of `count` blocks holds, the blocks left have no fault, and what is written is what all calls give up to there
 pub record Stepping (N half place left : ℕ) (readings out frames kept : List ℤ) : Type 0 where

@@ -1,9 +1,1 @@
-pub mod Record
-pub mod Gate
-pub mod Forward
-pub mod Calls
-pub mod Whole
-pub mod Lists
-pub mod Faults
-pub mod Ready
-pub mod Cases
+pub mod Own

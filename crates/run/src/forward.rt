@@ -1,16 +1,17 @@
 // A run forward, call by call, for any caller: the record goes in by value and comes back with the answer.
 ghost use mathlib.Core.Path.{_≡_};
 ghost use lib.ListN.{length};
-ghost use Rattle.lifting.specs.Gate.{told};
-ghost use Rattle.run.specs.Record.{zeros, closed};
-ghost use Rattle.run.specs.Ready.{Ready};
-ghost use Rattle.run.specs.Forward.{started, frameOn, taken, ended};
+ghost use Rattle.runs.specs.Answers.{told};
+ghost use Rattle.runs.specs.Record.{zeros, closed};
+ghost use Rattle.run.specs.Own.Ready.{Ready};
+ghost use Rattle.runs.specs.Forward.{started, frameOn, taken, ended};
 use crate::gate;
 use crate::in_place;
-use crate::record;
-use crate::record::Outcome;
-use crate::record::Run;
-use lifting::gate::Answer;
+use crate::step;
+use runs::answer::Answer;
+use runs::record;
+use runs::record::Outcome;
+use runs::record::Run;
 use tables::widths;
 
 // A fresh run of a width.
@@ -47,7 +48,7 @@ fn close(run: Run, half: usize, frame: &mut [i32]) -> Run
     ensures { λ r. ⌜ (r ≡ closed run) × (now (frame .exit) ≡ frameOn run (zeros (run .width))) ⌝ }
 {
     let width = run.width;
-    let zeros = record::zero_block();
+    let zeros = step::zero_block();
     let mut held = run.held;
     in_place::step_in(width, &zeros[..width], &mut held[..half], frame);
     Run {

@@ -1,17 +1,17 @@
 // The gate's questions about a run record and about the readings of a block.
 ghost use mathlib.Core.Path.{_≡_};
 ghost use mathlib.Core.Bool.{cond};
-ghost use Prim.Native.Nat.{_%_, _≤_, _<_, _^_};
+ghost use Prim.Native.Nat.{_≤_, _<_, _^_};
 ghost use lib.IntN.{pos, natAbs};
 ghost use lib.ListN.{length};
 ghost use lib.Signed.{_≤ℤ_};
-ghost use Rattle.lifting.specs.Gate.{beyond};
-ghost use Rattle.run.specs.Record.{recordOf};
-ghost use Rattle.run.specs.Gate.{firstDead};
-ghost use Rattle.run.specs.Faults.{faultOf};
-use crate::record::Run;
+ghost use Rattle.runs.specs.Answers.{beyond};
+ghost use Rattle.runs.specs.Record.{recordOf};
+ghost use Rattle.runs.specs.Gate.{firstDead};
+ghost use Rattle.run.specs.Own.Faults.{faultOf};
 use lifting::gate;
-use lifting::gate::Found;
+use runs::answer::Found;
+use runs::record::Run;
 use stages::room;
 use stages::vectors;
 use tables::widths;
@@ -25,7 +25,7 @@ pub enum Fault {
 
 fn inside(x: &[i64], limit: i64) -> bool
     requires { ⌜ (pos 0 ≤ℤ limit) × (natAbs limit < 2 ^ 62) ⌝ }
-    ensures { λ r. ⌜ r ≡ Rattle.run.specs.Gate.inside limit (now (x .entry)) ⌝ }
+    ensures { λ r. ⌜ r ≡ Rattle.runs.specs.Gate.inside limit (now (x .entry)) ⌝ }
 {
     let beyond = gate::first_beyond(x, limit);
     if let Found::At(_) = beyond {
@@ -36,7 +36,7 @@ fn inside(x: &[i64], limit: i64) -> bool
 
 // Whether every number is zero. The bits of all are gathered without a branch, which the machine does two numbers at a time.
 fn clear(x: &[i64]) -> bool
-    ensures { λ r. ⌜ r ≡ Rattle.run.specs.Gate.inside (pos 0) (now (x .entry)) ⌝ }
+    ensures { λ r. ⌜ r ≡ Rattle.runs.specs.Gate.inside (pos 0) (now (x .entry)) ⌝ }
 {
     let mut any: i64 = 0;
     let mut i = 0;
@@ -50,7 +50,7 @@ fn clear(x: &[i64]) -> bool
 // Question 2, where the held values of the record are lent.
 pub fn sound_held(top: usize, width: usize, count: usize, finished: bool, held: &[i64]) -> bool
     requires { ⌜ length (now held) ≡ 64 ⌝ }
-    ensures { λ r. ⌜ r ≡ Rattle.run.specs.Gate.sound top (recordOf width count (now (held .entry)) finished) ⌝ }
+    ensures { λ r. ⌜ r ≡ Rattle.runs.specs.Gate.sound top (recordOf width count (now (held .entry)) finished) ⌝ }
 {
     let half = widths::half_width(width);
     if half == 0 {
@@ -73,7 +73,7 @@ pub fn sound_held(top: usize, width: usize, count: usize, finished: bool, held: 
 
 // Question 2.
 pub fn sound(top: usize, run: Run) -> bool
-    ensures { λ r. ⌜ r ≡ Rattle.run.specs.Gate.sound top run ⌝ }
+    ensures { λ r. ⌜ r ≡ Rattle.runs.specs.Gate.sound top run ⌝ }
 {
     let held = run.held;
     sound_held(top, run.width, run.count, run.finished, &held)
@@ -134,7 +134,7 @@ fn out_of_range(value: i32, limit: i32) -> u32
 // Those beyond are counted without a branch, which the machine does several at a time.
 pub fn in_range(x: &[i32], limit: i32) -> bool
     requires { ⌜ (length (now x) ≤ 8388608) × (pos 0 ≤ℤ limit) ⌝ }
-    ensures { λ r. ⌜ r ≡ Rattle.run.specs.Gate.inside limit (now (x .entry)) ⌝ }
+    ensures { λ r. ⌜ r ≡ Rattle.runs.specs.Gate.inside limit (now (x .entry)) ⌝ }
 {
     let mut out: u32 = 0;
     let mut i = 0;

@@ -6,14 +6,14 @@ ghost use Rattle.integers.specs.Places.{Within};
 ghost use Rattle.tables.specs.Widths.{halfWidth};
 ghost use Rattle.steps.specs.Limits.{readingLimit, foldedLimit};
 ghost use Rattle.steps.specs.Steps.{held, frame};
-ghost use Rattle.lifting.specs.Gate.{told};
-ghost use Rattle.run.specs.Record.{recordOf, nextCount};
-ghost use Rattle.run.specs.Forward.{taken};
+ghost use Rattle.runs.specs.Answers.{told};
+ghost use Rattle.runs.specs.Record.{recordOf, nextCount};
+ghost use Rattle.runs.specs.Forward.{taken};
 use crate::gate;
 use crate::gate::Fault;
 use crate::step;
 use constants::fill;
-use lifting::gate::Answer;
+use runs::answer::Answer;
 use stages::room;
 
 // Room is cleared when it is made, so there are two sizes: at width 8, room for 128 costs more than the step.
@@ -132,7 +132,7 @@ pub fn next_count(count: usize, answer: Answer) -> usize
     requires { ⌜ (told answer .0 ≡ 0 → count < 65537) ⌝ }
     ensures { λ r. ⌜ r ≡ nextCount (told answer .0) count ⌝ }
 {
-    if lifting::gate::number(answer) != 0 {
+    if runs::answer::number(answer) != 0 {
         return count;
     }
     count + 1

@@ -2,6 +2,5 @@
 pub mod forward;
 pub mod gate;
 pub mod in_place;
-pub mod record;
 mod step;
 pub mod whole;

@@ -1,7 +1,8 @@
 // One block forward: its frame, and what it holds for the next.
 ghost use mathlib.Core.Path.{_≡_};
 ghost use Prim.Native.Nat.{_<_};
-ghost use lib.ListN.{length};
+ghost use lib.IntN.{pos};
+ghost use lib.ListN.{length, replicate};
 ghost use Rattle.integers.specs.Places.{Within};
 ghost use Rattle.tables.specs.Widths.{halfWidth};
 ghost use Rattle.constants.specs.Filled.{Filled};
@@ -37,4 +38,11 @@ pub fn step(
     stages::stages::forward(width, t, top, bottom, y, z);
     vectors::narrow(top, &mut frame[..half]);
     vectors::narrow(bottom, &mut frame[half..]);
+}
+
+// The block behind the last: readings there count as zero.
+pub fn zero_block() -> [i32; 128]
+    ensures { λ r. ⌜ r ≡ replicate 128 (pos 0) ⌝ }
+{
+    [0; 128]
 }

@@ -1,21 +1,21 @@
 // A whole run over lent slices, for any caller.
 ghost use mathlib.Core.Path.{_≡_};
 ghost use lib.ListN.{length};
-ghost use Rattle.lifting.specs.Gate.{told};
+ghost use Rattle.runs.specs.Answers.{told};
 ghost use Prim.Native.Nat.{_+_, _/_};
 ghost use Rattle.constants.specs.Filled.{Filled};
-ghost use Rattle.run.specs.Faults.{firstFault};
+ghost use Rattle.run.specs.Own.Faults.{firstFault};
 ghost use Rattle.run.specs.declared.gate.Fault.the-variants.{Clear};
-ghost use Rattle.run.specs.Forward.{started};
-ghost use Rattle.run.specs.Calls.{made};
-ghost use Rattle.run.specs.Whole.{callsOf, outputs, wholeForward, WholeRun};
-ghost use Rattle.run.specs.Ready.{Blocks};
+ghost use Rattle.runs.specs.Forward.{started};
+ghost use Rattle.runs.specs.Calls.{made};
+ghost use Rattle.runs.specs.Whole.{callsOf, outputs, wholeForward, WholeRun};
+ghost use Rattle.run.specs.Own.Ready.{Blocks};
 use crate::gate;
 use crate::gate::Fault;
-use crate::record;
 use crate::step;
 use constants::fill;
-use lifting::gate::Answer;
+use runs::answer::Answer;
+use runs::record;
 use stages::room;
 use tables::widths;
 
@@ -87,7 +87,7 @@ fn frames_with(width: usize, t: &[i64], readings: &[i32], frames: &mut [i32])
         at = end;
         left -= 1;
     }
-    let zeros = record::zero_block();
+    let zeros = step::zero_block();
     step::step(
         width,
         t,

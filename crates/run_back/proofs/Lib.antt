@@ -1,16 +1,4 @@
-pub mod BackLaws
-pub mod AnswerLaws
-pub mod WholeBackLaws
-pub mod MadeFrames
-pub mod CallsBack
-pub mod Parts
-pub mod AcceptedLaws
-pub mod FrameByFrame
-pub mod WholeReturn
-pub mod ForwardWorked
-pub mod ExactReturn
 pub mod UndoLaws
-pub mod EndLaws
 pub mod PlacedLaws
 pub mod LoopLaws
 pub mod Undoing

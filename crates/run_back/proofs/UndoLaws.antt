@@ -5,29 +5,23 @@ use mathlib.Core.List.{List, [], _∷_}
 use Prim.Native.Nat.{ℕ, suc, _+_}
 use native.Mathlib.Nat.{add-suc, add-zero}
 use borrow.Author.Tests.{eq-eqb, ne-eqb}
-use lib.Dec.{eqb}
 use lib.IntN.{ℤ, pos}
 use lib.ListN.{length, take, drop}
 use Rattle.tables.specs.Widths.{halfWidth}
 use Rattle.steps.specs.Limits.{foldedLimit, coefficientLimit}
 use Rattle.steps.specs.Steps.{unstages, unfolded}
-use Rattle.steps.proofs.Undo.{length-unfolded}
-use Rattle.lifting.specs.Gate.{first, firstBeyond}
-use Rattle.lifting.specs.declared.gate.Found.{Found}
-use Rattle.lifting.specs.declared.gate.Found.the-variants.{At, Nothing}
-use Rattle.run.specs.declared.record.Run.{Run}
-use Rattle.run.specs.Record.{nextCount, opened}
-use Rattle.run.specs.Gate.{askEach, firstOut}
-use Rattle.run.proofs.RecordLaws.{take-filled}
-use Rattle.run.proofs.Refusals.{Same, same-done, same-each, same-admitted}
+use Rattle.runs.specs.Answers.{first, firstBeyond}
+use Rattle.runs.specs.declared.answer.Found.{Found}
+use Rattle.runs.specs.declared.answer.Found.the-variants.{At, Nothing}
+use Rattle.runs.specs.declared.record.Run.{Run}
+use Rattle.runs.specs.Record.{nextCount, opened}
+use Rattle.runs.specs.Gate.{askEach, firstOut}
+use Rattle.runs.proofs.RecordLaws.{take-filled}
+use Rattle.runs.proofs.BackLaws.{length-block}
 use Rattle.run_back.specs.declared.undo.Fault.{Fault}
 use Rattle.run_back.specs.declared.undo.Fault.the-variants.{Range, Folded, Halves, Unfolded, Clear}
-use Rattle.run_back.specs.Faults.{toldFault, countAfter}
-use Rattle.run_back.specs.Back.{framed, blockOn, firstUpper, firstFrame, laterFrame, unfoldedIn, undoneIn, takenBack}
-
-pub length-block : (run : Run) (folded : List ℤ) → length (blockOn run folded) ≡ run .width
-unfolding blockOn
-length-block run folded = length-unfolded (run .width) _ _
+use Rattle.run_back.specs.Own.Faults.{toldFault, countAfter}
+use Rattle.runs.specs.Back.{framed, blockOn, firstUpper, firstFrame, laterFrame, unfoldedIn, undoneIn}
 
 -- ---- a search whose places count from elsewhere
 from : ℕ → Found → Found
@@ -123,12 +117,3 @@ count-told count (Folded place) = refl
 count-told count (Halves place) = refl
 count-told count (Unfolded place) = refl
 count-told count Clear = refl
-
--- ---- a refusal hands back the same record
-pub same-taken-back : (run : Run) (frame out : List ℤ) → Same run (takenBack run frame out)
-unfolding takenBack undoneIn unfoldedIn firstFrame laterFrame
-same-taken-back run frame out = same-admitted _ run frame out _ (same-each 9 out _ (same-each 10 out _ (by (eqb (run .count) 0))))
-  where
-    by : (b : Bool) → Same run (cond b (firstFrame run (unstages (run .width) frame) out) (laterFrame run (unstages (run .width) frame) out))
-    by true = same-each 11 out _ same-done
-    by false = same-each 12 out _ same-done

@@ -10,22 +10,22 @@ use Rattle.integers.specs.Places.{Within}
 use Rattle.integers.proofs.PlaceLaws.{within-all}
 use Rattle.tables.specs.Widths.{halfWidth}
 use Rattle.steps.specs.Limits.{foldedLimit}
-use Rattle.lifting.specs.Gate.{told, firstBeyond}
-use Rattle.lifting.specs.declared.gate.Found.{Found}
-use Rattle.lifting.specs.declared.gate.Found.the-variants.{At, Nothing}
-use Rattle.run.specs.declared.record.Run.{Run}
-use Rattle.run.specs.Record.{frameLimit, opened}
-use Rattle.run.specs.Gate.{Given}
-use Rattle.run.proofs.RecordLaws.{take-filled}
+use Rattle.runs.specs.Answers.{told, firstBeyond}
+use Rattle.runs.specs.declared.answer.Found.{Found}
+use Rattle.runs.specs.declared.answer.Found.the-variants.{At, Nothing}
+use Rattle.runs.specs.declared.record.Run.{Run}
+use Rattle.runs.specs.Record.{frameLimit, opened}
+use Rattle.runs.specs.Gate.{Given}
+use Rattle.runs.proofs.RecordLaws.{take-filled}
 use Rattle.run_back.specs.declared.undo.Fault.{Fault}
 use Rattle.run_back.specs.declared.undo.Fault.the-variants.{Range, Folded, Halves, Unfolded, Clear}
-use Rattle.run_back.specs.Faults.{toldFault, countAfter, toldHeld}
-use Rattle.run_back.specs.Back.{undoneIn, takenBack, firstHeld, endedBack}
-use Rattle.run_back.specs.Whole.{placed}
-use Rattle.run_back.proofs.AnswerLaws.{undone-alike}
-use Rattle.run_back.proofs.BackLaws.{ReachedBack, back-sound, taken-undone}
-use Rattle.run_back.proofs.AcceptedLaws.{low-long, undone-next}
-use Rattle.run_back.proofs.EndLaws.{end-held-refused, ended-done}
+use Rattle.run_back.specs.Own.Faults.{toldFault, countAfter, toldHeld}
+use Rattle.runs.specs.Back.{undoneIn, takenBack, firstHeld, endedBack}
+use Rattle.runs.specs.WholeBack.{placed}
+use Rattle.runs.proofs.AnswerLaws.{undone-alike}
+use Rattle.runs.proofs.BackLaws.{ReachedBack, back-sound, taken-undone}
+use Rattle.runs.proofs.AcceptedLaws.{low-long, undone-next}
+use Rattle.runs.proofs.EndLaws.{end-held-refused, ended-done}
 
 pub low-within : {N b : ℕ} {low : List ℤ} → ReachedBack N b low → Within foldedLimit low
 low-within {low} r = within-all foldedLimit low (r .within)

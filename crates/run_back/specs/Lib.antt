@@ -1,5 +1,1 @@
-pub mod Back
-pub mod Faults
-pub mod Whole
-pub mod Return
-pub mod Ready
+pub mod Own

@@ -1,18 +1,18 @@
 // A run back, call by call, for any caller: the record goes in by value and comes back with the answer.
 ghost use mathlib.Core.Path.{_≡_};
 ghost use mathlib.Core.List.{[]};
-ghost use Rattle.lifting.specs.Gate.{told};
-ghost use Rattle.run.specs.Ready.{Ready};
-ghost use Rattle.run_back.specs.Back.{takenBack, firstHeld, endedBack};
-ghost use Rattle.run_back.specs.Faults.{toldFault};
+ghost use Rattle.runs.specs.Answers.{told};
+ghost use Rattle.run.specs.Own.Ready.{Ready};
+ghost use Rattle.runs.specs.Back.{takenBack, firstHeld, endedBack};
+ghost use Rattle.run_back.specs.Own.Faults.{toldFault};
 use crate::in_place;
 use crate::undo::Fault;
-use lifting::gate::Answer;
-use lifting::gate::Found;
 use run::gate;
-use run::record;
-use run::record::Outcome;
-use run::record::Run;
+use runs::answer::Answer;
+use runs::answer::Found;
+use runs::record;
+use runs::record::Outcome;
+use runs::record::Run;
 use tables::widths;
 
 pub fn answered(fault: Fault) -> Answer

@@ -5,16 +5,16 @@ ghost use lib.ListN.{length};
 ghost use Rattle.integers.specs.Places.{Within};
 ghost use Rattle.tables.specs.Widths.{halfWidth};
 ghost use Rattle.steps.specs.Limits.{foldedLimit};
-ghost use Rattle.lifting.specs.Gate.{told};
-ghost use Rattle.run.specs.Record.{recordOf, nextCount, opened};
-ghost use Rattle.run_back.specs.Back.{undoneIn, takenBack};
-ghost use Rattle.run_back.specs.Faults.{toldFault, countAfter};
+ghost use Rattle.runs.specs.Answers.{told};
+ghost use Rattle.runs.specs.Record.{recordOf, nextCount, opened};
+ghost use Rattle.runs.specs.Back.{undoneIn, takenBack};
+ghost use Rattle.run_back.specs.Own.Faults.{toldFault, countAfter};
 use crate::back;
 use crate::undo;
 use crate::undo::Fault;
 use constants::fill;
-use lifting::gate::Answer;
 use run::gate;
+use runs::answer::Answer;
 use stages::room;
 
 // Room is cleared when it is made, so there are two sizes: at width 8, room for 128 costs more than the step.

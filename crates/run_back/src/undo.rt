@@ -8,14 +8,13 @@ ghost use Rattle.tables.specs.Widths.{halfWidth};
 ghost use Rattle.steps.specs.Limits.{foldedLimit, coefficientLimit};
 ghost use Rattle.constants.specs.Filled.{Filled};
 ghost use Rattle.stages.specs.Expanded.{Halves, Room};
-ghost use Rattle.lifting.specs.Gate.{firstBeyond};
-ghost use Rattle.run.specs.Record.{opened};
-ghost use Rattle.run_back.specs.Back.{unfoldedIn, undoneIn};
-ghost use Rattle.run_back.specs.Faults.{toldFault, countAfter};
+ghost use Rattle.runs.specs.Record.{opened};
+ghost use Rattle.runs.specs.Back.{unfoldedIn, undoneIn};
+ghost use Rattle.run_back.specs.Own.Faults.{toldFault, countAfter};
 use lifting::folding;
 use lifting::gate;
-use lifting::gate::Found;
 use lifting::transform;
+use runs::answer::Found;
 use stages::vectors;
 
 // What questions 9 to 12 refuse.

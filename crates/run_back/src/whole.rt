@@ -8,29 +8,29 @@ ghost use Rattle.tables.specs.Widths.{halfWidth};
 ghost use Rattle.steps.specs.Limits.{foldedLimit};
 ghost use Rattle.constants.specs.Filled.{Filled};
 ghost use Rattle.stages.specs.Expanded.{Halves, Room};
-ghost use Rattle.lifting.specs.Gate.{told, firstBeyond};
-ghost use Rattle.run.specs.Record.{zeros, opened};
-ghost use Rattle.run.specs.Forward.{started};
-ghost use Rattle.run.specs.Ready.{Blocks};
-ghost use Rattle.run_back.specs.Back.{takenBack};
-ghost use Rattle.run_back.specs.Faults.{toldHeld};
-ghost use Rattle.run_back.specs.Whole;
-ghost use Rattle.run_back.specs.Whole.{answerFrom, outputsFrom, firstAnswer, allOutputs, oneByOne, wholeBack};
-ghost use Rattle.run_back.specs.Ready.{Frames};
+ghost use Rattle.runs.specs.Answers.{told, firstBeyond};
+ghost use Rattle.runs.specs.Record.{zeros, opened};
+ghost use Rattle.runs.specs.Forward.{started};
+ghost use Rattle.run.specs.Own.Ready.{Blocks};
+ghost use Rattle.runs.specs.Back.{takenBack};
+ghost use Rattle.run_back.specs.Own.Faults.{toldHeld};
+ghost use Rattle.runs.specs.WholeBack;
+ghost use Rattle.runs.specs.WholeBack.{answerFrom, outputsFrom, firstAnswer, allOutputs, oneByOne, wholeBack};
+ghost use Rattle.run_back.specs.Own.Ready.{Frames};
 use crate::back;
 use crate::undo;
 use constants::fill;
 use lifting::gate;
-use lifting::gate::Answer;
-use lifting::gate::Found;
-use run::record;
+use runs::answer::Answer;
+use runs::answer::Found;
+use runs::record;
 use stages::room;
 use tables::widths;
 
 // An answer with its place counted through the run; 12 counts by blocks.
 fn placed(width: usize, offset: usize, answer: Answer) -> Answer
     requires { ⌜ (offset ≤ 8388736) × (told answer .1 ≤ 128) ⌝ }
-    ensures { λ r. ⌜ told r ≡ Whole.placed width offset (told answer) ⌝ }
+    ensures { λ r. ⌜ told r ≡ WholeBack.placed width offset (told answer) ⌝ }
 {
     match answer {
         Answer::DeadMark(i) => Answer::DeadMark(offset + i),
@@ -114,7 +114,7 @@ fn answer_of(
             z,
         );
         let answer = back::answered(fault);
-        if gate::number(answer) != 0 {
+        if runs::answer::number(answer) != 0 {
             return placed(width, at, answer);
         }
         at = end;
@@ -294,7 +294,7 @@ fn in_two_passes(width: usize, frames: &[i32], readings: &mut [i32]) -> Answer
     let mut room = room::of_648();
     fill::fill(width, &mut t[..long], &mut room);
     let answer = first_answer(width, &t[..long], frames);
-    if gate::number(answer) != 0 {
+    if runs::answer::number(answer) != 0 {
         return answer;
     }
     readings_of(width, &t[..long], frames, readings);

@@ -12,15 +12,15 @@ use Rattle.steps.specs.Limits.{readingLimit}
 use Rattle.steps.specs.Steps.{lower, held, frame}
 use Rattle.distance.specs.Statement.{IsWidth, Block}
 use Rattle.distance.proofs.ZeroBlock.{zero-block}
-use Rattle.run.specs.declared.record.Run.{Run}
-use Rattle.run.specs.Record.{blockLimit, zeros, opened}
-use Rattle.run.specs.Forward.{started}
-use Rattle.run.specs.Calls.{blockAt}
-use Rattle.run.proofs.FaultLaws.{width-le, width-pos}
-use Rattle.run.proofs.EveryList.{AllBlocks}
-use Rattle.run_back.specs.Back.{takenBack, endedBack}
-use Rattle.run_back.proofs.BackLaws.{started-back, ReachedBack, back-first, back-block, back-one, frame-long, later-taken, first-taken, ended-works}
-use Rattle.run_back.proofs.MadeFrames.{framesAfter, allFrames}
+use Rattle.runs.specs.declared.record.Run.{Run}
+use Rattle.runs.specs.Record.{blockLimit, zeros, opened}
+use Rattle.runs.specs.Forward.{started}
+use Rattle.runs.specs.Calls.{blockAt}
+use Rattle.runs.proofs.RecordLaws.{width-le, width-pos}
+use Rattle.runs.proofs.EveryList.{AllBlocks}
+use Rattle.runs.specs.Back.{takenBack, endedBack}
+use Rattle.runs.proofs.BackLaws.{started-back, ReachedBack, back-first, back-block, back-one, frame-long, later-taken, first-taken, ended-works}
+use Rattle.runs.proofs.MadeFrames.{framesAfter, allFrames}
 use Rattle.lines.specs.Lines.{row, endLine}
 use Rattle.text.specs.declared.state.Way.the-variants.{Back}
 use Rattle.text.specs.declared.state.Phase.the-variants.{Between}

@@ -9,14 +9,13 @@ use lib.ListN.{length}
 use Rattle.steps.specs.Limits.{readingLimit}
 use Rattle.steps.specs.Steps.{held, frame}
 use Rattle.distance.specs.Statement.{Block}
-use Rattle.run.specs.declared.record.Run.{Run}
-use Rattle.run.specs.Record.{blockLimit, zeros, opened}
-use Rattle.run.specs.Calls.{blockAt}
-use Rattle.run.proofs.RecordLaws.{Reached, reached-next}
-use Rattle.run.proofs.CallLaws.{taken-decided, ended-decided}
-use Rattle.run.proofs.FaultLaws.{width-le, width-pos}
-use Rattle.run.proofs.EveryList.{AllBlocks}
-use Rattle.run_back.proofs.MadeFrames.{framesAfter}
+use Rattle.runs.specs.declared.record.Run.{Run}
+use Rattle.runs.specs.Record.{blockLimit, zeros, opened}
+use Rattle.runs.specs.Calls.{blockAt}
+use Rattle.runs.proofs.RecordLaws.{Reached, reached-next, width-le, width-pos}
+use Rattle.runs.proofs.CallLaws.{taken-decided, ended-decided}
+use Rattle.runs.proofs.EveryList.{AllBlocks}
+use Rattle.runs.proofs.MadeFrames.{framesAfter}
 use Rattle.lines.specs.Lines.{row, endLine}
 use Rattle.text.specs.declared.state.Way.the-variants.{Forward}
 use Rattle.text.specs.declared.state.Phase.the-variants.{Between}

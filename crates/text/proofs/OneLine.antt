@@ -10,9 +10,9 @@ use lib.IntN.{ℤ, pos}
 use lib.ListN.{length}
 use Rattle.tables.specs.Widths.{halfWidth}
 use Rattle.distance.specs.Statement.{IsWidth}
-use Rattle.run.specs.declared.record.Run.{Run}
-use Rattle.run.specs.Forward.{started}
-use Rattle.run.proofs.FaultLaws.{width-le}
+use Rattle.runs.specs.declared.record.Run.{Run}
+use Rattle.runs.specs.Forward.{started}
+use Rattle.runs.proofs.RecordLaws.{width-le}
 use Rattle.lines.specs.Decimal.{decimal, printed, bits32, allBits}
 use Rattle.lines.specs.Lines.{lineFeed, row, endTag, endLine, numbersIn}
 use Rattle.lines.proofs.DecimalLaws.{decimal-within}

@@ -13,13 +13,13 @@ use Rattle.steps.specs.Limits.{readingLimit, coefficientLimit}
 use Rattle.steps.specs.Steps.{held, frame}
 use Rattle.distance.specs.Statement.{IsWidth, Block, coefficient}
 use Rattle.distance_runs.proofs.Theorems.{frame-size}
-use Rattle.run.specs.Record.{blockLimit, opened}
-use Rattle.run.specs.Gate.{every, nothing, inside, dead}
-use Rattle.run.specs.Calls.{block, finish, accepted}
-use Rattle.run.proofs.Searches.{All, none-found, inside-all}
-use Rattle.run.proofs.FaultLaws.{width-le}
-use Rattle.run.proofs.EveryList.{AllBlocks, blocks-none, blocks-one}
-use Rattle.run_back.proofs.BackLaws.{frame-long}
+use Rattle.runs.specs.Record.{blockLimit, opened}
+use Rattle.runs.specs.Gate.{every, nothing, inside, dead}
+use Rattle.runs.specs.Calls.{block, finish, accepted}
+use Rattle.runs.proofs.Searches.{All, none-found, inside-all}
+use Rattle.runs.proofs.RecordLaws.{width-le}
+use Rattle.runs.proofs.EveryList.{AllBlocks, blocks-none, blocks-one}
+use Rattle.runs.proofs.BackLaws.{frame-long}
 use Rattle.lines.specs.Decimal.{bits32, allBits}
 use Rattle.text.specs.Way.{output}
 use Rattle.text.specs.Return.{InRange}

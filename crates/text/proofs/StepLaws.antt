@@ -8,14 +8,14 @@ use borrow.Author.Tests.{leb-true, ltb-true, eq-eqb, ne-eqb}
 use lib.Dec.{eqb}
 use lib.IntN.{ℤ}
 use lib.ListN.{take}
-use Rattle.run.specs.declared.record.Run.{Run}
-use Rattle.run.specs.Record.{zeros}
-use Rattle.run.specs.Gate as Gate
-use Rattle.run.specs.Gate.{ask, sound}
-use Rattle.run.specs.Forward.{ended}
-use Rattle.run.proofs.CallLaws.{every-answer}
+use Rattle.runs.specs.declared.record.Run.{Run}
+use Rattle.runs.specs.Record.{zeros}
+use Rattle.runs.specs.Gate as Gate
+use Rattle.runs.specs.Gate.{ask, sound}
+use Rattle.runs.specs.Forward.{ended}
+use Rattle.runs.proofs.CallLaws.{every-answer}
 use Rattle.run.proofs.ReadyLaws.{zeros-part}
-use Rattle.run_back.specs.Back.{endedBack}
+use Rattle.runs.specs.Back.{endedBack}
 use Rattle.lines.specs.Lines.{lineFeed, refusal, same, endLine, numbersIn}
 use Rattle.text.specs.declared.state.Way.{Way}
 use Rattle.text.specs.declared.state.State.{State}

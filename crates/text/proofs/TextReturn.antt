@@ -7,11 +7,11 @@ use native.Mathlib.Omega.{arith}
 use lib.IntN.{ℤ}
 use lib.ListN.{length}
 use Rattle.distance.specs.Statement.{IsWidth}
-use Rattle.run.specs.Record.{blockLimit, zeros}
-use Rattle.run.specs.Forward.{started}
-use Rattle.run.proofs.RecordLaws.{reached-first}
-use Rattle.run.proofs.EveryList.{AllBlocks, started-open}
-use Rattle.run_back.proofs.MadeFrames.{framesAfter, allFrames, all-frames}
+use Rattle.runs.specs.Record.{blockLimit, zeros}
+use Rattle.runs.specs.Forward.{started}
+use Rattle.runs.proofs.RecordLaws.{reached-first}
+use Rattle.runs.proofs.EveryList.{AllBlocks, started-open}
+use Rattle.runs.proofs.MadeFrames.{framesAfter, allFrames, all-frames}
 use Rattle.lines.specs.Decimal.{decimal}
 use Rattle.lines.specs.Lines.{lineFeed, endLine}
 use Rattle.text.specs.declared.state.Way.{Way}

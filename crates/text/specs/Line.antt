@@ -6,8 +6,8 @@ use Prim.Native.Nat.{ℕ}
 use lib.Dec.{eqb, leb}
 use lib.IntN.{ℤ, pos, negsuc}
 use lib.ListN.{length}
-use Rattle.run.specs.Gate as Gate
-use Rattle.run.specs.Forward.{started}
+use Rattle.runs.specs.Gate as Gate
+use Rattle.runs.specs.Forward.{started}
 use Rattle.lines.specs.declared.read.Field.{Field}
 use Rattle.lines.specs.declared.read.Field.the-variants as Field
 use Rattle.lines.specs.Decimal.{decimal, numberIn}

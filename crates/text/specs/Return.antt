@@ -9,8 +9,8 @@ use Rattle.integers.specs.Vectors.{AllAbs, Rows}
 use Rattle.integers.specs.Places.{tab}
 use Rattle.steps.specs.Limits.{readingLimit}
 use Rattle.distance.specs.Statement.{IsWidth}
-use Rattle.run.specs.Record.{blockLimit}
-use Rattle.run.specs.Calls.{frameAt}
+use Rattle.runs.specs.Record.{blockLimit}
+use Rattle.runs.specs.Calls.{frameAt}
 use Rattle.lines.specs.Decimal.{decimal}
 use Rattle.lines.specs.Lines.{lineFeed}
 use Rattle.text.specs.declared.state.Way.the-variants.{Forward, Back}

@@ -4,8 +4,8 @@ use mathlib.Core.List.{List, [], _∷_, _++_}
 use Prim.Native.Nat.{ℕ, suc}
 use lib.Dec.{leb}
 use lib.ListN.{take}
-use Rattle.run.specs.declared.record.Run.{Run}
-use Rattle.run.specs.Record.{frameLimit, opened}
+use Rattle.runs.specs.declared.record.Run.{Run}
+use Rattle.runs.specs.Record.{frameLimit, opened}
 use Rattle.lines.specs.Lines.{lineFeed, refusal}
 use Rattle.text.specs.declared.state.Way.{Way}
 use Rattle.text.specs.declared.state.Phase.{Phase}

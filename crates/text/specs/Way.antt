@@ -4,11 +4,11 @@ use mathlib.Core.List.{List, [], _∷_, _++_}
 use Prim.Native.Nat.{ℕ, suc, _-_, _≤_, _<_, min}
 use lib.Dec.{eqb}
 use lib.IntN.{ℤ}
-use Rattle.run.specs.declared.record.Run.{Run}
-use Rattle.run.specs.Record.{frameLimit, zeros}
-use Rattle.run.specs.Gate.{Given}
-use Rattle.run.specs.Forward.{taken, ended}
-use Rattle.run_back.specs.Back.{takenBack, endedBack}
+use Rattle.runs.specs.declared.record.Run.{Run}
+use Rattle.runs.specs.Record.{frameLimit, zeros}
+use Rattle.runs.specs.Gate.{Given}
+use Rattle.runs.specs.Forward.{taken, ended}
+use Rattle.runs.specs.Back.{takenBack, endedBack}
 use Rattle.lines.specs.Lines.{lineFeed, row, endLine}
 use Rattle.text.specs.declared.state.Way.{Way}
 use Rattle.text.specs.declared.state.Way.the-variants.{Forward, Back}

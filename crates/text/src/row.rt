@@ -2,8 +2,8 @@
 ghost use mathlib.Core.Path.{_≡_};
 ghost use Prim.Native.Nat.{_≤_, min};
 ghost use lib.ListN.{length};
-ghost use Rattle.lifting.specs.Gate.{told};
-ghost use Rattle.run.specs.Record.{zeros};
+ghost use Rattle.runs.specs.Answers.{told};
+ghost use Rattle.runs.specs.Record.{zeros};
 ghost use Rattle.lines.specs.Lines.{same, endLine, numbersIn};
 ghost use Rattle.text.specs.State.{given};
 ghost use Rattle.text.specs.Way.{takenBy, endedBy, output, Closing};
@@ -13,12 +13,11 @@ use crate::state::Phase;
 use crate::state::Printed;
 use crate::state::State;
 use crate::way;
-use lifting::gate;
 use lines::compare;
 use lines::print;
 use lines::read;
 use lines::read::Fields;
-use run::record::Outcome;
+use runs::record::Outcome;
 
 // No run is wider than 128.
 fn output_length(width: usize) -> usize
@@ -40,9 +39,9 @@ fn given_row(state: State, outcome: Outcome, out: &[i32]) -> Printed
     ensures { λ r. ⌜ r .length ≤ 2048 ⌝ }
 {
     let answer = outcome.answer;
-    let number = gate::number(answer);
+    let number = runs::answer::number(answer);
     if number != 0 {
-        return refuse::by(state, number, gate::place(answer));
+        return refuse::by(state, number, runs::answer::place(answer));
     }
     let way = state.way;
     let before = state.run;
@@ -119,9 +118,9 @@ fn given_last(state: State, outcome: Outcome, out: &[i32]) -> Printed
     ensures { λ r. ⌜ r .length ≤ 2048 ⌝ }
 {
     let answer = outcome.answer;
-    let number = gate::number(answer);
+    let number = runs::answer::number(answer);
     if number != 0 {
-        return refuse::by(state, number, gate::place(answer));
+        return refuse::by(state, number, runs::answer::place(answer));
     }
     let way = state.way;
     let before = state.run;

@@ -2,7 +2,7 @@
 ghost use mathlib.Core.Path.{_≡_};
 ghost use Rattle.text.specs.State.{begun, goesOn, lineBetween, lineNumber};
 use run::forward;
-use run::record::Run;
+use runs::record::Run;
 
 // The way a run goes: readings to frames, or frames to readings.
 pub enum Way {

@@ -2,16 +2,16 @@
 ghost use mathlib.Core.Path.{_≡_};
 ghost use Prim.Native.Nat.{_+_, _*_, _≤_};
 ghost use lib.ListN.{length, take};
-ghost use Rattle.lifting.specs.Gate.{told};
+ghost use Rattle.runs.specs.Answers.{told};
 ghost use Rattle.lines.specs.Put.{Put};
 ghost use Rattle.text.specs.declared.state.Way.the-variants.{Back};
 ghost use Rattle.text.specs.Way.{takenBy, endedBy, rowLine, lastLine, shownRow, shownLast, Closing};
 use crate::state::Way;
 use lines::print;
 use run::forward;
-use run::record::Outcome;
-use run::record::Run;
 use run_back::back;
+use runs::record::Outcome;
+use runs::record::Run;
 
 pub fn take(way: Way, run: Run, numbers: &[i32], out: &mut [i32]) -> Outcome
     ensures { λ r. ⌜ (told (r .answer), r .run, now (out .exit)) ≡ takenBy way run (now (numbers .entry)) (now (out .entry)) ⌝ }

@@ -7,7 +7,6 @@ use crate::refuse;
 use crate::state::Phase;
 use crate::state::Printed;
 use crate::state::State;
-use lifting::gate;
 use lines::print;
 use lines::read::Field;
 use run::forward;
@@ -18,9 +17,9 @@ fn start(state: State, width: usize) -> Printed
 {
     let begun = forward::start(width);
     let answer = begun.answer;
-    let number = gate::number(answer);
+    let number = runs::answer::number(answer);
     if number != 0 {
-        return refuse::by(state, number, gate::place(answer));
+        return refuse::by(state, number, runs::answer::place(answer));
     }
     let way = state.way;
     let run = begun.run;

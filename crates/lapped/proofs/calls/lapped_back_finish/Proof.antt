@@ -3,9 +3,9 @@ use borrow.Author.Needs.{needs}
 use mathlib.Core.Path.{_≡_, ap, _∙_}
 use mathlib.Core.List.{List, []}
 use lib.IntN.{ℤ}
-use Rattle.lifting.specs.Gate.{told}
-use Rattle.run.specs.Gate.{Given}
-use Rattle.run_back.specs.Back.{endedBack}
+use Rattle.runs.specs.Answers.{told}
+use Rattle.runs.specs.Gate.{Given}
+use Rattle.runs.specs.Back.{endedBack}
 use Rattle.lapped.specs.Record.{unpacked}
 use Rattle.lapped.specs.Calls.{lappedBackFinish}
 use Rattle.lapped.proofs.CallLaws.{back-finish-works, worked, handed-is}

@@ -8,13 +8,12 @@ use mathlib.Core.List.{List}
 use Prim.Native.Nat.{_-_, _≤_, _<_}
 use lib.IntN.{ℤ}
 use lib.ListN.{length, take, drop}
-use Rattle.lifting.specs.Gate.{told}
-use Rattle.run.specs.declared.record.Run.{Run}
-use Rattle.run.specs.Record.{frameLimit, recordOf}
-use Rattle.run.specs.Gate as Gate
-use Rattle.run.proofs.Refusals.{admitted-few}
-use Rattle.run_back.specs.Back.{takenBack}
-use Rattle.run_back.proofs.UndoLaws.{same-taken-back}
+use Rattle.runs.specs.Answers.{told}
+use Rattle.runs.specs.declared.record.Run.{Run}
+use Rattle.runs.specs.Record.{frameLimit, recordOf}
+use Rattle.runs.specs.Gate as Gate
+use Rattle.runs.proofs.Refusals.{admitted-few, same-taken-back}
+use Rattle.runs.specs.Back.{takenBack}
 use Rattle.lapped.specs.Record.{isRecord, unpacked}
 use Rattle.lapped.specs.Calls.{lappedBackTake}
 use Rattle.lapped.proofs.RecordLaws.{has-room, rest-long, lent-is}

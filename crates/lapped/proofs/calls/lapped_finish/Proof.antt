@@ -3,10 +3,10 @@ use borrow.Author.Needs.{needs}
 use mathlib.Core.Path.{_≡_, ap, _∙_}
 use mathlib.Core.List.{List}
 use lib.IntN.{ℤ}
-use Rattle.lifting.specs.Gate.{told}
-use Rattle.run.specs.declared.record.Run.{Run}
-use Rattle.run.specs.Gate.{Given}
-use Rattle.run.specs.Forward.{ended}
+use Rattle.runs.specs.Answers.{told}
+use Rattle.runs.specs.declared.record.Run.{Run}
+use Rattle.runs.specs.Gate.{Given}
+use Rattle.runs.specs.Forward.{ended}
 use Rattle.lapped.specs.Record.{unpacked}
 use Rattle.lapped.specs.Calls.{lappedFinish}
 use Rattle.lapped.proofs.CallLaws.{finish-works, worked, handed-is}

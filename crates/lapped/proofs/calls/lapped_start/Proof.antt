@@ -4,8 +4,8 @@ use mathlib.Core.Path.{sym, ap, subst, _∙_}
 use mathlib.Core.List.{List}
 use Prim.Native.Nat.{ℕ}
 use lib.IntN.{ℤ}
-use Rattle.lifting.specs.Gate.{told}
-use Rattle.run.specs.declared.record.Run.{Run}
+use Rattle.runs.specs.Answers.{told}
+use Rattle.runs.specs.declared.record.Run.{Run}
 use Rattle.lapped.specs.Ready.{Packable}
 use Rattle.lapped.proofs.CallLaws.{start-fits, start-packed, start-no-room, start-refused}
 use Rattle.lapped.proofs.calls.lapped_start.Statement.{statement}

@@ -5,7 +5,7 @@ use mathlib.Core.Path.{_≡_, sym, _∙_}
 use mathlib.Core.List.{List}
 use lib.IntN.{ℤ}
 use lib.ListN.{length, length-take, length-drop, length-set}
-use Rattle.run.specs.declared.record.Run.{Run}
+use Rattle.runs.specs.declared.record.Run.{Run}
 use Rattle.lapped.proofs.RecordLaws.{packed-is}
 use Rattle.lapped.proofs.record.pack.Statement.{statement}
 use Rattle.lapped.proofs.record.pack.Tie as tie

@@ -6,8 +6,8 @@ use Prim.Native.Nat.{_+_, _^_, _<_}
 use lib.IntN.{ℤ, pos}
 use lib.ListN.{set}
 use lib.Seq.{set-getD}
-use Rattle.lifting.specs.Gate.{told}
-use Rattle.run.specs.Record.{nextCount}
+use Rattle.runs.specs.Answers.{told}
+use Rattle.runs.specs.Record.{nextCount}
 use Rattle.lapped.proofs.RecordLaws.{number}
 use Rattle.lapped.proofs.CallLaws.{next-worked, next-refused}
 use Rattle.lapped.proofs.record.store_count.Statement.{statement}

@@ -7,12 +7,13 @@ use lib.IntN.{ℤ, pos}
 use lib.ListN.{length}
 use Rattle.integers.specs.Places.{Within}
 use Rattle.steps.specs.Steps.{stages}
-use Rattle.lifting.specs.Gate.{told, firstBeyond}
-use Rattle.lifting.specs.declared.gate.Answer.the-variants.{Done}
-use Rattle.lifting.specs.declared.gate.Found.the-variants.{Nothing}
+use Rattle.runs.specs.Answers.{told, firstBeyond}
+use Rattle.runs.specs.declared.answer.Answer.the-variants.{Done}
+use Rattle.runs.specs.declared.answer.Found.the-variants.{Nothing}
 use Rattle.steps.proofs.Undo.{width-half, length-stages}
 use Rattle.lifting.proofs.FrameLaws.{width-in-fours, stages-within}
-use Rattle.lifting.proofs.GateLaws.{none-within, stages-refused, stages-done}
+use Rattle.runs.proofs.Searches.{none-within}
+use Rattle.runs.proofs.AloneLaws.{stages-refused, stages-done}
 use Rattle.lifting.proofs.frame.staged.Statement.{statement}
 use Rattle.lifting.proofs.frame.staged.Tie as tie
 

@@ -9,12 +9,13 @@ use lib.ListN.{length}
 use Rattle.integers.specs.Places.{Within}
 use Rattle.integers.proofs.PlaceLaws.{within-up}
 use Rattle.steps.specs.Steps.{unstages}
-use Rattle.lifting.specs.Gate.{told, firstBeyond}
-use Rattle.lifting.specs.declared.gate.Answer.the-variants.{Done}
-use Rattle.lifting.specs.declared.gate.Found.the-variants.{Nothing}
+use Rattle.runs.specs.Answers.{told, firstBeyond}
+use Rattle.runs.specs.declared.answer.Answer.the-variants.{Done}
+use Rattle.runs.specs.declared.answer.Found.the-variants.{Nothing}
 use Rattle.steps.proofs.Undo.{length-unstages}
 use Rattle.lifting.proofs.FrameLaws.{width-in-fours}
-use Rattle.lifting.proofs.GateLaws.{none-within, unstages-refused, unstaged-refused, unstages-done}
+use Rattle.runs.proofs.Searches.{none-within}
+use Rattle.runs.proofs.AloneLaws.{unstages-refused, unstaged-refused, unstages-done}
 use Rattle.lifting.proofs.frame.unstaged.Statement.{statement}
 use Rattle.lifting.proofs.frame.unstaged.Tie as tie
 

@@ -9,7 +9,7 @@ use mir.Syntax.{w64}
 use mir.Val.{SFits, toZ, ofZ}
 use Rattle.integers.proofs.Words.{minus-small}
 use Rattle.integers.proofs.Held.{Held, held, held-ok, asks-minus, h-minus, h-lt}
-use Rattle.lifting.specs.Gate.{firstBeyond}
+use Rattle.runs.specs.Answers.{firstBeyond}
 use Rattle.lifting.proofs.GateLaws.{above, below, neither, stops, goes-on, ends}
 use Rattle.lifting.proofs.gate.first_beyond.Statement.{statement}
 use Rattle.lifting.proofs.gate.first_beyond.Tie as tie

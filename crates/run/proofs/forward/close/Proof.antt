@@ -11,7 +11,7 @@ use Rattle.steps.specs.Limits.{readingLimit, foldedLimit}
 use Rattle.steps.specs.Steps.{frame}
 use Rattle.lifting.proofs.Parts.{part-long}
 use Rattle.lifting.proofs.FrameLaws.{take-within}
-use Rattle.run.specs.Record.{zeros, closed}
+use Rattle.runs.specs.Record.{zeros, closed}
 use Rattle.run.proofs.FaultLaws.{width-room, half-room}
 use Rattle.run.proofs.ReadyLaws.{frame-on, zero-part, zero-within}
 use Rattle.run.proofs.forward.close.Statement.{statement}

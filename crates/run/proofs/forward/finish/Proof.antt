@@ -7,14 +7,14 @@ use mathlib.Core.Bool.{true}
 use mathlib.Core.List.{List}
 use lib.IntN.{ℤ}
 use lib.ListN.{length}
-use Rattle.lifting.specs.Gate.{told}
-use Rattle.lifting.specs.declared.gate.Answer.the-variants.{Done}
-use Rattle.run.specs.declared.record.Run.{Run}
-use Rattle.run.specs.Record.{blockLimit}
-use Rattle.run.specs.Gate.{sound}
-use Rattle.run.specs.Forward.{ended}
+use Rattle.runs.specs.Answers.{told}
+use Rattle.runs.specs.declared.answer.Answer.the-variants.{Done}
+use Rattle.runs.specs.declared.record.Run.{Run}
+use Rattle.runs.specs.Record.{blockLimit}
+use Rattle.runs.specs.Gate.{sound}
+use Rattle.runs.specs.Forward.{ended}
 use Rattle.run.proofs.ReadyLaws.{passed}
-use Rattle.run.proofs.AskLaws.{record-refused, closed-refused, end-output-refused, ended-done}
+use Rattle.runs.proofs.AskLaws.{record-refused, closed-refused, end-output-refused, ended-done}
 use Rattle.run.proofs.forward.finish.Statement.{statement}
 use Rattle.run.proofs.forward.finish.Tie as tie
 

@@ -1,7 +1,7 @@
 -- `run::forward::start` meets its contract.
 use borrow.Author.Needs.{needs}
 use mathlib.Core.Path.{sym, _∙_}
-use Rattle.run.proofs.AskLaws.{start-refused, start-done}
+use Rattle.runs.proofs.AskLaws.{start-refused, start-done}
 use Rattle.run.proofs.forward.start.Statement.{statement}
 use Rattle.run.proofs.forward.start.Tie as tie
 

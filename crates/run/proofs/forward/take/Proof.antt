@@ -3,11 +3,11 @@ use borrow.Author.Needs.{needs}
 use native.Mathlib.Omega.{arith}
 use mathlib.Core.Path.{sym, ap, _∙_}
 use Prim.Native.Nat.{ℕ}
-use Rattle.lifting.specs.Gate.{told}
-use Rattle.run.specs.Record.{recordOf}
-use Rattle.run.specs.Gate.{Given}
-use Rattle.run.specs.Forward.{taken}
-use Rattle.run.proofs.Refusals.{admitted-few}
+use Rattle.runs.specs.Answers.{told}
+use Rattle.runs.specs.Record.{recordOf}
+use Rattle.runs.specs.Gate.{Given}
+use Rattle.runs.specs.Forward.{taken}
+use Rattle.runs.proofs.Refusals.{admitted-few}
 use Rattle.run.proofs.forward.take.Statement.{statement}
 use Rattle.run.proofs.forward.take.Tie as tie
 

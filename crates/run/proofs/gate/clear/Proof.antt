@@ -14,7 +14,7 @@ use mir.Syntax.{w64}
 use mir.Val.{ofZ}
 use Rattle.integers.specs.Places.{at}
 use Rattle.integers.proofs.Held.{Held, held-ok, same-bits}
-use Rattle.run.specs.Gate.{inside}
+use Rattle.runs.specs.Gate.{inside}
 use Rattle.run.proofs.GateLaws.{not-clear, all-clear, no-bits}
 use Rattle.run.proofs.gate.clear.Statement.{statement}
 use Rattle.run.proofs.gate.clear.Tie as tie

@@ -1,9 +1,9 @@
 -- `run::gate::fault_in` meets its contract.
 use borrow.Author.Needs.{needs}
 use mathlib.Core.Path.{_≡_, sym, _∙_}
-use Rattle.lifting.specs.declared.gate.Found.the-variants.{Nothing}
-use Rattle.run.specs.Gate.{firstDead}
-use Rattle.run.proofs.AskLaws.{dead-found, beyond-found, none-found}
+use Rattle.runs.specs.declared.answer.Found.the-variants.{Nothing}
+use Rattle.runs.specs.Gate.{firstDead}
+use Rattle.run.proofs.BlockLaws.{dead-found, beyond-found, none-found}
 use Rattle.run.proofs.gate.fault_in.Statement.{statement}
 use Rattle.run.proofs.gate.fault_in.Tie as tie
 

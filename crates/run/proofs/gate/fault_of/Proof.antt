@@ -2,7 +2,7 @@
 use borrow.Author.Needs.{needs}
 use native.Mathlib.Omega.{arith}
 use mathlib.Core.Path.{sym, _∙_}
-use Rattle.run.proofs.AskLaws.{range-clear}
+use Rattle.run.proofs.BlockLaws.{range-clear}
 use Rattle.run.proofs.gate.fault_of.Statement.{statement}
 use Rattle.run.proofs.gate.fault_of.Tie as tie
 

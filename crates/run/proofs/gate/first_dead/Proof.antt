@@ -10,7 +10,7 @@ use mir.Val.{ofZ}
 use Rattle.integers.specs.Places.{at}
 use Rattle.integers.proofs.Held.{Held, held-ok, same-bits}
 use Rattle.lifting.proofs.GateLaws.{stops, goes-on, ends}
-use Rattle.run.specs.Gate.{dead, firstDead}
+use Rattle.runs.specs.Gate.{dead, firstDead}
 use Rattle.run.proofs.GateLaws.{marked, unmarked}
 use Rattle.run.proofs.gate.first_dead.Statement.{statement}
 use Rattle.run.proofs.gate.first_dead.Tie as tie

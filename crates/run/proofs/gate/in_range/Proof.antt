@@ -3,7 +3,7 @@ use borrow.Author.Needs.{needs}
 use native.Mathlib.Omega.{arith}
 use mathlib.Core.Path.{_≡_, sym, ap, subst, _∙_}
 use mathlib.Core.Bool.{Bool, true, false, cond}
-use Prim.Native.Nat.{ℕ, _≤_, _-_}
+use Prim.Native.Nat.{_≤_, _-_}
 use lib.IntN.{ℤ, pos}
 use lib.ListN.{length}
 use lib.Signed.{_≤ℤ_}
@@ -11,8 +11,8 @@ use mir.Syntax.{w32}
 use mir.Val.{toZ, ofZ}
 use Rattle.integers.specs.Places.{at}
 use Rattle.integers.proofs.Held.{held, held-ok}
-use Rattle.lifting.specs.Gate.{beyond}
-use Rattle.run.specs.Gate.{inside}
+use Rattle.runs.specs.Answers.{beyond}
+use Rattle.runs.specs.Gate.{inside}
 use Rattle.run.proofs.GateLaws.{Counted, counted-none, counted-next, counted-end}
 use Rattle.run.proofs.gate.in_range.Statement.{statement}
 use Rattle.run.proofs.gate.in_range.Tie as tie

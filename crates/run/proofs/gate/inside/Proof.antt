@@ -4,7 +4,7 @@ use mathlib.Core.Path.{_≡_, sym, ap, _∙_}
 use lib.IntN.{ℤ}
 use mir.Syntax.{w64}
 use Rattle.integers.proofs.Held.{held}
-use Rattle.lifting.specs.Gate.{firstBeyond}
+use Rattle.runs.specs.Answers.{firstBeyond}
 use Rattle.run.proofs.GateLaws.{outside, within}
 use Rattle.run.proofs.gate.inside.Statement.{statement}
 use Rattle.run.proofs.gate.inside.Tie as tie

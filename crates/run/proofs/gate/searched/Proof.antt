@@ -6,7 +6,7 @@ use mathlib.Core.List.{List, _++_}
 use lib.IntN.{ℤ}
 use lib.ListN.{length, take, drop}
 use Rattle.lifting.proofs.Parts.{part-long, front, front-le}
-use Rattle.run.specs.Faults.{faultOf}
+use Rattle.run.specs.Own.Faults.{faultOf}
 use Rattle.run.proofs.gate.searched.Statement.{statement}
 use Rattle.run.proofs.gate.searched.Tie as tie
 

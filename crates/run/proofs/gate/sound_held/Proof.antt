@@ -10,9 +10,9 @@ use lib.ListN.{length, take, drop}
 use Rattle.tables.specs.Widths.{halfWidth}
 use Rattle.tables.proofs.ByWidth.{half-width-le}
 use Rattle.lifting.proofs.Parts.{part-long}
-use Rattle.run.specs.declared.record.Run.{Run}
-use Rattle.run.specs.Record.{recordOf}
-use Rattle.run.specs.Gate.{inside}
+use Rattle.runs.specs.declared.record.Run.{Run}
+use Rattle.runs.specs.Record.{recordOf}
+use Rattle.runs.specs.Gate.{inside}
 use Rattle.run.proofs.GateLaws.{rest-part, no-width, no-count, rest-held, none-taken, run-over, run-open}
 use Rattle.run.proofs.gate.sound_held.Statement.{statement}
 use Rattle.run.proofs.gate.sound_held.Tie as tie

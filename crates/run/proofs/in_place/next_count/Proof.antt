@@ -2,7 +2,7 @@
 use borrow.Author.Needs.{needs}
 use native.Mathlib.Omega.{arith}
 use mathlib.Core.Path.{sym, _∙_}
-use Rattle.run.proofs.Refusals.{count-kept, count-raised}
+use Rattle.runs.proofs.Refusals.{count-kept, count-raised}
 use Rattle.run.proofs.in_place.next_count.Statement.{statement}
 use Rattle.run.proofs.in_place.next_count.Tie as tie
 

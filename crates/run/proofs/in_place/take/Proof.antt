@@ -11,20 +11,22 @@ use lib.ListN.{length, drop}
 use Rattle.tables.specs.Widths.{halfWidth}
 use Rattle.tables.proofs.Reading.{half-is}
 use Rattle.steps.specs.Limits.{foldedLimit}
-use Rattle.lifting.specs.Gate.{told}
-use Rattle.lifting.specs.declared.gate.Answer.the-variants.{Done}
+use Rattle.runs.specs.Answers.{told}
+use Rattle.runs.specs.declared.answer.Answer.the-variants.{Done}
 use Rattle.lifting.proofs.Parts.{part-long}
 use Rattle.lifting.proofs.FrameLaws.{width-in-fours, take-within}
-use Rattle.run.specs.declared.record.Run.{Run}
+use Rattle.runs.specs.declared.record.Run.{Run}
 use Rattle.run.specs.declared.gate.Fault.the-variants.{Clear}
-use Rattle.run.specs.Record.{blockLimit, recordOf, nextCount}
-use Rattle.run.specs.Gate.{Given, sound, admitted}
-use Rattle.run.specs.Faults.{faultOf}
-use Rattle.run.specs.Forward.{takenIn, taken}
-use Rattle.run.specs.Ready.{Ready}
-use Rattle.run.proofs.FaultLaws.{width-le, half-room}
+use Rattle.runs.specs.Record.{blockLimit, recordOf, nextCount}
+use Rattle.runs.specs.Gate.{Given, sound, admitted}
+use Rattle.run.specs.Own.Faults.{faultOf}
+use Rattle.runs.specs.Forward.{takenIn, taken}
+use Rattle.run.specs.Own.Ready.{Ready}
+use Rattle.runs.proofs.RecordLaws.{width-le}
+use Rattle.run.proofs.FaultLaws.{half-room}
 use Rattle.run.proofs.ReadyLaws.{passed, advanced-is, frame-on}
-use Rattle.run.proofs.AskLaws.{record-refused, closed-refused, full-refused, input-refused, output-refused, lengths-passed, dead-refused, range-refused, taken-done, clear-within}
+use Rattle.runs.proofs.AskLaws.{record-refused, closed-refused, full-refused, input-refused, output-refused, lengths-passed}
+use Rattle.run.proofs.BlockLaws.{dead-refused, range-refused, taken-done, clear-within}
 use Rattle.run.proofs.in_place.take.Statement.{statement}
 use Rattle.run.proofs.in_place.take.Tie as tie
 

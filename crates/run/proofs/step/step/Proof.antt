@@ -18,7 +18,7 @@ use Rattle.steps.specs.Steps.{lower, topOf, bottomOf}
 use Rattle.steps.proofs.Undo.{width-half, length-top, length-bottom}
 use Rattle.lifting.proofs.Parts.{part-long, front-le, rest-long, rest-put}
 use Rattle.lifting.proofs.FrameLaws.{stages-halves, top-within, bottom-within}
-use Rattle.run.proofs.FaultLaws.{width-le}
+use Rattle.runs.proofs.RecordLaws.{width-le}
 use Rattle.lifting.proofs.RoomLaws.{lifts-in, tangents-lent, sines-lent}
 use Rattle.run.proofs.StepLaws.{folded-within, frame-is}
 use Rattle.run.proofs.step.step.Statement.{statement}

@@ -1,6 +1,5 @@
 -- `run::whole::first_fault` meets its contract.
 use borrow.Author.Needs.{needs}
-use native.Mathlib.Omega.{arith}
 use mathlib.Core.Path.{sym, _∙_}
 use Rattle.run.proofs.FaultLaws.{few-readings, none-at-all}
 use Rattle.run.proofs.whole.first_fault.Statement.{statement}

@@ -7,13 +7,15 @@ use Prim.Native.Nat.{ℕ, _/_, _<_}
 use lib.IntN.{ℤ}
 use lib.ListN.{length}
 use Rattle.tables.specs.Widths.{halfWidth}
-use Rattle.lifting.specs.Gate.{told}
+use Rattle.runs.specs.Answers.{told}
 use Rattle.run.specs.declared.gate.Fault.the-variants.{Clear}
-use Rattle.run.specs.Faults.{toldFault, firstFault}
-use Rattle.run.specs.Ready.{Blocks}
-use Rattle.run.specs.Whole.{WholeRun}
-use Rattle.run.proofs.FaultLaws.{width-le, width-pos, few-readings}
-use Rattle.run.proofs.WholeLaws.{numbered, whole-blocks, whole-width-refused, remainder-refused, count-refused, whole-output-refused, by-fault, whole-done, whole-run}
+use Rattle.run.specs.Own.Faults.{toldFault, firstFault}
+use Rattle.run.specs.Own.Ready.{Blocks}
+use Rattle.runs.specs.Whole.{WholeRun}
+use Rattle.runs.proofs.RecordLaws.{width-le, width-pos}
+use Rattle.run.proofs.FaultLaws.{few-readings}
+use Rattle.runs.proofs.WholeLaws.{numbered, whole-blocks, whole-width-refused, remainder-refused, count-refused, whole-output-refused}
+use Rattle.run.proofs.FirstRefusal.{by-fault, whole-done, whole-run}
 use Rattle.run.proofs.whole.forward.Statement.{statement}
 use Rattle.run.proofs.whole.forward.Tie as tie
 

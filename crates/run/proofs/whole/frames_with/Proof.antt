@@ -12,9 +12,10 @@ use Rattle.steps.specs.Limits.{readingLimit}
 use Rattle.steps.specs.Steps.{held, frame}
 use Rattle.steps.proofs.Undo.{length-held}
 use Rattle.lifting.proofs.Parts.{part-long, front}
-use Rattle.run.specs.Record.{zeros}
+use Rattle.runs.specs.Record.{zeros}
 use Rattle.run.proofs.GateLaws.{rest-part}
-use Rattle.run.proofs.FaultLaws.{width-pos, width-room, half-room, front-same, few-readings, block-next, block-in, no-block, block-long, part-is}
+use Rattle.runs.proofs.RecordLaws.{width-pos}
+use Rattle.run.proofs.FaultLaws.{width-room, half-room, front-same, few-readings, block-next, block-in, no-block, block-long, part-is}
 use Rattle.run.proofs.ReadyLaws.{zero-part, zero-within}
 use Rattle.run.proofs.RoomLaws.{Wide, large-room, Lent, top-le, bottom-le, lent-halves, lent-room}
 use Rattle.run.proofs.Stepping.{Stepping, stepping-first, kept-within, next-within, stepping-next, stepping-end}

@@ -7,8 +7,9 @@ use Prim.Native.Nat.{ℕ, _+_, _*_, _/_, _%_, _≤_}
 use lib.IntN.{ℤ}
 use lib.ListN.{length, take, drop}
 use Rattle.lifting.proofs.FrameLaws.{width-in-fours}
-use Rattle.run.specs.Faults.{faultOf, firstFault}
-use Rattle.run.proofs.FaultLaws.{width-le, width-pos, few-readings, block-next, block-in, block-long, part-is, dead-place, beyond-place, dead-here, beyond-here, clear-here, none-left}
+use Rattle.run.specs.Own.Faults.{faultOf, firstFault}
+use Rattle.runs.proofs.RecordLaws.{width-le, width-pos}
+use Rattle.run.proofs.FaultLaws.{few-readings, block-next, block-in, block-long, part-is, dead-place, beyond-place, dead-here, beyond-here, clear-here, none-left}
 use Rattle.run.proofs.whole.searched.Statement.{statement}
 use Rattle.run.proofs.whole.searched.Tie as tie
 

@@ -1,8 +1,8 @@
 -- `run_back::back::answered` meets its contract.
 use borrow.Author.Needs.{needs}
 use mathlib.Core.Path.{sym, ap}
-use Rattle.lifting.specs.Gate.{told}
-use Rattle.run_back.specs.Faults.{toldFault}
+use Rattle.runs.specs.Answers.{told}
+use Rattle.run_back.specs.Own.Faults.{toldFault}
 use Rattle.run_back.proofs.back.answered.Statement.{statement}
 use Rattle.run_back.proofs.back.answered.Tie as tie
 

@@ -7,15 +7,15 @@ use mathlib.Core.Bool.{true}
 use mathlib.Core.List.{List, []}
 use lib.IntN.{ℤ}
 use lib.ListN.{length}
-use Rattle.lifting.specs.Gate.{told}
-use Rattle.lifting.specs.declared.gate.Answer.the-variants.{Done}
-use Rattle.run.specs.declared.record.Run.{Run}
-use Rattle.run.specs.Record.{frameLimit, closed}
-use Rattle.run.specs.Gate.{sound}
+use Rattle.runs.specs.Answers.{told}
+use Rattle.runs.specs.declared.answer.Answer.the-variants.{Done}
+use Rattle.runs.specs.declared.record.Run.{Run}
+use Rattle.runs.specs.Record.{frameLimit, closed}
+use Rattle.runs.specs.Gate.{sound}
 use Rattle.run.proofs.ReadyLaws.{passed}
-use Rattle.run.proofs.AskLaws.{record-refused, closed-refused}
-use Rattle.run_back.specs.Back.{endedBack}
-use Rattle.run_back.proofs.EndLaws.{end-empty-refused, end-held-refused, ended-done}
+use Rattle.runs.proofs.AskLaws.{record-refused, closed-refused}
+use Rattle.runs.specs.Back.{endedBack}
+use Rattle.runs.proofs.EndLaws.{end-empty-refused, end-held-refused, ended-done}
 use Rattle.run_back.proofs.back.finish.Statement.{statement}
 use Rattle.run_back.proofs.back.finish.Tie as tie
 

@@ -6,9 +6,9 @@ use Prim.Native.Nat.{ℕ, _≤_}
 use lib.IntN.{pos}
 use lib.ListN.{length, take}
 use Rattle.tables.proofs.ByWidth.{half-width-le}
-use Rattle.lifting.specs.Gate.{firstBeyond}
+use Rattle.runs.specs.Answers.{firstBeyond}
 use Rattle.lifting.proofs.Parts.{part-long}
-use Rattle.run_back.specs.Back.{firstHeld}
+use Rattle.runs.specs.Back.{firstHeld}
 use Rattle.run_back.proofs.back.first_held.Statement.{statement}
 use Rattle.run_back.proofs.back.first_held.Tie as tie
 

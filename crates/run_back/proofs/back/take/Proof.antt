@@ -3,11 +3,11 @@ use borrow.Author.Needs.{needs}
 use native.Mathlib.Omega.{arith}
 use mathlib.Core.Path.{sym, ap, _∙_}
 use Prim.Native.Nat.{ℕ}
-use Rattle.lifting.specs.Gate.{told}
-use Rattle.run.specs.Record.{recordOf}
-use Rattle.run.specs.Gate.{Given}
-use Rattle.run_back.specs.Back.{takenBack}
-use Rattle.run.proofs.Refusals.{admitted-few}
+use Rattle.runs.specs.Answers.{told}
+use Rattle.runs.specs.Record.{recordOf}
+use Rattle.runs.specs.Gate.{Given}
+use Rattle.runs.specs.Back.{takenBack}
+use Rattle.runs.proofs.Refusals.{admitted-few}
 use Rattle.run_back.proofs.back.take.Statement.{statement}
 use Rattle.run_back.proofs.back.take.Tie as tie
 

@@ -11,18 +11,18 @@ use lib.ListN.{length, take, drop}
 use Rattle.tables.specs.Widths.{halfWidth}
 use Rattle.tables.proofs.Reading.{half-is}
 use Rattle.steps.specs.Limits.{foldedLimit}
-use Rattle.lifting.specs.Gate.{told}
+use Rattle.runs.specs.Answers.{told}
 use Rattle.lifting.proofs.Parts.{part-long}
 use Rattle.lifting.proofs.FrameLaws.{take-within}
-use Rattle.run.specs.declared.record.Run.{Run}
-use Rattle.run.specs.Record.{frameLimit, recordOf, nextCount}
-use Rattle.run.specs.Gate.{Given, sound, admitted}
-use Rattle.run.specs.Ready.{Ready}
+use Rattle.runs.specs.declared.record.Run.{Run}
+use Rattle.runs.specs.Record.{frameLimit, recordOf, nextCount}
+use Rattle.runs.specs.Gate.{Given, sound, admitted}
+use Rattle.run.specs.Own.Ready.{Ready}
 use Rattle.run.proofs.FaultLaws.{half-room}
 use Rattle.run.proofs.ReadyLaws.{passed, stored-opened, rest-zero, run-is}
-use Rattle.run.proofs.AskLaws.{record-refused, closed-refused, full-refused, input-refused, output-refused, lengths-passed}
-use Rattle.run_back.specs.Back.{undoneIn, takenBack}
-use Rattle.run_back.proofs.AnswerLaws.{sound-wide}
+use Rattle.runs.proofs.AskLaws.{record-refused, closed-refused, full-refused, input-refused, output-refused, lengths-passed}
+use Rattle.runs.specs.Back.{undoneIn, takenBack}
+use Rattle.runs.proofs.AnswerLaws.{sound-wide}
 use Rattle.run_back.proofs.UndoLaws.{count-told}
 use Rattle.run_back.proofs.in_place.take.Statement.{statement}
 use Rattle.run_back.proofs.in_place.take.Tie as tie

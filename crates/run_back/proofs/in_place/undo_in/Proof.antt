@@ -1,6 +1,6 @@
 -- `run_back::in_place::undo_in` meets its contract.
 use borrow.Author.Needs.{needs}
-use Rattle.run.proofs.FaultLaws.{width-le}
+use Rattle.runs.proofs.RecordLaws.{width-le}
 use Rattle.run_back.proofs.in_place.undo_in.Statement.{statement}
 use Rattle.run_back.proofs.in_place.undo_in.Tie as tie
 

@@ -4,9 +4,9 @@ use native.Mathlib.Omega.{arith}
 use mathlib.Core.Path.{sym, ap, _∙_}
 use lib.IntN.{pos}
 use Rattle.steps.specs.Limits.{coefficientLimit}
-use Rattle.lifting.specs.Gate.{firstBeyond}
-use Rattle.run.specs.Gate.{inside}
-use Rattle.run.proofs.Searches.{nothing-is}
+use Rattle.runs.specs.Answers.{firstBeyond}
+use Rattle.runs.specs.Gate.{inside}
+use Rattle.runs.proofs.Searches.{nothing-is}
 use Rattle.run_back.proofs.undo.coefficient_beyond.Statement.{statement}
 use Rattle.run_back.proofs.undo.coefficient_beyond.Tie as tie
 

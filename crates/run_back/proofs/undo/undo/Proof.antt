@@ -10,13 +10,13 @@ use Rattle.integers.specs.Places.{Within}
 use Rattle.steps.specs.Limits.{foldedLimit, coefficientLimit}
 use Rattle.steps.specs.Steps.{unstages}
 use Rattle.steps.proofs.Undo.{length-unstages}
-use Rattle.lifting.specs.Gate.{firstBeyond}
-use Rattle.lifting.specs.declared.gate.Found.the-variants.{Nothing}
+use Rattle.runs.specs.Answers.{firstBeyond}
+use Rattle.runs.specs.declared.answer.Found.the-variants.{Nothing}
 use Rattle.lifting.proofs.FrameLaws.{width-in-fours}
-use Rattle.run.proofs.FaultLaws.{width-le}
-use Rattle.lifting.proofs.GateLaws.{none-within}
-use Rattle.run.specs.Record.{opened}
-use Rattle.run_back.specs.Back.{unfoldedIn}
+use Rattle.runs.proofs.RecordLaws.{width-le}
+use Rattle.runs.proofs.Searches.{none-within}
+use Rattle.runs.specs.Record.{opened}
+use Rattle.runs.specs.Back.{unfoldedIn}
 use Rattle.run_back.proofs.UndoLaws.{range-refused, folded-refused, folded-passed}
 use Rattle.run_back.proofs.undo.undo.Statement.{statement}
 use Rattle.run_back.proofs.undo.undo.Tie as tie

@@ -14,16 +14,16 @@ use Rattle.tables.proofs.Reading.{half-is}
 use Rattle.steps.specs.Limits.{readingLimit, foldedLimit}
 use Rattle.steps.specs.Steps.{unfolded}
 use Rattle.steps.proofs.Undo.{width-half}
-use Rattle.lifting.specs.Gate.{firstBeyond}
-use Rattle.lifting.specs.declared.gate.Found.the-variants.{Nothing}
+use Rattle.runs.specs.Answers.{firstBeyond}
+use Rattle.runs.specs.declared.answer.Found.the-variants.{Nothing}
 use Rattle.lifting.proofs.Parts.{part-long}
 use Rattle.lifting.proofs.FrameLaws.{width-in-fours, drop-within}
-use Rattle.lifting.proofs.GateLaws.{none-within}
-use Rattle.run.specs.Record.{opened}
-use Rattle.run.specs.Gate.{firstOut}
+use Rattle.runs.proofs.Searches.{none-within, beyond-at}
+use Rattle.runs.specs.Record.{opened}
+use Rattle.runs.specs.Gate.{firstOut}
 use Rattle.run.proofs.GateLaws.{rest-part}
-use Rattle.run.proofs.FaultLaws.{width-le, beyond-at}
-use Rattle.run_back.specs.Back.{blockOn}
+use Rattle.runs.proofs.RecordLaws.{width-le}
+use Rattle.runs.specs.Back.{blockOn}
 use Rattle.lifting.proofs.RoomLaws.{lifts-in, tangents-lent, sines-lent}
 use Rattle.run_back.proofs.UndoLaws.{upper-refused, first-done, block-is, block-long, later-refused, later-done}
 use Rattle.run_back.proofs.undo.unfolded.Statement.{statement}

@@ -8,17 +8,19 @@ use lib.ListN.{length, take, drop, length-append, length-replicate}
 use lib.Seq.{drop-drop}
 use Rattle.tables.specs.Widths.{halfWidth}
 use Rattle.tables.proofs.ByWidth.{half-width-le}
-use Rattle.lifting.specs.Gate.{told}
-use Rattle.run.specs.declared.record.Run.{Run}
-use Rattle.run.specs.Record.{frameLimit, zeros, opened}
-use Rattle.run.specs.Gate.{Given}
-use Rattle.run.proofs.FaultLaws.{width-pos, block-next, block-in, no-block, block-long, part-is}
-use Rattle.run_back.specs.Faults.{toldFault, countAfter}
-use Rattle.run_back.specs.Back.{undoneIn, takenBack}
-use Rattle.run_back.specs.Whole.{answerFrom, firstAnswer}
-use Rattle.run_back.proofs.AnswerLaws.{taken-place}
-use Rattle.run_back.proofs.BackLaws.{started-back, ReachedBack, back-first}
-use Rattle.run_back.proofs.LoopLaws.{few-numbers, one-frame, answer-here, answer-next, answer-end}
+use Rattle.runs.specs.Answers.{told}
+use Rattle.runs.specs.declared.record.Run.{Run}
+use Rattle.runs.specs.Record.{frameLimit, zeros, opened}
+use Rattle.runs.specs.Gate.{Given}
+use Rattle.runs.proofs.RecordLaws.{width-pos}
+use Rattle.run.proofs.FaultLaws.{block-next, block-in, no-block, block-long, part-is}
+use Rattle.run_back.specs.Own.Faults.{toldFault, countAfter}
+use Rattle.runs.specs.Back.{undoneIn, takenBack}
+use Rattle.runs.specs.WholeBack.{answerFrom, firstAnswer}
+use Rattle.runs.proofs.AnswerLaws.{taken-place}
+use Rattle.runs.proofs.BackLaws.{started-back, ReachedBack, back-first}
+use Rattle.run_back.proofs.LoopLaws.{few-numbers, one-frame}
+use Rattle.runs.proofs.OneByOne.{answer-here, answer-next, answer-end}
 use Rattle.run_back.proofs.RoomLaws.{SameRoom, halves-same, room-same}
 use Rattle.run_back.proofs.Undoing.{low-within, frame-taken, run-after, reached-after, end-told}
 use Rattle.run_back.proofs.whole.answer_of.Statement.{statement}

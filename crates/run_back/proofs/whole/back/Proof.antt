@@ -7,10 +7,10 @@ use Prim.Native.Nat.{ℕ, _+_, _<_}
 use lib.IntN.{ℤ}
 use lib.ListN.{length}
 use Rattle.tables.specs.Widths.{halfWidth}
-use Rattle.run.proofs.FaultLaws.{width-pos}
-use Rattle.run_back.specs.Ready.{Frames}
+use Rattle.runs.proofs.RecordLaws.{width-pos}
+use Rattle.run_back.specs.Own.Ready.{Frames}
 use Rattle.run_back.proofs.LoopLaws.{one-frame, frames-whole}
-use Rattle.run_back.proofs.WholeBackLaws.{whole-width-refused, remainder-refused, count-refused, empty-refused, whole-output-refused, lengths-passed}
+use Rattle.runs.proofs.WholeBackLaws.{whole-width-refused, remainder-refused, count-refused, empty-refused, whole-output-refused, lengths-passed}
 use Rattle.run_back.proofs.whole.back.Statement.{statement}
 use Rattle.run_back.proofs.whole.back.Tie as tie
 

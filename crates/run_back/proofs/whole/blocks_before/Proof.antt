@@ -7,17 +7,19 @@ use lib.IntN.{ℤ}
 use lib.ListN.{length, take, drop}
 use lib.Seq.{drop-drop}
 use Rattle.tables.specs.Widths.{halfWidth}
-use Rattle.run.specs.declared.record.Run.{Run}
-use Rattle.run.specs.Record.{frameLimit, opened}
-use Rattle.run.specs.Gate.{Given}
-use Rattle.run.proofs.StepLaws.{all-within}
-use Rattle.run.proofs.FaultLaws.{width-pos, few-readings, block-next, block-in, no-block, block-long, part-is}
+use Rattle.runs.specs.declared.record.Run.{Run}
+use Rattle.runs.specs.Record.{frameLimit, opened}
+use Rattle.runs.specs.Gate.{Given}
+use Rattle.runs.proofs.Searches.{all-within}
+use Rattle.runs.proofs.RecordLaws.{width-pos}
+use Rattle.run.proofs.FaultLaws.{few-readings, block-next, block-in, no-block, block-long, part-is}
 use Rattle.run.proofs.PartLaws.{written, written-rest}
-use Rattle.run_back.specs.Faults.{toldFault, countAfter}
-use Rattle.run_back.specs.Back.{undoneIn, takenBack}
-use Rattle.run_back.specs.Whole.{answerFrom, outputsFrom}
-use Rattle.run_back.proofs.BackLaws.{ReachedBack}
-use Rattle.run_back.proofs.LoopLaws.{answer-next, here-taken, blocks-next, no-blocks}
+use Rattle.run_back.specs.Own.Faults.{toldFault, countAfter}
+use Rattle.runs.specs.Back.{undoneIn, takenBack}
+use Rattle.runs.specs.WholeBack.{answerFrom, outputsFrom}
+use Rattle.runs.proofs.BackLaws.{ReachedBack}
+use Rattle.runs.proofs.OneByOne.{answer-next, here-taken}
+use Rattle.run_back.proofs.LoopLaws.{blocks-next, no-blocks}
 use Rattle.run_back.proofs.RoomLaws.{SameRoom, halves-same, room-same}
 use Rattle.run_back.proofs.Undoing.{low-within, block-given, run-after, reached-after}
 use Rattle.run_back.proofs.whole.blocks_before.Statement.{statement}

@@ -3,9 +3,9 @@ use borrow.Author.Needs.{needs}
 use native.Mathlib.Omega.{arith}
 use mathlib.Core.Path.{_≡_, sym, ap, _∙_}
 use lib.IntN.{pos}
-use Rattle.lifting.specs.Gate.{told, firstBeyond}
-use Rattle.run.proofs.FaultLaws.{beyond-at}
-use Rattle.run_back.specs.Faults.{toldHeld}
+use Rattle.runs.specs.Answers.{told, firstBeyond}
+use Rattle.runs.proofs.Searches.{beyond-at}
+use Rattle.run_back.specs.Own.Faults.{toldHeld}
 use Rattle.run_back.proofs.whole.ended.Statement.{statement}
 use Rattle.run_back.proofs.whole.ended.Tie as tie
 

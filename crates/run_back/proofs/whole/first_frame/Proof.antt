@@ -8,14 +8,14 @@ use lib.IntN.{ℤ, pos}
 use lib.ListN.{length, length-replicate}
 use Rattle.tables.specs.Widths.{halfWidth}
 use Rattle.lifting.proofs.Parts.{part-long}
-use Rattle.run.specs.declared.record.Run.{Run}
-use Rattle.run.specs.Record.{zeros, opened}
-use Rattle.run.specs.Gate.{Given}
-use Rattle.run.specs.Forward.{started}
+use Rattle.runs.specs.declared.record.Run.{Run}
+use Rattle.runs.specs.Record.{zeros, opened}
+use Rattle.runs.specs.Gate.{Given}
+use Rattle.runs.specs.Forward.{started}
 use Rattle.run.proofs.FaultLaws.{width-room}
-use Rattle.run_back.specs.Faults.{toldFault, countAfter}
-use Rattle.run_back.specs.Back.{takenBack}
-use Rattle.run_back.proofs.BackLaws.{started-back, ReachedBack, back-first}
+use Rattle.run_back.specs.Own.Faults.{toldFault, countAfter}
+use Rattle.runs.specs.Back.{takenBack}
+use Rattle.runs.proofs.BackLaws.{started-back, ReachedBack, back-first}
 use Rattle.run_back.proofs.Undoing.{low-within, frame-taken, run-after, reached-after}
 use Rattle.run_back.proofs.whole.first_frame.Statement.{statement}
 use Rattle.run_back.proofs.whole.first_frame.Tie as tie

@@ -7,11 +7,11 @@ use Prim.Native.Nat.{ℕ, _-_, _≤_}
 use lib.IntN.{ℤ, pos}
 use lib.ListN.{length, take, drop, length-replicate}
 use Rattle.constants.specs.Filled.{Filled}
-use Rattle.lifting.specs.Gate.{told}
+use Rattle.runs.specs.Answers.{told}
 use Rattle.lifting.proofs.Parts.{part-long}
-use Rattle.run_back.specs.Whole.{firstAnswer}
+use Rattle.runs.specs.WholeBack.{firstAnswer}
 use Rattle.lifting.proofs.RoomLaws.{tables-le, lists-le, filled-le, filled-long, filled-lent}
-use Rattle.run_back.proofs.WholeBackLaws.{first-alike, ones-refused, ones-done}
+use Rattle.runs.proofs.WholeBackLaws.{first-alike, ones-refused, ones-done}
 use Rattle.run_back.proofs.whole.in_two_passes.Statement.{statement}
 use Rattle.run_back.proofs.whole.in_two_passes.Tie as tie
 

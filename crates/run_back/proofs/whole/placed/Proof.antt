@@ -2,8 +2,8 @@
 use borrow.Author.Needs.{needs}
 use native.Mathlib.Omega.{arith}
 use mathlib.Core.Path.{refl}
-use Rattle.lifting.specs.Gate.{told}
-use Rattle.run_back.specs.Whole.{placed}
+use Rattle.runs.specs.Answers.{told}
+use Rattle.runs.specs.WholeBack.{placed}
 use Rattle.run_back.proofs.PlacedLaws.{place-le, known, placed-first}
 use Rattle.run_back.proofs.whole.placed.Statement.{statement}
 use Rattle.run_back.proofs.whole.placed.Tie as tie

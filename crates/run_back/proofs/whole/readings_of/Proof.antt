@@ -11,15 +11,16 @@ use Rattle.tables.specs.Widths.{halfWidth}
 use Rattle.tables.proofs.Reading.{half-is}
 use Rattle.steps.specs.Limits.{foldedLimit}
 use Rattle.lifting.proofs.Parts.{part-long, front, front-long, front-le}
-use Rattle.run.specs.Record.{zeros, opened}
-use Rattle.run.specs.Ready.{Blocks}
-use Rattle.run.specs.Forward.{started}
+use Rattle.runs.specs.Record.{zeros, opened}
+use Rattle.run.specs.Own.Ready.{Blocks}
+use Rattle.runs.specs.Forward.{started}
 use Rattle.run.proofs.GateLaws.{rest-part}
 use Rattle.run.proofs.FaultLaws.{width-room, half-room}
 use Rattle.run.proofs.ReadyLaws.{none-held}
-use Rattle.run_back.specs.Back.{takenBack}
-use Rattle.run_back.specs.Whole.{answerFrom, outputsFrom}
-use Rattle.run_back.proofs.LoopLaws.{one-frame, one-block-less, rest-blocks, first-yes, answer-left, outputs-left}
+use Rattle.runs.specs.Back.{takenBack}
+use Rattle.runs.specs.WholeBack.{answerFrom, outputsFrom}
+use Rattle.run_back.proofs.LoopLaws.{one-frame, one-block-less, rest-blocks, answer-left, outputs-left}
+use Rattle.runs.proofs.OneByOne.{first-yes}
 use Rattle.lifting.proofs.RoomLaws.{product-le, halves-lent}
 use Rattle.run_back.proofs.whole.readings_of.Statement.{statement}
 use Rattle.run_back.proofs.whole.readings_of.Tie as tie

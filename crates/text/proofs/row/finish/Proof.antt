@@ -5,8 +5,8 @@ use mathlib.Core.Path.{_≡_, sym, ap, _∙_}
 use mathlib.Core.List.{_++_}
 use lib.ListN.{length, take, drop, length-append}
 use lib.Seq.{length-take-le, take-at}
-use Rattle.lifting.specs.Gate.{told}
-use Rattle.run.specs.Gate.{Given}
+use Rattle.runs.specs.Answers.{told}
+use Rattle.runs.specs.Gate.{Given}
 use Rattle.text.specs.Way.{endedBy}
 use Rattle.text.specs.Line.{finishGiven}
 use Rattle.text.proofs.StepLaws.{output-room, closing}

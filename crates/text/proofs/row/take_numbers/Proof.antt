@@ -5,7 +5,7 @@ use mathlib.Core.Path.{_≡_, sym, ap, _∙_}
 use mathlib.Core.List.{_++_}
 use lib.ListN.{length, take, drop, length-append}
 use lib.Seq.{length-take-le, take-at}
-use Rattle.lifting.specs.Gate.{told}
+use Rattle.runs.specs.Answers.{told}
 use Rattle.text.specs.Way.{takenBy}
 use Rattle.text.specs.Line.{rowGiven}
 use Rattle.text.proofs.StepLaws.{output-room}

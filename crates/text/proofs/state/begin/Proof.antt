@@ -2,9 +2,9 @@
 use borrow.Author.Needs.{needs}
 use mathlib.Core.Path.{ap}
 use Prim.Native.Nat.{ℕ}
-use Rattle.run.specs.declared.record.Run.{Run}
+use Rattle.runs.specs.declared.record.Run.{Run}
 use Rattle.tables.specs.Widths.{halfWidth, byWidth}
-use Rattle.run.specs.Forward.{started}
+use Rattle.runs.specs.Forward.{started}
 use Rattle.text.specs.declared.state.Way.{Way}
 use Rattle.text.specs.declared.state.State.{State}
 use Rattle.text.specs.declared.state.Phase.the-variants.{Width}

@@ -1,7 +1,7 @@
 -- `text::way::finish` meets its contract.
 use borrow.Author.Needs.{needs}
 use mathlib.Core.Path.{sym, ap, _∙_}
-use Rattle.run.specs.Gate.{Given}
+use Rattle.runs.specs.Gate.{Given}
 use Rattle.text.specs.Way.{endedBy}
 use Rattle.text.proofs.way.finish.Statement.{statement}
 use Rattle.text.proofs.way.finish.Tie as tie

@@ -4,8 +4,8 @@ use native.Mathlib.Omega.{arith}
 use mathlib.Core.Path.{_≡_, sym, ap, _∙_}
 use mathlib.Core.List.{[], _∷_, _++_}
 use Prim.Native.Nat.{ℕ}
-use Rattle.run.specs.declared.record.Run.{Run}
-use Rattle.run.specs.Forward.{started}
+use Rattle.runs.specs.declared.record.Run.{Run}
+use Rattle.runs.specs.Forward.{started}
 use Rattle.lines.specs.Decimal.{decimal}
 use Rattle.lines.specs.Lines.{lineFeed}
 use Rattle.lines.proofs.DecimalLaws.{decimal-within}

@@ -1,0 +1,127 @@
+-- The record of a run that is open after b blocks, the last of them `previous`, and of the same run finished: the gate calls both sound.
+use mathlib.Core.Path.{_≡_, refl, sym, ap, ap₂, _∙_}
+use mathlib.Core.Bool.{Bool, true, false, not, _||_, or-false}
+use mathlib.Core.List.{List, [], _∷_, _++_}
+use Prim.Native.Nat.{ℕ, zero, suc, _+_, _-_, _≤_, _<_, zero-le}
+use native.Mathlib.Omega.{arith}
+use borrow.Author.Tests.{lt-ltb, le-leb, eqb-true}
+use lib.Dec.{eqb, lit≤}
+use lib.IntN.{ℤ, pos}
+use lib.ListN.{length, take, drop, length-replicate, replicate-append-replicate}
+use lib.Seq.{take-at, drop-at}
+use Rattle.integers.specs.Vectors.{AllAbs}
+use Rattle.integers.proofs.Order.{natAbs-zero}
+use Rattle.integers.proofs.Products.{all-append}
+use Rattle.tables.specs.Widths.{halfWidth}
+use Rattle.tables.proofs.ByWidth.{half-width-le}
+use Rattle.steps.specs.Limits.{readingLimit, foldedLimit}
+use Rattle.steps.specs.Steps.{lower, held, frame}
+use Rattle.steps.proofs.Undo.{width-half, length-stages, length-held}
+use Rattle.steps.proofs.Rotation.{held-gate}
+use Rattle.steps.proofs.ZeroBlock.{held-zeros}
+use Rattle.distance.specs.Statement.{IsWidth, Block}
+use Rattle.distance.proofs.ZeroBlock.{zero-block}
+use Rattle.runs.specs.declared.record.Run.{Run}
+use Rattle.runs.specs.Record.{blockLimit, zeros, filled, opened, closed}
+use Rattle.runs.specs.Gate.{every, sound}
+use Rattle.runs.proofs.Searches.{inside-all}
+
+-- ---- a width, and a frame of it
+pub width-le : (N : ℕ) → 0 < halfWidth N → N ≤ 128
+width-le N w = omega (arith, width-half N w, half-width-le N)
+
+pub width-pos : (N : ℕ) → 0 < halfWidth N → 0 < N
+width-pos N w = omega (arith, width-half N w)
+
+pub length-frame : (N : ℕ) (previous block : List ℤ) → 0 < halfWidth N → length (frame N previous block) ≡ N
+unfolding frame
+length-frame N previous block wide = length-stages N (lower N block ++ previous) ∙ width-half N wide
+
+-- ---- held values, with zeros up to 64
+module _ (n : ℕ) (xs : List ℤ) (l : length xs ≡ n) where
+  pub take-filled : take n (filled xs) ≡ xs
+  unfolding filled
+  take-filled = take-at xs _ n l
+
+  pub drop-filled : drop n (filled xs) ≡ zeros (64 - n)
+  unfolding filled
+  drop-filled = rw (drop-at xs _ n l, l)
+
+filled-zeros : (n : ℕ) → n ≤ 64 → filled (zeros n) ≡ zeros 64
+unfolding filled
+filled-zeros n h =
+    let e : n + (64 - n) ≡ 64 = omega arith in
+    rw (length-replicate n (pos 0), replicate-append-replicate, e)
+
+filled-held-zeros : (N : ℕ) → filled (held N (zeros N)) ≡ zeros 64
+filled-held-zeros N = rw held-zeros (filled-zeros (halfWidth N) (half-width-le N))
+
+-- before the first block the held values are zeros, as those of a block of zeros are
+pub opened-zeros : (N : ℕ) → opened N 0 [] ≡ opened N 0 (held N (zeros N))
+unfolding opened
+opened-zeros N = ap (λ xs. record { width = N; count = 0; held = xs; finished = false }) (filled-zeros 0 (lit≤ tt) ∙ sym (filled-held-zeros N))
+
+pub zeros-are : (xs : List ℤ) → AllAbs 0 xs → xs ≡ zeros (length xs)
+zeros-are [] h = refl
+zeros-are (x ∷ xs) h = ap₂ (λ (y : ℤ) (ys : List ℤ). y ∷ ys) (natAbs-zero x (omega (arith, h .0))) (zeros-are xs (h .1))
+
+-- ---- what question 2 asks
+all-zeros : (l n : ℕ) → AllAbs l (zeros n)
+all-zeros l n = zero-block n l .within
+
+all-filled : (l : ℕ) (xs : List ℤ) → AllAbs l xs → AllAbs l (filled xs)
+unfolding filled
+all-filled l xs h = all-append l xs (zeros (64 - length xs)) h (all-zeros l (64 - length xs))
+
+pub all-take : (l n : ℕ) (xs : List ℤ) → AllAbs l xs → AllAbs l (take n xs)
+all-take l zero xs h = tt
+all-take l (suc n) [] h = tt
+all-take l (suc n) (x ∷ xs) h = (h .0, all-take l n xs (h .1))
+
+pub all-drop : (l n : ℕ) (xs : List ℤ) → AllAbs l xs → AllAbs l (drop n xs)
+all-drop l zero xs h = h
+all-drop l (suc n) [] h = tt
+all-drop l (suc n) (x ∷ xs) h = all-drop l n xs (h .1)
+
+unless : (a b : Bool) → (a ≡ true → b ≡ true) → (not a || b) ≡ true
+unless true b h = h refl
+unless false b h = refl
+
+pub sound-run : (top : ℕ) (run : Run) → 0 < halfWidth (run .width) → run .count ≤ top → AllAbs foldedLimit (run .held) → AllAbs 0 (drop (halfWidth (run .width)) (run .held))
+    → ((eqb (run .count) 0 || run .finished) ≡ true → AllAbs 0 (run .held)) → sound top run ≡ true
+unfolding sound every
+sound-run top run w c h d z = rw (lt-ltb _ _ w, le-leb _ _ c, inside-all foldedLimit (run .held) h, inside-all 0 (drop (halfWidth (run .width)) (run .held)) d, unless _ _ (λ e. inside-all _ _ (z e)))
+
+-- an open run that holds half a width of values
+pub open-sound : (top N b : ℕ) (xs : List ℤ) → 0 < halfWidth N → b ≤ top → length xs ≡ halfWidth N → AllAbs foldedLimit xs → (b ≡ 0 → xs ≡ zeros (halfWidth N))
+    → sound top (opened N b xs) ≡ true
+unfolding opened
+open-sound top N b xs w c l h z =
+    sound-run top (opened N b xs) w c (all-filled foldedLimit xs h)
+    (rw (drop-filled (halfWidth N) xs l) (all-zeros 0 (64 - halfWidth N)))
+    (λ e. rw (z (eqb-true b 0 (sym (or-false (eqb b 0)) ∙ e)), filled-zeros (halfWidth N) (half-width-le N)) (all-zeros 0 64))
+
+-- ---- what a run comes to: `previous` is the last of b blocks, or zeros before the first
+pub record Reached (N b : ℕ) (previous : List ℤ) : Type 0 where
+  pub wide : IsWidth N
+  pub counted : b ≤ blockLimit
+  pub readings : Block N readingLimit previous
+  pub fresh : b ≡ 0 → previous ≡ zeros N
+
+pub reached-first : (N : ℕ) → IsWidth N → Reached N 0 (zeros N)
+reached-first N w = record { wide = w; counted = zero-le; readings = zero-block N readingLimit; fresh = λ e. refl }
+
+pub reached-next : (N b : ℕ) (previous xs : List ℤ) → Reached N b previous → b < blockLimit → Block N readingLimit xs → Reached N (suc b) xs
+reached-next N b previous xs r l h = record { wide = r .wide; counted = l; readings = h; fresh = λ e. absurd (omega arith) }
+
+module _ (N b : ℕ) (previous : List ℤ) (r : Reached N b previous) where
+  pub opened-sound : sound blockLimit (opened N b (held N previous)) ≡ true
+  opened-sound =
+      open-sound blockLimit N b (held N previous) (r .wide) (r .counted) (length-held N previous) (held-gate N previous (r .readings .within))
+      (λ e. rw (r .fresh e) (held-zeros N N))
+
+  pub closed-sound : sound blockLimit (closed (opened N b (held N previous))) ≡ true
+  unfolding opened closed
+  closed-sound =
+      sound-run blockLimit (closed (opened N b (held N previous))) (r .wide) (r .counted)
+      (all-zeros foldedLimit 64) (all-drop 0 (halfWidth N) (zeros 64) (all-zeros 0 64)) (λ e. all-zeros 0 64)

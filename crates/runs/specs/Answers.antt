@@ -1,0 +1,38 @@
+-- The answers' numbers, and the search for the first number that a question refuses: document 01, "The gate, question by question".
+use mathlib.Core.Bool.{Bool, cond}
+use mathlib.Core.List.{List, [], _∷_}
+use Prim.Native.Nat.{ℕ, suc}
+use lib.Dec.{ltb}
+use lib.IntN.{ℤ, natAbs}
+use Rattle.runs.specs.declared.answer.Answer.{Answer}
+use Rattle.runs.specs.declared.answer.Answer.the-variants.{Done, Width, Record, Closed, Full, Empty, InputLength, OutputLength, DeadMark, Range, Folded, Halves, Unfolded}
+use Rattle.runs.specs.declared.answer.Found.{Found}
+use Rattle.runs.specs.declared.answer.Found.the-variants.{At, Nothing}
+
+-- the number of an answer, 0 for work done, and its place, 0 where there is none
+unfoldable pub told : Answer → ℕ × ℕ
+told Done = (0, 0)
+told Width = (1, 0)
+told Record = (2, 0)
+told Closed = (3, 0)
+told Full = (4, 0)
+told Empty = (5, 0)
+told InputLength = (6, 0)
+told OutputLength = (7, 0)
+told (DeadMark i) = (8, i)
+told (Range i) = (9, i)
+told (Folded i) = (10, i)
+told (Halves i) = (11, i)
+told (Unfolded i) = (12, i)
+
+-- the first number of a list that a test names, where the list's first stands at k
+unfoldable pub first : (ℤ → Bool) → List ℤ → ℕ → Found
+first test [] k = Nothing
+first test (x ∷ xs) k = cond (test x) (At k) (first test xs (suc k))
+
+-- the first that is beyond ±limit
+unfoldable pub beyond : ℤ → ℤ → Bool
+beyond limit x = ltb (natAbs limit) (natAbs x)
+
+abbrev pub firstBeyond : ℤ → List ℤ → ℕ → Found
+firstBeyond limit = first (beyond limit)

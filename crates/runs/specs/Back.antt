@@ -1,0 +1,57 @@
+-- A run back, call by call: document 01, "Widths, readings, frames" and the gate.
+use mathlib.Core.Bool.{cond, not}
+use mathlib.Core.List.{List, []}
+use Prim.Native.Nat.{suc}
+use lib.Dec.{eqb, ltb}
+use lib.IntN.{ℤ, pos}
+use lib.ListN.{take, drop}
+use Rattle.tables.specs.Widths.{halfWidth}
+use Rattle.steps.specs.Limits.{foldedLimit, coefficientLimit}
+use Rattle.steps.specs.Steps.{unstages, unfolded}
+use Rattle.runs.specs.Answers.{firstBeyond}
+use Rattle.runs.specs.declared.answer.Found.{Found}
+use Rattle.runs.specs.declared.record.Run.{Run}
+use Rattle.runs.specs.Record.{frameLimit, opened, closed}
+use Rattle.runs.specs.Gate.{Given, ask, askEach, admitted, sound, firstOut}
+
+-- "Held place i is folded place i": a run that has taken one frame more, and holds its lower half
+unfoldable pub framed : Run → List ℤ → Run
+framed run folded = opened (run .width) (suc (run .count)) (take (halfWidth (run .width)) folded)
+
+-- the block between the lower half that is held and this frame's upper half
+unfoldable pub blockOn : Run → List ℤ → List ℤ
+blockOn run folded = unfolded (run .width) (take (halfWidth (run .width)) (run .held)) (drop (halfWidth (run .width)) folded)
+
+-- "the first frame only starts the run and writes nothing": 11, its upper half is zero; places count from 0 through the folded values
+unfoldable pub firstUpper : Run → List ℤ → Found
+firstUpper run folded = firstBeyond (pos 0) (drop (halfWidth (run .width)) folded) (halfWidth (run .width))
+
+unfoldable pub firstFrame : Run → List ℤ → List ℤ → Given
+firstFrame run folded out = askEach 11 (firstUpper run folded) run out ((0, 0), framed run folded, out)
+
+-- "each later frame writes one block": 12, each of its readings is in range
+unfoldable pub laterFrame : Run → List ℤ → List ℤ → Given
+laterFrame run folded out = askEach 12 (firstOut (blockOn run folded) 0) run out ((0, 0), framed run folded, blockOn run folded)
+
+unfoldable pub unfoldedIn : Run → List ℤ → List ℤ → Given
+unfoldedIn run folded out = cond (eqb (run .count) 0) (firstFrame run folded out) (laterFrame run folded out)
+
+-- 9, the stages undone, 10
+unfoldable pub undoneIn : Run → List ℤ → List ℤ → Given
+undoneIn run frame out =
+    askEach 9 (firstBeyond (pos coefficientLimit) frame 0) run out
+    (askEach 10 (firstBeyond (pos foldedLimit) (unstages (run .width) frame) 0) run out (unfoldedIn run (unstages (run .width) frame) out))
+
+-- take a frame
+unfoldable pub takenBack : Run → List ℤ → List ℤ → Given
+takenBack run frame out = admitted frameLimit run frame out (undoneIn run frame out)
+
+-- finish back: 5, a frame has been taken; 11, the held lower half is zero. No output is lent.
+unfoldable pub firstHeld : Run → Found
+firstHeld run = firstBeyond (pos 0) (take (halfWidth (run .width)) (run .held)) 0
+
+unfoldable pub endedBack : Run → Given
+endedBack run =
+    ask 2 (sound frameLimit run) run []
+    (ask 3 (not (run .finished)) run []
+    (ask 5 (ltb 0 (run .count)) run [] (askEach 11 (firstHeld run) run [] ((0, 0), closed run, []))))

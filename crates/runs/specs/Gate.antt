@@ -1,0 +1,71 @@
+-- The gate's questions to a run forward: document 01, "The gate, question by question".
+use mathlib.Core.Bool.{Bool, true, false, cond, not, _&&_, _||_}
+use mathlib.Core.List.{List, [], _∷_}
+use Prim.Native.Nat.{ℕ}
+use lib.Dec.{eqb, ltb, leb}
+use lib.IntN.{ℤ, pos, negsuc}
+use lib.ListN.{length, drop}
+use Rattle.tables.specs.Widths.{halfWidth}
+use Rattle.steps.specs.Limits.{readingLimit, foldedLimit}
+use Rattle.runs.specs.Answers.{first, firstBeyond}
+use Rattle.runs.specs.declared.answer.Found.{Found}
+use Rattle.runs.specs.declared.answer.Found.the-variants.{At, Nothing}
+use Rattle.runs.specs.declared.record.Run.{Run}
+
+-- what a call gives: the answer's number and place, the record handed back, the output afterwards
+abbrev pub Given : Type 0
+Given = (ℕ × ℕ) × Run × List ℤ
+
+-- "A refusal hands back the same record and leaves the output untouched."
+unfoldable pub ask : ℕ → Bool → Run → List ℤ → Given → Given
+ask number answer run out next = cond answer next ((number, 0), run, out)
+
+unfoldable pub askEach : ℕ → Found → Run → List ℤ → Given → Given
+askEach number (At place) run out next = ((number, place), run, out)
+askEach number Nothing run out next = next
+
+-- no value of a list is beyond ±limit
+unfoldable pub nothing : Found → Bool
+nothing (At place) = false
+nothing Nothing = true
+
+unfoldable pub inside : ℤ → List ℤ → Bool
+inside limit xs = nothing (firstBeyond limit xs 0)
+
+-- each of a list of questions is answered yes
+unfoldable pub every : List Bool → Bool
+every [] = true
+every (answer ∷ rest) = answer && every rest
+
+-- 2, where `top` is the greatest count: "a good width, count from 0 to 65,536, each held value within ±50,000, held places from M up
+-- zero, and all zero if the count is 0 or the run is finished"
+unfoldable pub sound : ℕ → Run → Bool
+sound top run =
+    every
+    (ltb 0 (halfWidth (run .width))
+    ∷ leb (run .count) top
+    ∷ inside (pos foldedLimit) (run .held)
+    ∷ inside (pos 0) (drop (halfWidth (run .width)) (run .held))
+    ∷ (not (eqb (run .count) 0 || run .finished) || inside (pos 0) (run .held))
+    ∷ [])
+
+-- 8: "−32,768 is the gauge's dead mark."
+unfoldable pub dead : ℤ → Bool
+dead (pos n) = false
+dead (negsuc n) = eqb n 32767
+
+abbrev pub firstDead : List ℤ → ℕ → Found
+firstDead = first dead
+
+-- 9
+abbrev pub firstOut : List ℤ → ℕ → Found
+firstOut = firstBeyond (pos readingLimit)
+
+-- 2, 3, 4, 6 and 7 to a block or frame that is handed in, where `top` is the greatest count; then what follows
+unfoldable pub admitted : ℕ → Run → List ℤ → List ℤ → Given → Given
+admitted top run given out next =
+    ask 2 (sound top run) run out
+    (ask 3 (not (run .finished)) run out
+    (ask 4 (ltb (run .count) top) run out
+    (ask 6 (eqb (length given) (run .width)) run out
+    (ask 7 (eqb (length out) (run .width)) run out next))))

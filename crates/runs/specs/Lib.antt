@@ -1,0 +1,13 @@
+pub mod Answers
+pub mod Alone
+pub mod Record
+pub mod Gate
+pub mod Forward
+pub mod Calls
+pub mod Whole
+pub mod Lists
+pub mod Cases
+pub mod Back
+pub mod WholeBack
+pub mod Return
+pub mod Samples

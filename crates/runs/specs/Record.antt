@@ -1,0 +1,44 @@
+-- The run record: document 01, "Widths, readings, frames".
+use mathlib.Core.Bool.{Bool, true, false, cond}
+use mathlib.Core.List.{List, _++_}
+use Prim.Native.Nat.{ℕ, suc, _-_}
+use lib.Dec.{eqb}
+use lib.IntN.{ℤ, pos}
+use lib.ListN.{length, replicate}
+use Rattle.steps.specs.Steps.{held}
+use Rattle.runs.specs.declared.record.Run.{Run}
+
+-- "A run takes at most 65,536 blocks."
+abbrev pub blockLimit : ℕ
+blockLimit = 65536
+
+-- b blocks give b + 1 frames, so a run back takes at most one frame more
+abbrev pub frameLimit : ℕ
+frameLimit = 65537
+
+abbrev pub zeros : ℕ → List ℤ
+zeros n = replicate n (pos 0)
+
+-- the record of a width, a count, held values and whether the run is finished
+abbrev pub recordOf : ℕ → ℕ → List ℤ → Bool → Run
+recordOf N count held finished = record { width = N; count = count; held = held; finished = finished }
+
+-- the count after a call that answers this number: one more where it has worked
+unfoldable pub nextCount : ℕ → ℕ → ℕ
+nextCount number count = cond (eqb number 0) (suc count) count
+
+-- a list of held values, with zeros up to 64 of them
+unfoldable pub filled : List ℤ → List ℤ
+filled xs = xs ++ zeros (64 - length xs)
+
+-- the record of an open run
+unfoldable pub opened : ℕ → ℕ → List ℤ → Run
+opened N count xs = record { width = N; count = count; held = filled xs; finished = false }
+
+-- a run that has taken one block more, and holds that block's
+unfoldable pub advanced : Run → List ℤ → Run
+advanced run block = opened (run .width) (suc (run .count)) (held (run .width) block)
+
+-- "A finish leaves the count and zeroes the held values."
+unfoldable pub closed : Run → Run
+closed run = record { width = run .width; count = run .count; held = zeros 64; finished = true }
