@@ -8,6 +8,7 @@ ghost use Rattle.tables.specs.Widths.{halfWidth};
 ghost use Rattle.steps.specs.Limits.{foldedLimit, coefficientLimit};
 ghost use Rattle.constants.specs.Filled.{Filled};
 ghost use Rattle.stages.specs.Expanded.{Halves, Room};
+ghost use Rattle.runs.specs.Answers.{firstBeyond};
 ghost use Rattle.runs.specs.Record.{opened};
 ghost use Rattle.runs.specs.Back.{unfoldedIn, undoneIn};
 ghost use Rattle.run_back.specs.Own.Faults.{toldFault, countAfter};
