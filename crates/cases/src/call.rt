@@ -38,13 +38,7 @@ fn once(kind: usize, run: Run, input: &[i32], output: &mut [i32]) -> Outcome {
 }
 
 // The same call as often as told, each with the record of the one before; what the last one gives.
-pub fn repeated(
-    kind: usize,
-    times: usize,
-    run: Run,
-    input: &[i32],
-    output: &mut [i32],
-) -> Outcome {
+pub fn repeated(kind: usize, times: usize, run: Run, input: &[i32], output: &mut [i32]) -> Outcome {
     let mut given = once(kind, run, input, output);
     let mut done = 1;
     while done < times {

@@ -87,25 +87,37 @@ fn marked() -> [i32; 1024]
     [7; 1024]
 }
 
-fn tried(kind: usize, times: usize, asked: &[i32], told: &[i32]) -> bool
+fn tried(kind: usize, times: usize, asked: &[i32], told: &[i32], output: &mut [i32]) -> bool
     requires { ⌜ (70 ≤ length (now asked)) × (70 ≤ length (now told)) ⌝ }
 {
-    let m = told.len() - 70;
-    if 1024 < m {
-        return false;
-    }
-    let mut output = marked();
-    let given = call::repeated(
-        kind,
-        times,
-        record_in(asked),
-        &asked[70..],
-        &mut output[..m],
-    );
+    let given = call::repeated(kind, times, record_in(asked), &asked[70..], output);
     if !same_outcome(given, told) {
         return false;
     }
-    same(&output[..m], &told[70..])
+    same(output, &told[70..])
+}
+
+// A kind that there is not, a call made no time and an output that has no room differ.
+fn judged(asked: &[i32], told: &[i32]) -> bool
+    requires { ⌜ (70 ≤ length (now asked)) × (70 ≤ length (now told)) ⌝ }
+{
+    let kind = line::size(asked[0]);
+    let times = line::size(asked[1]);
+    let n = told.len() - 70;
+    if kind == 0 {
+        return false;
+    }
+    if 9 < kind {
+        return false;
+    }
+    if times == 0 {
+        return false;
+    }
+    if 1024 < n {
+        return false;
+    }
+    let mut output = marked();
+    tried(kind, times, asked, told, &mut output[0..n])
 }
 
 // The length of the half at the start of the numbers; 0 if there is none.
@@ -134,18 +146,7 @@ fn agrees(x: &[i32]) -> bool {
     if half(&x[end..]) != rest {
         return false;
     }
-    let kind = line::size(x[0]);
-    let times = line::size(x[1]);
-    if kind == 0 {
-        return false;
-    }
-    if 9 < kind {
-        return false;
-    }
-    if times == 0 {
-        return false;
-    }
-    tried(kind, times, &x[..end], &x[end..])
+    judged(&x[0..end], &x[end..])
 }
 
 pub fn holds(text: &[u8], numbers: &mut [i32]) -> bool {
@@ -155,5 +156,5 @@ pub fn holds(text: &[u8], numbers: &mut [i32]) -> bool {
     }
     let from = colon + 1;
     let n = line::numbers(&text[from..], numbers);
-    agrees(&numbers[..n])
+    agrees(&numbers[0..n])
 }

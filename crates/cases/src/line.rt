@@ -64,7 +64,7 @@ fn field(text: &[u8], numbers: &mut [i32], n: usize) -> usize
     put(
         numbers,
         n,
-        read::number(&text[..star]),
+        read::number(&text[0..star]),
         read::number(&text[after..]),
     )
 }

@@ -7,6 +7,7 @@ mod case;
 mod line;
 
 ghost use mathlib.Core.Path.{_≡_};
+ghost use Prim.Native.Nat.{_≤_};
 ghost use lib.ListN.{length};
 
 struct Tally {
@@ -32,26 +33,29 @@ fn count(text: &[u8], n: usize) {
     io::print_decimal(1, n as u64);
 }
 
-fn differs(number: usize, line: &[u8]) {
-    let end = line::end(line, 0, b':');
+// 1 for a line that differs, which is named, and 0 for one that does not. A line that is no case differs.
+fn differs(number: usize, text: &[u8], numbers: &mut [i32]) -> usize
+    ensures { λ r. ⌜ r ≤ 1 ⌝ }
+{
+    if case::holds(text, numbers) {
+        return 0;
+    }
+    let end = line::end(text, 0, b':');
     count(b"line ", number);
     io::write_all(1, b" differs: ");
-    io::write_all(1, &line[..end]);
+    io::write_all(1, &text[0..end]);
     io::write_all(1, b"\n");
+    1
 }
 
-// A line that is no case is one that differs.
-fn tally(text: &[u8], numbers: &mut [i32]) -> Tally {
+fn each(text: &[u8], numbers: &mut [i32]) -> Tally {
     let mut cases: usize = 0;
     let mut differ: usize = 0;
     let mut at = 0;
     while at < text.len() {
         let end = line::end(text, at, b'\n');
         cases += 1;
-        if !case::holds(&text[at..end], numbers) {
-            differs(cases, &text[at..end]);
-            differ += 1;
-        }
+        differ += differs(cases, &text[at..end], numbers);
         at = end + 1;
     }
     Tally {
@@ -67,7 +71,7 @@ fn file(name: &[u8], numbers: &mut [i32]) {
     libc::close(opened);
     io::write_all(1, name);
     io::write_all(1, b"\n");
-    let found = tally(&buffer[..n], numbers);
+    let found = each(&buffer[..n], numbers);
     count(b"cases ", found.cases);
     count(b", differ ", found.differ);
     io::write_all(1, b"\n");
