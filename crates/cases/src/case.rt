@@ -1,6 +1,6 @@
-// One case: its two halves, each two numbers, a record, a length and a list.
+// One case.
 ghost use mathlib.Core.Path.{_≡_};
-ghost use Prim.Native.Nat.{_≤_};
+ghost use Prim.Native.Nat.{_+_, _≤_};
 ghost use lib.ListN.{length};
 use crate::call;
 use crate::line;
@@ -10,60 +10,32 @@ use run::record::Outcome;
 use run::record::Run;
 use stages::vectors;
 
-fn record_in(x: &[i32]) -> Run
-    requires { ⌜ 69 ≤ length (now x) ⌝ }
+fn record_at(x: &[i32], at: usize) -> Run
+    requires { ⌜ at + 67 ≤ length (now x) ⌝ }
 {
+    let from = at + 3;
+    let end = at + 67;
     let mut held = record::nothing_held();
-    vectors::widen(&x[5..69], &mut held);
+    vectors::widen(&x[from..end], &mut held);
     Run {
-        width: line::size(x[2]),
-        count: line::size(x[3]),
+        width: line::size(x[at]),
+        count: line::size(x[at + 1]),
         held: held,
-        finished: x[4] == 1,
+        finished: x[at + 2] == 1,
     }
 }
 
-fn same_held(x: &[i64], y: &[i64]) -> bool {
-    if x.len() != y.len() {
-        return false;
-    }
+fn same_record(x: Run, y: Run) -> bool {
+    let x_held = x.held;
+    let y_held = y.held;
     let mut i = 0;
-    while i < x.len() {
-        if x[i] != y[i] {
+    while i < 64 {
+        if x_held[i] != y_held[i] {
             return false;
         }
         i += 1;
     }
-    true
-}
-
-fn same_record(x: Run, y: Run) -> bool {
-    if x.width != y.width {
-        return false;
-    }
-    if x.count != y.count {
-        return false;
-    }
-    if x.finished != y.finished {
-        return false;
-    }
-    let x_held = x.held;
-    let y_held = y.held;
-    same_held(&x_held, &y_held)
-}
-
-fn same_outcome(given: Outcome, told: &[i32]) -> bool
-    requires { ⌜ 69 ≤ length (now told) ⌝ }
-{
-    let answer = given.answer;
-    if gate::number(answer) != line::size(told[0]) {
-        return false;
-    }
-    if gate::place(answer) != line::size(told[1]) {
-        return false;
-    }
-    let run = given.run;
-    same_record(run, record_in(told))
+    (x.width == y.width) & (x.count == y.count) & (x.finished == y.finished)
 }
 
 fn same(x: &[i32], y: &[i32]) -> bool {
@@ -80,6 +52,25 @@ fn same(x: &[i32], y: &[i32]) -> bool {
     true
 }
 
+fn as_told(given: Outcome, x: &[i32]) -> bool
+    requires { ⌜ 139 ≤ length (now x) ⌝ }
+{
+    let answer = given.answer;
+    let run = given.run;
+    (gate::number(answer) == line::size(x[2]))
+        & (gate::place(answer) == line::size(x[3]))
+        & same_record(run, record_at(x, 72))
+}
+
+fn tried(x: &[i32], end: usize, output: &mut [i32]) -> bool
+    requires { ⌜ (139 ≤ end) × (end ≤ length (now x)) ⌝ }
+{
+    let kind = line::size(x[0]);
+    let times = line::size(x[1]);
+    let given = call::repeated(kind, times, record_at(x, 5), &x[139..end], output);
+    as_told(given, x) & same(output, &x[end..])
+}
+
 // Room for an output, with 7 in every place.
 fn marked() -> [i32; 1024]
     ensures { λ r. ⌜ 1024 ≡ length r ⌝ }
@@ -87,74 +78,25 @@ fn marked() -> [i32; 1024]
     [7; 1024]
 }
 
-fn tried(kind: usize, times: usize, asked: &[i32], told: &[i32], output: &mut [i32]) -> bool
-    requires { ⌜ (70 ≤ length (now asked)) × (70 ≤ length (now told)) ⌝ }
-{
-    let given = call::repeated(kind, times, record_in(asked), &asked[70..], output);
-    if !same_outcome(given, told) {
+fn agrees(x: &[i32]) -> bool {
+    if x.len() < 139 {
         return false;
     }
-    same(output, &told[70..])
-}
-
-// A kind that there is not, a call made no time and an output that has no room differ.
-fn judged(asked: &[i32], told: &[i32]) -> bool
-    requires { ⌜ (70 ≤ length (now asked)) × (70 ≤ length (now told)) ⌝ }
-{
-    let kind = line::size(asked[0]);
-    let times = line::size(asked[1]);
-    let n = told.len() - 70;
-    if kind == 0 {
+    let rest = x.len() - 139;
+    let n = line::size(x[4]);
+    if rest < n {
         return false;
     }
-    if 9 < kind {
-        return false;
-    }
-    if times == 0 {
-        return false;
-    }
-    if 1024 < n {
+    let m = rest - n;
+    if 1024 < m {
         return false;
     }
     let mut output = marked();
-    tried(kind, times, asked, told, &mut output[0..n])
-}
-
-// The length of the half at the start of the numbers; 0 if there is none.
-fn half(x: &[i32]) -> usize
-    ensures { λ r. ⌜ r ≤ length (now (x .entry)) ⌝ }
-{
-    if x.len() < 70 {
-        return 0;
-    }
-    let n = line::size(x[69]);
-    if x.len() - 70 < n {
-        return 0;
-    }
-    70 + n
-}
-
-fn agrees(x: &[i32]) -> bool {
-    let end = half(x);
-    if end < 70 {
-        return false;
-    }
-    let rest = x.len() - end;
-    if rest < 70 {
-        return false;
-    }
-    if half(&x[end..]) != rest {
-        return false;
-    }
-    judged(&x[0..end], &x[end..])
+    tried(x, 139 + n, &mut output[0..m])
 }
 
 pub fn holds(text: &[u8], numbers: &mut [i32]) -> bool {
     let colon = line::end(text, 0, b':');
-    if colon == text.len() {
-        return false;
-    }
-    let from = colon + 1;
-    let n = line::numbers(&text[from..], numbers);
+    let n = line::numbers(text, colon + 1, numbers);
     agrees(&numbers[0..n])
 }

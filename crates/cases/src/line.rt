@@ -1,5 +1,5 @@
 // The numbers of a line.
-ghost use Prim.Native.Nat.{_≤_};
+ghost use Prim.Native.Nat.{_+_, _≤_};
 ghost use lib.ListN.{length};
 use lines::read;
 use lines::read::Field;
@@ -13,10 +13,10 @@ pub fn end(text: &[u8], from: usize, byte: u8) -> usize
     search::end_of(text, from, byte)
 }
 
-// A number below zero is no length.
+// A number below zero counts as a million, which no length, count or answer of a case is.
 pub fn size(x: i32) -> usize {
     if x < 0 {
-        return 0;
+        return 1000000;
     }
     x as usize
 }
@@ -38,43 +38,47 @@ fn fill(numbers: &mut [i32], n: usize, times: usize, value: i32) -> usize
     end
 }
 
-fn put(numbers: &mut [i32], n: usize, times: Field, value: Field) -> usize
-    requires { ⌜ n ≤ length (now numbers) ⌝ }
-    ensures { λ r. ⌜ r ≤ length (now (numbers .entry)) ⌝ }
+// How often the number of a field stands: what is before the star, and once if there is none.
+fn often(text: &[u8], star: usize) -> usize
+    requires { ⌜ star ≤ length (now text) ⌝ }
 {
-    let Field::Number(often) = times else {
-        return n;
+    if star == text.len() {
+        return 1;
+    }
+    let found = read::number(&text[0..star]);
+    let Field::Number(times) = found else {
+        return 0;
     };
-    let Field::Number(x) = value else {
-        return n;
-    };
-    fill(numbers, n, size(often), x)
+    size(times)
 }
 
-// A field is a number, or how often it stands, a star and the number. One that is neither puts nothing.
+// Where the number of a field begins.
+fn behind(star: usize, n: usize) -> usize
+    ensures { λ r. ⌜ r ≤ n ⌝ }
+{
+    if star < n { star + 1 } else { 0 }
+}
+
+// A field that is no number puts nothing.
 fn field(text: &[u8], numbers: &mut [i32], n: usize) -> usize
     requires { ⌜ n ≤ length (now numbers) ⌝ }
     ensures { λ r. ⌜ r ≤ length (now (numbers .entry)) ⌝ }
 {
     let star = end(text, 0, b'*');
-    if star == text.len() {
-        return put(numbers, n, Field::Number(1), read::number(text));
-    }
-    let after = star + 1;
-    put(
-        numbers,
-        n,
-        read::number(&text[0..star]),
-        read::number(&text[after..]),
-    )
+    let from = behind(star, text.len());
+    let found = read::number(&text[from..]);
+    let Field::Number(x) = found else {
+        return n;
+    };
+    fill(numbers, n, often(text, star), x)
 }
 
-// The numbers of all fields; none if a field puts nothing.
-pub fn numbers(text: &[u8], numbers: &mut [i32]) -> usize
+// The numbers of all fields from a place on; none if a field puts nothing.
+pub fn numbers(text: &[u8], from: usize, numbers: &mut [i32]) -> usize
     ensures { λ r. ⌜ r ≤ length (now (numbers .entry)) ⌝ }
 {
     let mut n = 0;
-    let mut at = 0;
+    let mut at = from;
     while at <= text.len() {
         let stop = end(text, at, b',');
         let more = field(&text[at..stop], numbers, n);

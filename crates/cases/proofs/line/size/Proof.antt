@@ -9,9 +9,6 @@ use Rattle.integers.proofs.Signs.{from-zero}
 use Rattle.cases.proofs.line.size.Statement.{statement}
 use Rattle.cases.proofs.line.size.Tie as tie
 
-returns : tie.Need-returns
-returns c = search needs
-
 cast-result : tie.Need-cast-result
 cast-result c =
     let x = c .before .args .x in
@@ -19,8 +16,5 @@ cast-result c =
     let given = held-ok w32 x fits in
     asks-nat w64 given (from-zero x (h-lt given (num-lit w32 0 tt .holds) (c .if1 .left))) (omega (arith, natAbs-le x fits))
 
-returns-2 : tie.Need-returns-2
-returns-2 c = search needs
-
 pub size-spec : {M : Type 1} → statement M
-size-spec = tie.close (tie.spec returns cast-result returns-2)
+size-spec = tie.close (tie.spec (λ c. search needs) cast-result (λ c. search needs))
