@@ -10,16 +10,6 @@ use run_back::back;
 // A place that no number of a line is.
 const NOWHERE: usize = 4294967296;
 
-fn by_record(kind: usize, run: Run, input: &[i32], output: &mut [i32]) -> Outcome {
-    match kind {
-        0 => forward::start(run.width),
-        1 => forward::take(run, input, output),
-        2 => forward::finish(run, output),
-        3 => back::take(run, input, output),
-        _ => back::finish(run),
-    }
-}
-
 fn by_width(kind: usize, width: usize, input: &[i32], output: &mut [i32]) -> Answer {
     match kind {
         5 => run::whole::forward(width, input, output),
@@ -31,13 +21,19 @@ fn by_width(kind: usize, width: usize, input: &[i32], output: &mut [i32]) -> Ans
 }
 
 fn once(kind: usize, run: Run, input: &[i32], output: &mut [i32]) -> Outcome {
-    if kind < 5 {
-        return by_record(kind, run, input, output);
-    }
-    let answer = by_width(kind, run.width, input, output);
-    Outcome {
-        run: run,
-        answer: answer,
+    match kind {
+        0 => forward::start(run.width),
+        1 => forward::take(run, input, output),
+        2 => forward::finish(run, output),
+        3 => back::take(run, input, output),
+        4 => back::finish(run),
+        _ => {
+            let answer = by_width(kind, run.width, input, output);
+            Outcome {
+                run: run,
+                answer: answer,
+            }
+        }
     }
 }
 

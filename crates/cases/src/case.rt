@@ -1,41 +1,53 @@
 // One case.
 ghost use mathlib.Core.Path.{_≡_};
-ghost use Prim.Native.Nat.{_+_, _≤_};
+ghost use Prim.Native.Nat.{_≤_};
 ghost use lib.ListN.{length};
 use crate::call;
 use crate::line;
 use lifting::gate;
+use lifting::gate::Answer;
 use run::record;
 use run::record::Outcome;
 use run::record::Run;
 use stages::vectors;
 
-fn record_at(x: &[i32], at: usize) -> Run
-    requires { ⌜ at + 67 ≤ length (now x) ⌝ }
+fn held_in(x: &[i32]) -> [i64; 64]
+    requires { ⌜ length (now x) ≡ 64 ⌝ }
 {
-    let from = at + 3;
-    let end = at + 67;
     let mut held = record::nothing_held();
-    vectors::widen(&x[from..end], &mut held);
+    vectors::widen(x, &mut held);
+    held
+}
+
+fn record_in(x: &[i32]) -> Run
+    requires { ⌜ length (now x) ≡ 67 ⌝ }
+{
     Run {
-        width: line::size(x[at]),
-        count: line::size(x[at + 1]),
-        held: held,
-        finished: x[at + 2] == 1,
+        width: line::size(x[0]),
+        count: line::size(x[1]),
+        held: held_in(&x[3..]),
+        finished: x[2] == 1,
     }
+}
+
+fn same_held(x: &[i64; 64], y: &[i64; 64]) -> bool {
+    let mut i = 0;
+    while i < 64 {
+        if x[i] != y[i] {
+            return false;
+        }
+        i += 1;
+    }
+    true
 }
 
 fn same_record(x: Run, y: Run) -> bool {
     let x_held = x.held;
     let y_held = y.held;
-    let mut i = 0;
-    while i < 64 {
-        if x_held[i] != y_held[i] {
-            return false;
-        }
-        i += 1;
-    }
-    (x.width == y.width) & (x.count == y.count) & (x.finished == y.finished)
+    (x.width == y.width)
+        & (x.count == y.count)
+        & (x.finished == y.finished)
+        & same_held(&x_held, &y_held)
 }
 
 fn same(x: &[i32], y: &[i32]) -> bool {
@@ -52,23 +64,37 @@ fn same(x: &[i32], y: &[i32]) -> bool {
     true
 }
 
+fn same_answer(answer: Answer, x: &[i32]) -> bool
+    requires { ⌜ 139 ≤ length (now x) ⌝ }
+{
+    (gate::number(answer) == line::size(x[2])) & (gate::place(answer) == line::size(x[3]))
+}
+
 fn as_told(given: Outcome, x: &[i32]) -> bool
     requires { ⌜ 139 ≤ length (now x) ⌝ }
 {
     let answer = given.answer;
     let run = given.run;
-    (gate::number(answer) == line::size(x[2]))
-        & (gate::place(answer) == line::size(x[3]))
-        & same_record(run, record_at(x, 72))
+    same_answer(answer, x) & same_record(run, record_in(&x[72..139]))
+}
+
+fn outcome(x: &[i32], end: usize, output: &mut [i32]) -> Outcome
+    requires { ⌜ (139 ≤ end) × (end ≤ length (now x)) ⌝ }
+{
+    let run = record_in(&x[5..72]);
+    call::repeated(
+        line::size(x[0]),
+        line::size(x[1]),
+        run,
+        &x[139..end],
+        output,
+    )
 }
 
 fn tried(x: &[i32], end: usize, output: &mut [i32]) -> bool
     requires { ⌜ (139 ≤ end) × (end ≤ length (now x)) ⌝ }
 {
-    let kind = line::size(x[0]);
-    let times = line::size(x[1]);
-    let given = call::repeated(kind, times, record_at(x, 5), &x[139..end], output);
-    as_told(given, x) & same(output, &x[end..])
+    as_told(outcome(x, end, output), x) & same(output, &x[end..])
 }
 
 // Room for an output, with 7 in every place.
@@ -78,7 +104,7 @@ fn marked() -> [i32; 1024]
     [7; 1024]
 }
 
-fn agrees(x: &[i32]) -> bool {
+pub fn agrees(x: &[i32]) -> bool {
     if x.len() < 139 {
         return false;
     }
@@ -93,10 +119,4 @@ fn agrees(x: &[i32]) -> bool {
     }
     let mut output = marked();
     tried(x, 139 + n, &mut output[0..m])
-}
-
-pub fn holds(text: &[u8], numbers: &mut [i32]) -> bool {
-    let colon = line::end(text, 0, b':');
-    let n = line::numbers(text, colon + 1, numbers);
-    agrees(&numbers[0..n])
 }

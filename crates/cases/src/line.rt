@@ -38,25 +38,19 @@ fn fill(numbers: &mut [i32], n: usize, times: usize, value: i32) -> usize
     end
 }
 
-// How often the number of a field stands: what is before the star, and once if there is none.
+// How often the number of a field stands: what is behind the star, and once if there is none.
 fn often(text: &[u8], star: usize) -> usize
     requires { ⌜ star ≤ length (now text) ⌝ }
 {
     if star == text.len() {
         return 1;
     }
-    let found = read::number(&text[0..star]);
+    let from = star + 1;
+    let found = read::number(&text[from..]);
     let Field::Number(times) = found else {
         return 0;
     };
     size(times)
-}
-
-// Where the number of a field begins.
-fn behind(star: usize, n: usize) -> usize
-    ensures { λ r. ⌜ r ≤ n ⌝ }
-{
-    if star < n { star + 1 } else { 0 }
 }
 
 // A field that is no number puts nothing.
@@ -65,8 +59,7 @@ fn field(text: &[u8], numbers: &mut [i32], n: usize) -> usize
     ensures { λ r. ⌜ r ≤ length (now (numbers .entry)) ⌝ }
 {
     let star = end(text, 0, b'*');
-    let from = behind(star, text.len());
-    let found = read::number(&text[from..]);
+    let found = read::number(&text[0..star]);
     let Field::Number(x) = found else {
         return n;
     };

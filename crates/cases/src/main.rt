@@ -1,5 +1,5 @@
 // The cases of data/: calls of the library, each with what it must give. A line is a case: its name, a colon, and numbers with commas between them,
-// where 64*0 stands for 64 zeros. The numbers are
+// where 0*64 stands for 64 zeros. The numbers are
 //     kind, times, answer, place, length of the input, record before, record after, input, output
 // and a record is its width, its count, 1 if it is finished and else 0, and 64 held values. Every place of an output is 7 before the call. The kinds
 // are in `call`.
@@ -30,18 +30,29 @@ fn count(text: &[u8], n: usize) {
     io::print_decimal(1, n as u64);
 }
 
+fn name(number: usize, text: &[u8]) {
+    count(b"\nline ", number);
+    io::write_all(1, b" differs: ");
+    io::write_all(1, text);
+}
+
 // 1 for a line that differs, which is named, and 0 for one that does not. A line that is no case differs.
 fn differs(number: usize, text: &[u8], numbers: &mut [i32]) -> usize
     ensures { λ r. ⌜ r ≤ 1 ⌝ }
 {
-    if case::holds(text, numbers) {
+    let colon = line::end(text, 0, b':');
+    let n = line::numbers(text, colon + 1, numbers);
+    if case::agrees(&numbers[0..n]) {
         return 0;
     }
-    let end = line::end(text, 0, b':');
-    count(b"\nline ", number);
-    io::write_all(1, b" differs: ");
-    io::write_all(1, &text[0..end]);
+    name(number, &text[0..colon]);
     1
+}
+
+fn total(cases: usize, differ: usize) {
+    count(b"\ncases ", cases);
+    count(b", differ ", differ);
+    io::write_all(1, b"\n");
 }
 
 fn each(text: &[u8], numbers: &mut [i32]) {
@@ -54,9 +65,7 @@ fn each(text: &[u8], numbers: &mut [i32]) {
         differ += differs(cases, &text[at..end], numbers);
         at = end + 1;
     }
-    count(b"\ncases ", cases);
-    count(b", differ ", differ);
-    io::write_all(1, b"\n");
+    total(cases, differ);
 }
 
 // A file that cannot be read has no case.

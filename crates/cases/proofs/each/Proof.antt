@@ -1,4 +1,4 @@
--- `cases::each` is safe and ends: each line has its line feed, so that there are no more cases than bytes.
+-- `cases::each` is safe and ends: there are no more cases than bytes.
 use borrow.Author.Needs.{needs}
 use Prim.Native.Nat.{_-_, _≤_}
 use mathlib.Core.Path.{_≡_}
@@ -7,10 +7,10 @@ use Rattle.cases.proofs.each.Statement.{statement}
 use Rattle.cases.proofs.each.Tie as tie
 
 abbrev Inv-loop : tie.InvT-loop
-Inv-loop text numbers₀ cases₀ differ₀ at₀ t7 t8 t9 numbers cases differ at = (differ ≤ cases) × (cases ≤ at) × (length numbers ≡ length numbers₀)
+Inv-loop text numbers₀ cases₀ differ₀ at₀ numbers cases differ at = (differ ≤ cases) × (cases ≤ at) × (length numbers ≡ length numbers₀)
 
 abbrev μ-loop : tie.MeasureT-loop
-μ-loop text numbers₀ cases₀ differ₀ at₀ t7 t8 t9 numbers cases differ at = length text - at
+μ-loop text numbers₀ cases₀ differ₀ at₀ numbers cases differ at = length text - at
 
 pub each-spec : {M : Type 1} → statement M
-each-spec = tie.close (tie.spec Inv-loop μ-loop (λ c. search needs) (λ c κs. search needs) (λ c. search needs) (λ c. search needs) (λ c. search needs) (λ c. search needs) (λ c κs. search needs) (λ c. search needs) (λ c. search needs) (λ c. search needs) (λ c. search needs) (λ c. search needs) (λ c κs. search needs) (λ c. search needs) (λ c κs. search needs) (λ c. search needs) (λ c κs. search needs) (λ c. search needs) (λ c. search needs))
+each-spec = tie.close (tie.spec Inv-loop μ-loop (λ c. search needs) (λ c κs. search needs) (λ c. search needs) (λ c. search needs) (λ c. search needs) (λ c. search needs) (λ c κs. search needs) (λ c. search needs) (λ c. search needs) (λ c. search needs) (λ c. search needs) (λ c κs. search needs) (λ c. search needs) (λ c. search needs))
