@@ -30,13 +30,7 @@ fn count(text: &[u8], n: usize) {
     io::print_decimal(1, n as u64);
 }
 
-fn name(number: usize, text: &[u8]) {
-    count(b"\nline ", number);
-    io::write_all(1, b" differs: ");
-    io::write_all(1, text);
-}
-
-// 1 for a line that differs, which is named, and 0 for one that does not. A line that is no case differs.
+// 1 for a line that differs, whose number is printed, and 0 for one that does not. A line that is no case differs.
 fn differs(number: usize, text: &[u8], numbers: &mut [i32]) -> usize
     ensures { λ r. ⌜ r ≤ 1 ⌝ }
 {
@@ -45,7 +39,7 @@ fn differs(number: usize, text: &[u8], numbers: &mut [i32]) -> usize
     if case::agrees(&numbers[0..n]) {
         return 0;
     }
-    name(number, &text[0..colon]);
+    count(b"\nline ", number);
     1
 }
 
