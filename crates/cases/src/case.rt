@@ -23,10 +23,10 @@ fn record_in(x: &[i32]) -> Run
     requires { ⌜ length (now x) ≡ 67 ⌝ }
 {
     Run {
-        width: line::size(x[0]),
-        count: line::size(x[1]),
+        width: line::at(x, 0),
+        count: line::at(x, 1),
         held: held_in(&x[3..]),
-        finished: x[2] == 1,
+        finished: line::at(x, 2) == 1,
     }
 }
 
@@ -50,13 +50,13 @@ fn same_record(x: Run, y: Run) -> bool {
         & same_held(&x_held, &y_held)
 }
 
-fn same(x: &[i32], y: &[i32]) -> bool {
-    if x.len() != y.len() {
-        return false;
-    }
+// Whether an output begins with what is told.
+fn begins(output: &[i32; 1024], told: &[i32]) -> bool
+    requires { ⌜ length (now told) ≤ 1024 ⌝ }
+{
     let mut i = 0;
-    while i < x.len() {
-        if x[i] != y[i] {
+    while i < told.len() {
+        if output[i] != told[i] {
             return false;
         }
         i += 1;
@@ -64,10 +64,8 @@ fn same(x: &[i32], y: &[i32]) -> bool {
     true
 }
 
-fn same_answer(answer: Answer, x: &[i32]) -> bool
-    requires { ⌜ 139 ≤ length (now x) ⌝ }
-{
-    (gate::number(answer) == line::size(x[2])) & (gate::place(answer) == line::size(x[3]))
+fn same_answer(answer: Answer, x: &[i32]) -> bool {
+    (gate::number(answer) == line::at(x, 2)) & (gate::place(answer) == line::at(x, 3))
 }
 
 fn as_told(given: Outcome, x: &[i32]) -> bool
@@ -82,19 +80,7 @@ fn outcome(x: &[i32], end: usize, output: &mut [i32]) -> Outcome
     requires { ⌜ (139 ≤ end) × (end ≤ length (now x)) ⌝ }
 {
     let run = record_in(&x[5..72]);
-    call::repeated(
-        line::size(x[0]),
-        line::size(x[1]),
-        run,
-        &x[139..end],
-        output,
-    )
-}
-
-fn tried(x: &[i32], end: usize, output: &mut [i32]) -> bool
-    requires { ⌜ (139 ≤ end) × (end ≤ length (now x)) ⌝ }
-{
-    as_told(outcome(x, end, output), x) & same(output, &x[end..])
+    call::repeated(line::at(x, 0), line::at(x, 1), run, &x[139..end], output)
 }
 
 // Room for an output, with 7 in every place.
@@ -104,19 +90,27 @@ fn marked() -> [i32; 1024]
     [7; 1024]
 }
 
+fn tried(x: &[i32], end: usize, told: &[i32]) -> bool
+    requires { ⌜ (139 ≤ end) × (end ≤ length (now x)) ⌝ }
+    requires { ⌜ length (now told) ≤ 1024 ⌝ }
+{
+    let m = told.len();
+    let mut output = marked();
+    as_told(outcome(x, end, &mut output[0..m]), x) & begins(&output, told)
+}
+
 pub fn agrees(x: &[i32]) -> bool {
     if x.len() < 139 {
         return false;
     }
+    let n = line::at(x, 4);
     let rest = x.len() - 139;
-    let n = line::size(x[4]);
     if rest < n {
         return false;
     }
-    let m = rest - n;
-    if 1024 < m {
+    if 1024 < rest - n {
         return false;
     }
-    let mut output = marked();
-    tried(x, 139 + n, &mut output[0..m])
+    let end = 139 + n;
+    tried(x, end, &x[end..])
 }

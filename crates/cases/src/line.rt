@@ -21,6 +21,14 @@ pub fn size(x: i32) -> usize {
     x as usize
 }
 
+// The number at a place, and a million past the end too.
+pub fn at(x: &[i32], i: usize) -> usize {
+    if i < x.len() {
+        return size(x[i]);
+    }
+    1000000
+}
+
 // Behind the n numbers that are there a value as often as told; nothing if there is no room.
 fn fill(numbers: &mut [i32], n: usize, times: usize, value: i32) -> usize
     requires { ⌜ n ≤ length (now numbers) ⌝ }

@@ -31,11 +31,12 @@ fn count(text: &[u8], n: usize) {
 }
 
 // 1 for a line that differs, whose number is printed, and 0 for one that does not. A line that is no case differs.
-fn differs(number: usize, text: &[u8], numbers: &mut [i32]) -> usize
+fn differs(number: usize, text: &[u8]) -> usize
     ensures { λ r. ⌜ r ≤ 1 ⌝ }
 {
     let colon = line::end(text, 0, b':');
-    let n = line::numbers(text, colon + 1, numbers);
+    let mut numbers = number_room();
+    let n = line::numbers(text, colon + 1, &mut numbers);
     if case::agrees(&numbers[0..n]) {
         return 0;
     }
@@ -49,32 +50,31 @@ fn total(cases: usize, differ: usize) {
     io::write_all(1, b"\n");
 }
 
-fn each(text: &[u8], numbers: &mut [i32]) {
+fn each(text: &[u8]) {
     let mut cases: usize = 0;
     let mut differ: usize = 0;
     let mut at = 0;
     while at < text.len() {
         let end = line::end(text, at, b'\n');
         cases += 1;
-        differ += differs(cases, &text[at..end], numbers);
+        differ += differs(cases, &text[at..end]);
         at = end + 1;
     }
     total(cases, differ);
 }
 
 // A file that cannot be read has no case.
-fn file(name: &[u8], numbers: &mut [i32]) {
+fn file(name: &[u8]) {
     io::write_all(1, name);
     let opened = os::open_read(name);
     let mut buffer = text_room();
     let n = io::read_full(opened, &mut buffer);
     libc::close(opened);
-    each(&buffer[..n], numbers);
+    each(&buffer[..n]);
 }
 
 fn main() {
-    let mut numbers = number_room();
-    file(b"forward", &mut numbers);
-    file(b"back", &mut numbers);
-    file(b"stages", &mut numbers);
+    file(b"forward");
+    file(b"back");
+    file(b"stages");
 }
