@@ -1,0 +1,15 @@
+-- `cases::each` is safe and ends: there are no more cases than bytes.
+use borrow.Author.Needs.{needs}
+use Prim.Native.Nat.{_-_, _≤_}
+use lib.ListN.{length}
+use Rattle.cases.proofs.each.Statement.{statement}
+use Rattle.cases.proofs.each.Tie as tie
+
+abbrev Inv-loop : tie.InvT-loop
+Inv-loop text cases₀ differ₀ at₀ cases differ at = (differ ≤ cases) × (cases ≤ at)
+
+abbrev μ-loop : tie.MeasureT-loop
+μ-loop text cases₀ differ₀ at₀ cases differ at = length text - at
+
+pub each-spec : {M : Type 1} → statement M
+each-spec = tie.close (tie.spec Inv-loop μ-loop (λ c. search needs) (λ c κs. search needs) (λ c. search needs) (λ c. search needs) (λ c. search needs) (λ c. search needs) (λ c κs. search needs) (λ c. search needs) (λ c. search needs) (λ c. search needs) (λ c. search needs) (λ c κs. search needs) (λ c. search needs))
