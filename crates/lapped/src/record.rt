@@ -79,21 +79,11 @@ pub fn unpack(numbers: &[i64]) -> Run
 {
     let mut held = record::nothing_held();
     if !is_record(numbers) {
-        return Run {
-            width: 0,
-            count: 0,
-            held: held,
-            finished: false,
-        };
+        return record::make(0, 0, held, false);
     }
     copy(&numbers[3..], &mut held);
     let head = front(numbers);
-    Run {
-        width: head.width,
-        count: head.count,
-        held: held,
-        finished: head.finished,
-    }
+    record::make(head.width, head.count, held, head.finished)
 }
 
 pub fn pack(run: Run, numbers: &mut [i64])

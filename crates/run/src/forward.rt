@@ -21,25 +21,9 @@ pub fn start(width: usize) -> Outcome
     let held = record::nothing_held();
     let half = widths::half_width(width);
     if half == 0 {
-        return Outcome {
-            run: Run {
-                width: 0,
-                count: 0,
-                held: held,
-                finished: false,
-            },
-            answer: Answer::Width,
-        };
+        return record::hand_back(record::make(0, 0, held, false), Answer::Width);
     }
-    Outcome {
-        run: Run {
-            width: width,
-            count: 0,
-            held: held,
-            finished: false,
-        },
-        answer: Answer::Done,
-    }
+    record::hand_back(record::make(width, 0, held, false), Answer::Done)
 }
 
 fn close(run: Run, half: usize, frame: &mut [i32]) -> Run
@@ -51,12 +35,7 @@ fn close(run: Run, half: usize, frame: &mut [i32]) -> Run
     let zeros = step::zero_block();
     let mut held = run.held;
     in_place::step_in(width, &zeros[..width], &mut held[..half], frame);
-    Run {
-        width: width,
-        count: run.count,
-        held: record::nothing_held(),
-        finished: true,
-    }
+    record::make(width, run.count, record::nothing_held(), true)
 }
 
 // Take a block: its readings in, its frame out.
@@ -65,15 +44,8 @@ pub fn take(run: Run, block: &[i32], frame: &mut [i32]) -> Outcome
 {
     let mut held = run.held;
     let answer = in_place::take(run.width, run.count, run.finished, &mut held, block, frame);
-    Outcome {
-        run: Run {
-            width: run.width,
-            count: in_place::next_count(run.count, answer),
-            held: held,
-            finished: run.finished,
-        },
-        answer: answer,
-    }
+    let count = in_place::next_count(run.count, answer);
+    record::hand_back(record::make(run.width, count, held, run.finished), answer)
 }
 
 // Finish: the frame of the last block's held half.
@@ -82,25 +54,13 @@ pub fn finish(run: Run, frame: &mut [i32]) -> Outcome
 {
     let width = run.width;
     if !gate::sound(65536, run) {
-        return Outcome {
-            run: run,
-            answer: Answer::Record,
-        };
+        return record::hand_back(run, Answer::Record);
     }
     if run.finished {
-        return Outcome {
-            run: run,
-            answer: Answer::Closed,
-        };
+        return record::hand_back(run, Answer::Closed);
     }
     if frame.len() != width {
-        return Outcome {
-            run: run,
-            answer: Answer::OutputLength,
-        };
+        return record::hand_back(run, Answer::OutputLength);
     }
-    Outcome {
-        run: close(run, widths::half_width(width), frame),
-        answer: Answer::Done,
-    }
+    record::hand_back(close(run, widths::half_width(width), frame), Answer::Done)
 }

@@ -33,15 +33,8 @@ pub fn take(run: Run, frame: &[i32], block: &mut [i32]) -> Outcome
 {
     let mut held = run.held;
     let answer = in_place::take(run.width, run.count, run.finished, &mut held, frame, block);
-    Outcome {
-        run: Run {
-            width: run.width,
-            count: run::in_place::next_count(run.count, answer),
-            held: held,
-            finished: run.finished,
-        },
-        answer: answer,
-    }
+    let count = run::in_place::next_count(run.count, answer);
+    record::hand_back(record::make(run.width, count, held, run.finished), answer)
 }
 
 // Question 11 at the finish: the held lower half.
@@ -58,37 +51,20 @@ pub fn finish(run: Run) -> Outcome
     ensures { λ r. ⌜ (told (r .answer), r .run, []) ≡ endedBack run ⌝ }
 {
     if !gate::sound(65537, run) {
-        return Outcome {
-            run: run,
-            answer: Answer::Record,
-        };
+        return record::hand_back(run, Answer::Record);
     }
     if run.finished {
-        return Outcome {
-            run: run,
-            answer: Answer::Closed,
-        };
+        return record::hand_back(run, Answer::Closed);
     }
     if run.count == 0 {
-        return Outcome {
-            run: run,
-            answer: Answer::Empty,
-        };
+        return record::hand_back(run, Answer::Empty);
     }
     let held = first_held(run, widths::half_width(run.width));
     if let Found::At(place) = held {
-        return Outcome {
-            run: run,
-            answer: Answer::Halves(place),
-        };
+        return record::hand_back(run, Answer::Halves(place));
     }
-    Outcome {
-        run: Run {
-            width: run.width,
-            count: run.count,
-            held: record::nothing_held(),
-            finished: true,
-        },
-        answer: Answer::Done,
-    }
+    record::hand_back(
+        record::make(run.width, run.count, record::nothing_held(), true),
+        Answer::Done,
+    )
 }

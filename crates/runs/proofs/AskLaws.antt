@@ -1,5 +1,5 @@
 -- What the gate says to a fresh start, to a block and to a finish, question by question.
-use mathlib.Core.Path.{_≡_, ap}
+use mathlib.Core.Path.{_≡_, sym, ap, subst}
 use mathlib.Core.Bool.{true, false, not}
 use mathlib.Core.List.{List, []}
 use Prim.Native.Nat.{ℕ, _≤_}
@@ -9,12 +9,22 @@ use lib.IntN.{ℤ}
 use lib.ListN.{length}
 use Rattle.tables.specs.Widths.{halfWidth}
 use Rattle.runs.specs.Answers.{told}
+use Rattle.runs.specs.declared.answer.Answer.{Answer}
 use Rattle.runs.specs.declared.answer.Answer.the-variants.{Done, Width, Record, Closed, Full, InputLength, OutputLength}
 use Rattle.runs.specs.declared.record.Run.{Run}
-use Rattle.runs.specs.Record.{blockLimit, zeros, filled, opened, closed}
+use Rattle.runs.specs.declared.record.Outcome.{Outcome}
+use Rattle.runs.specs.Record.{blockLimit, zeros, outcomeOf, filled, opened, closed}
 use Rattle.runs.specs.Gate.{Given, ask, admitted, sound}
 use Rattle.runs.specs.Forward.{started, frameOn, ended}
 use Rattle.runs.proofs.CallLaws.{every-answer}
+
+-- ---- what is handed back gives what the record and the answer give
+module _ {o : Outcome} {run : Run} {answer : Answer} (e : o ≡ outcomeOf run answer) where
+  pub handed : (g : (ℕ × ℕ) × Run) → (told answer, run) ≡ g → (told (o .answer), o .run) ≡ g
+  handed g d = subst (λ (x : Outcome). (told (x .answer), x .run) ≡ g) (sym e) d
+
+  pub handed-with : (out : List ℤ) (g : Given) → (told answer, run, out) ≡ g → (told (o .answer), o .run, out) ≡ g
+  handed-with out g d = subst (λ (x : Outcome). (told (x .answer), x .run, out) ≡ g) (sym e) d
 
 -- ---- a fresh start
 module _ (N : ℕ) (held : List ℤ) (h : held ≡ zeros 64) where

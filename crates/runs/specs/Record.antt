@@ -6,7 +6,9 @@ use lib.Dec.{eqb}
 use lib.IntN.{ℤ, pos}
 use lib.ListN.{length, replicate}
 use Rattle.steps.specs.Steps.{held}
+use Rattle.runs.specs.declared.answer.Answer.{Answer}
 use Rattle.runs.specs.declared.record.Run.{Run}
+use Rattle.runs.specs.declared.record.Outcome.{Outcome}
 
 -- "A run takes at most 65,536 blocks."
 abbrev pub blockLimit : ℕ
@@ -22,6 +24,10 @@ zeros n = replicate n (pos 0)
 -- the record of a width, a count, held values and whether the run is finished
 abbrev pub recordOf : ℕ → ℕ → List ℤ → Bool → Run
 recordOf N count held finished = record { width = N; count = count; held = held; finished = finished }
+
+-- what a call hands back: the record, with its answer
+abbrev pub outcomeOf : Run → Answer → Outcome
+outcomeOf run answer = record { run = run; answer = answer }
 
 -- the count after a call that answers this number: one more where it has worked
 unfoldable pub nextCount : ℕ → ℕ → ℕ

@@ -2,9 +2,10 @@
 ghost use mathlib.Core.Path.{_≡_};
 ghost use lib.IntN.{pos};
 ghost use lib.ListN.{replicate};
+ghost use Rattle.runs.specs.Record.{recordOf, outcomeOf};
 use crate::answer::Answer;
 
-// Held place i is for folded place M+i of the next frame.
+// Forward, held place i is for folded place M+i of the next frame; back, it is folded place i of the last one.
 pub struct Run {
     pub width: usize,
     pub count: usize,
@@ -15,6 +16,27 @@ pub struct Run {
 pub struct Outcome {
     pub run: Run,
     pub answer: Answer,
+}
+
+// Every record is made here, and every outcome below.
+pub fn make(width: usize, count: usize, held: [i64; 64], finished: bool) -> Run
+    ensures { λ r. ⌜ r ≡ recordOf width count held finished ⌝ }
+{
+    Run {
+        width: width,
+        count: count,
+        held: held,
+        finished: finished,
+    }
+}
+
+pub fn hand_back(run: Run, answer: Answer) -> Outcome
+    ensures { λ r. ⌜ r ≡ outcomeOf run answer ⌝ }
+{
+    Outcome {
+        run: run,
+        answer: answer,
+    }
 }
 
 pub fn nothing_held() -> [i64; 64]

@@ -33,7 +33,9 @@ is-record-requires : tie.Need-is-record-requires
 is-record-requires c κs = search needs
 
 returns : tie.Need-returns
-returns c = no-record (numbers (c .before .before .before)) _ (c .before .before .nothing-held .ensures) (sym (c .before .is-record .ensures) ∙ not-true _ (c .if1 .taken))
+returns c =
+    let t = c .before in
+    c .make .ensures ∙ no-record (numbers (t .before .before .before)) _ (t .before .before .nothing-held .ensures) (sym (t .before .is-record .ensures) ∙ not-true _ (t .if1 .taken))
 
 sub-copy : tie.Need-sub-copy
 sub-copy c = omega (arith, long c)
@@ -57,10 +59,11 @@ front-requires c κs = is-record (c .before .before .before .before)
 
 returns-2 : tie.Need-returns-2
 returns-2 c =
-    let p = c .before .before in
+    let f = c .before in
+    let p = f .before .before in
     let e = p .before .before .before in
     let l = numbers (from e) in
-    lent-is l (is-record e) _ _ _ _ (p .copy .ensures) (c .front .ensures .0)
+    c .make2 .ensures ∙ lent-is l (is-record e) _ _ _ _ (p .copy .ensures) (f .front .ensures .0)
 
 pub unpack-spec : {M : Type 1} → statement M
 unpack-spec =
@@ -68,6 +71,7 @@ unpack-spec =
     (tie.spec
     nothing-held-requires
     is-record-requires
+    (λ c κs. search needs)
     returns
     sub-copy
     part-copy-start
@@ -75,4 +79,5 @@ unpack-spec =
     slice-aggregate-copy
     copy-requires
     front-requires
+    (λ c κs. search needs)
     returns-2)

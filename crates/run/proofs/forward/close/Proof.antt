@@ -68,10 +68,10 @@ step-in-requires c κs =
 returns : tie.Need-returns
 unfolding closed
 returns c =
-    let t = c .before .before .before in
+    let t = c .before .before .before .before in
     let z = t .before .before .before .before .before in
     let s = from z in (
-      ap (λ (h : List ℤ). record { width = N s; count = s .args .run .count; held = h; finished = true }) (c .nothing-held .ensures),
+      c .make .ensures ∙ ap (λ (h : List ℤ). record { width = N s; count = s .args .run .count; held = h; finished = true }) (c .before .nothing-held .ensures),
       t .step-in .ensures .1 ∙ ap (frame (N s) (take (s .args .half) (before s))) (block-is z) ∙ frame-on (s .args .run) (s .args .half) (s .pre .0) (zeros (N s)),
     )
 
@@ -85,6 +85,7 @@ close-spec =
     array-borrow-prefix-held
     slice-aggregate-step-in-2
     step-in-requires
+    (λ c κs. search needs)
     (λ c κs. search needs)
     (λ c. search needs)
     returns)

@@ -14,7 +14,7 @@ use Rattle.runs.specs.Record.{blockLimit}
 use Rattle.runs.specs.Gate.{sound}
 use Rattle.runs.specs.Forward.{ended}
 use Rattle.run.proofs.ReadyLaws.{passed}
-use Rattle.runs.proofs.AskLaws.{record-refused, closed-refused, end-output-refused, ended-done}
+use Rattle.runs.proofs.AskLaws.{handed-with, record-refused, closed-refused, end-output-refused, ended-done}
 use Rattle.run.proofs.forward.finish.Statement.{statement}
 use Rattle.run.proofs.forward.finish.Tie as tie
 
@@ -33,14 +33,25 @@ is-sound e = sym (e .before .sound .ensures) ∙ not-false _ (e .if1 .left)
 
 returns : tie.Need-returns
 unfolding ended
-returns c = let s = c .before .before in record-refused blockLimit (run s) (out s) _ (sym (c .before .sound .ensures) ∙ not-true _ (c .if1 .taken))
+returns c =
+    let t = c .before in
+    let s = t .before .before in
+    handed-with (c .hand-back .ensures) (out s) _ (record-refused blockLimit (run s) (out s) _ (sym (t .before .sound .ensures) ∙ not-true _ (t .if1 .taken)))
 
 returns-2 : tie.Need-returns-2
 unfolding ended
-returns-2 c = let e = c .before in let s = e .before .before in closed-refused blockLimit (run s) (out s) _ (is-sound e) (c .if2 .taken)
+returns-2 c =
+    let t = c .before in
+    let e = t .before in
+    let s = e .before .before in
+    handed-with (c .hand-back2 .ensures) (out s) _ (closed-refused blockLimit (run s) (out s) _ (is-sound e) (t .if2 .taken))
 
 returns-3 : tie.Need-returns-3
-returns-3 c = let e = c .before .before in let s = e .before .before in end-output-refused (run s) (out s) (is-sound e) (c .before .if2 .left) (c .if3 .taken)
+returns-3 c =
+    let t = c .before in
+    let e = t .before .before in
+    let s = e .before .before in
+    handed-with (c .hand-back3 .ensures) (out s) _ (end-output-refused (run s) (out s) (is-sound e) (t .before .if2 .left) (t .if3 .taken))
 
 close-requires : tie.Need-close-requires
 close-requires c κs =
@@ -51,21 +62,27 @@ close-requires c κs =
 
 returns-4 : tie.Need-returns-4
 returns-4 c =
-    let l = c .before .before .before .before in
+    let d = c .before .before in
+    let l = d .before .before .before in
     let e = l .before .before in
     let s = e .before .before in
-    ap₂ (λ (r : Run) (f : List ℤ). (told Done, r, f)) (c .before .close .ensures .0) (c .before .close .ensures .1)
-    ∙ ended-done (run s) (out s) (is-sound e) (l .before .if2 .left) (l .if3 .left)
+    handed-with (c .hand-back4 .ensures) _ _
+    (ap₂ (λ (r : Run) (f : List ℤ). (told Done, r, f)) (d .close .ensures .0) (d .close .ensures .1)
+    ∙ ended-done (run s) (out s) (is-sound e) (l .before .if2 .left) (l .if3 .left))
 
 pub finish-spec : {M : Type 1} → statement M
 finish-spec =
     tie.close
     (tie.spec
     (λ c κs. search needs)
+    (λ c κs. search needs)
     returns
+    (λ c κs. search needs)
     returns-2
+    (λ c κs. search needs)
     returns-3
     (λ c κs. search needs)
     close-requires
+    (λ c κs. search needs)
     (λ c. search needs)
     returns-4)

@@ -13,7 +13,7 @@ use Rattle.runs.specs.declared.record.Run.{Run}
 use Rattle.runs.specs.Record.{frameLimit, closed}
 use Rattle.runs.specs.Gate.{sound}
 use Rattle.run.proofs.ReadyLaws.{passed}
-use Rattle.runs.proofs.AskLaws.{record-refused, closed-refused}
+use Rattle.runs.proofs.AskLaws.{handed-with, record-refused, closed-refused}
 use Rattle.runs.specs.Back.{endedBack}
 use Rattle.runs.proofs.EndLaws.{end-empty-refused, end-held-refused, ended-done}
 use Rattle.run_back.proofs.back.finish.Statement.{statement}
@@ -31,24 +31,34 @@ is-sound e = sym (e .before .sound .ensures) ∙ not-false _ (e .if1 .left)
 
 returns : tie.Need-returns
 unfolding endedBack
-returns c = record-refused frameLimit (run (c .before .before)) [] _ (sym (c .before .sound .ensures) ∙ not-true _ (c .if1 .taken))
+returns c =
+    let t = c .before in
+    handed-with (c .hand-back .ensures) [] _ (record-refused frameLimit (run (t .before .before)) [] _ (sym (t .before .sound .ensures) ∙ not-true _ (t .if1 .taken)))
 
 returns-2 : tie.Need-returns-2
 unfolding endedBack
-returns-2 c = let e = c .before in closed-refused frameLimit (run (e .before .before)) [] _ (is-sound e) (c .if2 .taken)
+returns-2 c =
+    let t = c .before in
+    let e = t .before in
+    handed-with (c .hand-back2 .ensures) [] _ (closed-refused frameLimit (run (e .before .before)) [] _ (is-sound e) (t .if2 .taken))
 
 returns-3 : tie.Need-returns-3
-returns-3 c = let e = c .before .before .before in end-empty-refused (run (e .before .before)) (is-sound e) (c .before .before .if2 .left) (c .if3 .taken)
+returns-3 c =
+    let t = c .before in
+    let e = t .before .before .before in
+    handed-with (c .hand-back3 .ensures) [] _ (end-empty-refused (run (e .before .before)) (is-sound e) (t .before .before .if2 .left) (t .if3 .taken))
 
 first-held-requires : tie.Need-first-held-requires
 first-held-requires c κs = let e = c .before .before .before .before in let s = e .before .before in passed frameLimit (omega arith) (run s) _ (is-sound e) (c .half-width .ensures) (held-long s)
 
 returns-4 : tie.Need-returns-4
 returns-4 c =
-    let f = c .before .before .before in
+    let h = c .before .before in
+    let f = h .before .before in
     let l = f .before .before in
     let e = l .before .before .before in
-    end-held-refused (run (e .before .before)) (is-sound e) (l .before .before .if2 .left) (l .if3 .left) _ (sym (f .first-held .ensures) ∙ c .before .held .given .1)
+    handed-with (c .hand-back4 .ensures) [] _
+    (end-held-refused (run (e .before .before)) (is-sound e) (l .before .before .if2 .left) (l .if3 .left) _ (sym (f .first-held .ensures) ∙ h .held .given .1))
 
 enum-told : tie.Need-enum-told
 enum-told c = search needs
@@ -56,26 +66,35 @@ enum-told c = search needs
 returns-5 : tie.Need-returns-5
 unfolding closed
 returns-5 c =
-    let n = c .before in
+    let m = c .before in
+    let n = m .before .before in
     let f = n .before .before in
     let l = f .before .before in
     let e = l .before .before .before in
     let s = e .before .before in
-    ap (λ (h : List ℤ). (told Done, record { width = run s .width; count = run s .count; held = h; finished = true }, [])) (c .nothing-held .ensures)
-    ∙ ended-done (run s) (is-sound e) (l .before .before .if2 .left) (l .if3 .left) (sym (f .first-held .ensures) ∙ n .enum-told .given .1)
+    handed-with (c .hand-back5 .ensures) [] _
+    (ap (λ (r : Run). (told Done, r, [])) (m .make .ensures)
+    ∙ ap (λ (h : List ℤ). (told Done, record { width = run s .width; count = run s .count; held = h; finished = true }, [])) (m .before .nothing-held .ensures)
+    ∙ ended-done (run s) (is-sound e) (l .before .before .if2 .left) (l .if3 .left) (sym (f .first-held .ensures) ∙ n .enum-told .given .1))
 
 pub finish-spec : {M : Type 1} → statement M
 finish-spec =
     tie.close
     (tie.spec
     (λ c κs. search needs)
+    (λ c κs. search needs)
     returns
+    (λ c κs. search needs)
     returns-2
+    (λ c κs. search needs)
     returns-3
     (λ c κs. search needs)
     first-held-requires
     (λ c. search needs)
+    (λ c κs. search needs)
     returns-4
     enum-told
+    (λ c κs. search needs)
+    (λ c κs. search needs)
     (λ c κs. search needs)
     returns-5)
