@@ -1,19 +1,19 @@
 // The calls of the library by kind: 0 start, 1 take a block, 2 finish, 3 take a frame back, 4 finish back, 5 whole run, 6 whole run back, 7 stages
 // alone, 8 stages alone back. Of the record 0 and those from 5 on take the width, and these hand it back as it was.
-use lifting::frame;
+use alone::frame;
 use runs::answer::Answer;
-use run::forward;
+use calls_forward::forward;
 use runs::record::Outcome;
 use runs::record::Run;
-use run_back::back;
+use calls_back::back;
 
 // A place that no number of a line is.
 const NOWHERE: usize = 4294967296;
 
 fn by_width(kind: usize, width: usize, input: &[i32], output: &mut [i32]) -> Answer {
     match kind {
-        5 => run::whole::forward(width, input, output),
-        6 => run_back::whole::back(width, input, output),
+        5 => whole_forward::whole::forward(width, input, output),
+        6 => whole_back::whole::back(width, input, output),
         7 => frame::stages(width, input, output),
         8 => frame::unstages(width, input, output),
         _ => Answer::Unfolded(NOWHERE),

@@ -23,8 +23,8 @@ use Rattle.runs.specs.Forward.{started, ended}
 use Rattle.runs.proofs.AskLaws.{record-refused}
 use Rattle.runs.proofs.CallLaws.{every-answer}
 use Rattle.runs.proofs.RecordLaws.{width-le}
-use Rattle.run.proofs.GateLaws.{no-width}
-use Rattle.run.proofs.PartLaws.{written-end}
+use Rattle.gate.proofs.GateLaws.{no-width}
+use Rattle.gate.proofs.PartLaws.{written-end}
 use Rattle.runs.proofs.Refusals.{Same}
 use Rattle.runs.specs.Back.{endedBack}
 use Rattle.lapped.specs.Record.{runLength, isRecord, packed, unpacked}

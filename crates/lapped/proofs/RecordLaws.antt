@@ -19,7 +19,7 @@ use Rattle.runs.specs.declared.record.Run.{Run}
 use Rattle.runs.specs.Record.{zeros, recordOf, filled, opened}
 use Rattle.runs.specs.Gate.{every}
 use Rattle.runs.proofs.CallLaws.{every-answer}
-use Rattle.run.proofs.PartLaws.{written-end}
+use Rattle.gate.proofs.PartLaws.{written-end}
 use Rattle.lapped.specs.Record.{runLength, isRecord, packed, unpacked}
 use Rattle.lapped.specs.Ready.{Packable}
 

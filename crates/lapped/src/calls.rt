@@ -4,9 +4,9 @@ ghost use mathlib.Core.List.{[]};
 ghost use Rattle.lapped.specs.Calls.{lappedStart, lappedTake, lappedFinish, lappedBackTake, lappedBackFinish};
 use crate::answer;
 use crate::record;
-use run::forward;
-use run::in_place;
-use run_back::back;
+use calls_forward::forward;
+use calls_forward::in_place;
+use calls_back::back;
 use runs::answer::Answer;
 
 // A fresh run of a width, either way.
@@ -78,7 +78,7 @@ pub extern "C" fn lapped_back_take(
     }
     let head = record::front(run);
     let count = head.count;
-    let answer = run_back::in_place::take(
+    let answer = calls_back::in_place::take(
         head.width,
         count,
         head.finished,

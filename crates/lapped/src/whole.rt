@@ -4,7 +4,7 @@ ghost use Rattle.runs.specs.Alone.{stagesAlone, unstagesAlone};
 ghost use Rattle.runs.specs.Whole.{wholeForward, WholeRun};
 ghost use Rattle.runs.specs.WholeBack.{wholeBack};
 use crate::answer;
-use lifting::frame;
+use alone::frame;
 
 // The whole run forward: every block's frame, and the finish's.
 #[no_mangle]
@@ -17,7 +17,7 @@ pub extern "C" fn lapped_forward(
     ensures { λ r. ⌜ ((r, now (place .exit)), now (frames .exit)) ≡ wholeForward width (now (readings .entry)) (now (frames .entry)) ⌝ }
     ensures { λ r. ⌜ (r ≡ 0 → WholeRun width (now (readings .entry)) (now (frames .exit))) ⌝ }
 {
-    let answer = run::whole::forward(width, readings, frames);
+    let answer = whole_forward::whole::forward(width, readings, frames);
     answer::tell(answer, place)
 }
 
@@ -31,7 +31,7 @@ pub extern "C" fn lapped_back(
 ) -> u32
     ensures { λ r. ⌜ ((r, now (place .exit)), now (readings .exit)) ≡ wholeBack width (now (frames .entry)) (now (readings .entry)) ⌝ }
 {
-    let answer = run_back::whole::back(width, frames, readings);
+    let answer = whole_back::whole::back(width, frames, readings);
     answer::tell(answer, place)
 }
 

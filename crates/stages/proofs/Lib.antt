@@ -8,3 +8,4 @@ pub mod TableSizes
 pub mod FrameSizes
 pub mod StageLaws
 pub mod PartLaws
+pub mod Parts

@@ -14,7 +14,7 @@ use Rattle.runs.specs.Gate as Gate
 use Rattle.runs.specs.Gate.{ask, sound}
 use Rattle.runs.specs.Forward.{ended}
 use Rattle.runs.proofs.CallLaws.{every-answer}
-use Rattle.run.proofs.ReadyLaws.{zeros-part}
+use Rattle.gate.proofs.ReadyLaws.{zeros-part}
 use Rattle.runs.specs.Back.{endedBack}
 use Rattle.lines.specs.Lines.{lineFeed, refusal, same, endLine, numbersIn}
 use Rattle.text.specs.declared.state.Way.{Way}

@@ -1,7 +1,7 @@
 // How far a text run has come, and what is printed.
 ghost use mathlib.Core.Path.{_≡_};
 ghost use Rattle.text.specs.State.{begun, goesOn, lineBetween, lineNumber};
-use run::forward;
+use calls_forward::forward;
 use runs::record::Run;
 
 // The way a run goes: readings to frames, or frames to readings.

@@ -9,7 +9,7 @@ use crate::state::Printed;
 use crate::state::State;
 use lines::print;
 use lines::read::Field;
-use run::forward;
+use calls_forward::forward;
 
 fn start(state: State, width: usize) -> Printed
     ensures { λ r. ⌜ given r ≡ widthStarted state width ⌝ }

@@ -1,0 +1,109 @@
+// A frame from its folded values by the five stages, and its way back. t has what the width takes; top and bottom are room for the halves, y and z
+// for a product each.
+ghost use mathlib.Core.Bool.{cond};
+ghost use mathlib.Core.Path.{_≡_};
+ghost use Prim.Native.Nat.{_+_, _*_, _<_};
+ghost use lib.ListN.{length};
+ghost use Rattle.integers.specs.Places.{places, at, Within};
+ghost use Rattle.tables.specs.Widths.{halfWidth};
+ghost use Rattle.constants.specs.Filled.{Filled};
+ghost use Rattle.steps.specs.Steps.{stages, unstages};
+ghost use Rattle.stages.specs.Expanded.{Halves, Room};
+use constants::fill;
+use frames::transform;
+use stages::room;
+use stages::vectors;
+
+// The numbers at the even places, or else at the odd ones: first is 0 or 1.
+fn every_second(x: &[i32], first: usize, out: &mut [i64])
+    requires { ⌜ (first < 2) × (length (now x) ≡ length (now out) + length (now out)) ⌝ }
+    ensures { λ _. ⌜ now (out .exit) ≡ places (length (now (out .entry))) (λ i. at (now (x .entry)) (2 * i + first)) ⌝ }
+{
+    let mut i = 0;
+    while i < out.len() {
+        out[i] = x[2 * i + first] as i64;
+        i += 1;
+    }
+}
+
+// Folded values to the frame.
+pub fn stages(
+    width: usize,
+    t: &[i64],
+    given: &[i32],
+    out: &mut [i64],
+    top: &mut [i64],
+    bottom: &mut [i64],
+    y: &mut [i64],
+    z: &mut [i64],
+)
+    requires { ⌜ 0 < halfWidth width ⌝ }
+    requires { ⌜ Filled width (now t) ⌝ }
+    requires { ⌜ Halves width (now top) (now bottom) ⌝ }
+    requires { ⌜ Room width (now y) (now z) ⌝ }
+    requires { ⌜ (length (now given) ≡ width) × (length (now out) ≡ width) ⌝ }
+    requires { ⌜ Within 50000 (now given) ⌝ }
+    ensures { λ _. ⌜ now (out .exit) ≡ Rattle.steps.specs.Steps.stages width (now (given .entry)) ⌝ }
+{
+    let half = width / 2;
+    every_second(given, 0, top);
+    every_second(given, 1, bottom);
+    stages::stages::forward(width, t, top, bottom, y, z);
+    vectors::copy(top, &mut out[..half]);
+    vectors::copy(bottom, &mut out[half..]);
+}
+
+// One or the other.
+fn either_way(
+    undo: bool,
+    width: usize,
+    t: &[i64],
+    given: &[i32],
+    out: &mut [i64],
+    top: &mut [i64],
+    bottom: &mut [i64],
+    y: &mut [i64],
+    z: &mut [i64],
+)
+    requires { ⌜ 0 < halfWidth width ⌝ }
+    requires { ⌜ Filled width (now t) ⌝ }
+    requires { ⌜ Halves width (now top) (now bottom) ⌝ }
+    requires { ⌜ Room width (now y) (now z) ⌝ }
+    requires { ⌜ (length (now given) ≡ width) × (length (now out) ≡ width) ⌝ }
+    requires { ⌜ Within (cond undo 1048576 50000) (now given) ⌝ }
+    ensures { λ _. ⌜ now (out .exit) ≡ cond undo (Rattle.steps.specs.Steps.unstages width (now (given .entry))) (Rattle.steps.specs.Steps.stages width (now (given .entry))) ⌝ }
+{
+    if undo {
+        transform::unstages(width, t, given, out, top, bottom, y, z);
+        return;
+    }
+    stages(width, t, given, out, top, bottom, y, z);
+}
+
+// The stages alone, in room of their own.
+pub fn alone(undo: bool, width: usize, given: &[i32], out: &mut [i64])
+    requires { ⌜ 0 < halfWidth width ⌝ }
+    requires { ⌜ (length (now given) ≡ width) × (length (now out) ≡ width) ⌝ }
+    requires { ⌜ Within (cond undo 1048576 50000) (now given) ⌝ }
+    ensures { λ _. ⌜ now (out .exit) ≡ cond undo (Rattle.steps.specs.Steps.unstages width (now (given .entry))) (Rattle.steps.specs.Steps.stages width (now (given .entry))) ⌝ }
+{
+    let half = width / 2;
+    let long = fill::tables_long(width);
+    let mut t = room::of_1906();
+    let mut top = room::of_64();
+    let mut bottom = room::of_64();
+    let mut y = room::of_648();
+    let mut z = room::of_648();
+    fill::fill(width, &mut t[..long], &mut y);
+    either_way(
+        undo,
+        width,
+        &t[..long],
+        given,
+        out,
+        &mut top[..half],
+        &mut bottom[..half],
+        &mut y,
+        &mut z,
+    );
+}

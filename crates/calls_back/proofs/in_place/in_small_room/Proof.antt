@@ -1,0 +1,144 @@
+-- `calls_back::in_place::in_small_room` meets its contract.
+use borrow.Author.Needs.{needs}
+use native.Mathlib.Omega.{arith}
+use mathlib.Core.Path.{sym, _∙_}
+use mathlib.Core.List.{List}
+use Prim.Native.Nat.{ℕ, _/_, _≤_}
+use lib.IntN.{ℤ}
+use lib.ListN.{length}
+use Rattle.stages.proofs.Parts.{part-long}
+use Rattle.frames.proofs.RoomLaws.{tables-small, lists-small, product-small, filled-le, filled-long, filled-lent, halves-lent}
+use Rattle.calls_back.proofs.in_place.in_small_room.Statement.{statement}
+use Rattle.calls_back.proofs.in_place.in_small_room.Tie as tie
+
+-- the arrays made
+module _ (c : tie.After-of-722) where
+  abbrev from : tie.Start
+  from = c .before .before .before .before .before .before .before .before
+
+  abbrev N : ℕ
+  N = from .args .width
+
+  abbrev long : ℕ
+  long = c .before .before .before .before .before .before .before .tables-long .result
+
+  abbrev t : List ℤ
+  t = c .before .before .before .before .before .before .of-274 .result
+
+  abbrev folded : List ℤ
+  folded = c .before .before .before .before .before .of-36 .result
+
+  abbrev wide : List ℤ
+  wide = c .before .before .before .before .of-362 .result
+
+  abbrev top : List ℤ
+  top = c .before .before .before .of-16 .result
+
+  abbrev bottom : List ℤ
+  bottom = c .before .before .of-162 .result
+
+  tables-in : long ≤ length t
+  tables-in = omega (arith, c .before .before .before .before .before .before .before .tables-long .ensures, tables-small N (from .pre .0), c .before .before .before .before .before .before .of-274 .ensures)
+
+  folded-in : N ≤ length folded
+  folded-in = omega (arith, from .pre .0, c .before .before .before .before .before .of-36 .ensures)
+
+  wide-in : N ≤ length wide
+  wide-in = omega (arith, from .pre .0, c .before .before .before .before .of-362 .ensures)
+
+  top-in : N / 2 ≤ length top
+  top-in = omega (arith, from .pre .0, c .before .before .before .of-16 .ensures)
+
+  bottom-in : N / 2 ≤ length bottom
+  bottom-in = omega (arith, from .pre .0, c .before .before .of-162 .ensures)
+
+array-borrow-prefix-t : tie.Need-array-borrow-prefix-t
+array-borrow-prefix-t c = tables-in c
+
+slice-aggregate-fill : tie.Need-slice-aggregate-fill
+slice-aggregate-fill c = part-long _ (t (c .before)) (tables-in (c .before))
+
+fill-requires : tie.Need-fill-requires
+fill-requires c κs =
+    let m = c .before .before in
+    let s = from m in
+    (s .pre .1 .0, sym (part-long _ (t m) (tables-in m)) ∙ m .before .before .before .before .before .before .before .tables-long .ensures, omega (arith, lists-small (N m) (s .pre .0), m .before .of-72 .ensures))
+
+array-share-prefix-t : tie.Need-array-share-prefix-t
+array-share-prefix-t c = let f = c .before .before in let m = f .before .before .before in filled-le (long m) (m .before .before .before .before .before .before .before .tables-long .ensures) _ _ (f .fill .ensures)
+
+slice-aggregate-undo : tie.Need-slice-aggregate-undo
+slice-aggregate-undo c = let f = c .before .before .before in let m = f .before .before .before in filled-long (long m) (m .before .before .before .before .before .before .before .tables-long .ensures) _ _ (f .fill .ensures)
+
+slice-aggregate-undo-2 : tie.Need-slice-aggregate-undo-2
+slice-aggregate-undo-2 c = let m = c .before .before .before .before .before .before .before .before .before in part-long _ (folded m) (folded-in m)
+
+slice-aggregate-undo-3 : tie.Need-slice-aggregate-undo-3
+slice-aggregate-undo-3 c = let m = c .before .before .before .before .before .before .before .before .before .before in part-long _ (wide m) (wide-in m)
+
+slice-aggregate-undo-4 : tie.Need-slice-aggregate-undo-4
+slice-aggregate-undo-4 c = let m = c .before .before .before .before .before .before .before .before .before .before .before in part-long _ (top m) (top-in m)
+
+slice-aggregate-undo-5 : tie.Need-slice-aggregate-undo-5
+slice-aggregate-undo-5 c = let m = c .before .before .before .before .before .before .before .before .before .before .before .before in part-long _ (bottom m) (bottom-in m)
+
+undo-requires : tie.Need-undo-requires
+undo-requires c κs =
+    let f = c .before .before .before .before .before .before .before .before .before .before .before in
+    let m = f .before .before .before in
+    let s = from m in
+    let lent = s .pre .1 .1 .0 in (
+      s .pre .1 .0,
+      (
+        filled-lent (long m) (m .before .before .before .before .before .before .before .tables-long .ensures) _ _ (f .fill .ensures),
+        (
+          (lent .0, lent .1, sym (part-long _ (folded m) (folded-in m)), sym (part-long _ (wide m) (wide-in m)), lent .2),
+          (
+            halves-lent (N m) (s .pre .1 .0) (top m) (bottom m) (top-in m) (bottom-in m),
+            (
+              record {
+                y-long = omega (arith, product-small (N m) (s .pre .0), m .before .of-72 .ensures, c .before .before .before .before .before .before .before .before .before .y2 .given);
+                z-long = omega (arith, product-small (N m) (s .pre .0), m .of-722 .ensures);
+              },
+              s .pre .1 .1 .1,
+            ),
+          ),
+        ),
+      ),
+    )
+
+returns : tie.Need-returns
+returns c = search needs
+
+pub in-small-room-spec : {M : Type 1} → statement M
+in-small-room-spec =
+    tie.close
+    (tie.spec
+    (λ c κs. search needs)
+    (λ c κs. search needs)
+    (λ c κs. search needs)
+    (λ c κs. search needs)
+    (λ c κs. search needs)
+    (λ c κs. search needs)
+    (λ c κs. search needs)
+    (λ c κs. search needs)
+    array-borrow-prefix-t
+    slice-aggregate-fill
+    (λ c. search needs)
+    fill-requires
+    array-share-prefix-t
+    slice-aggregate-undo
+    (λ c. search needs)
+    slice-aggregate-undo-2
+    (λ c. search needs)
+    slice-aggregate-undo-3
+    (λ c. search needs)
+    slice-aggregate-undo-4
+    (λ c. search needs)
+    slice-aggregate-undo-5
+    (λ c. search needs)
+    (λ c. search needs)
+    undo-requires
+    (λ c. search needs)
+    (λ c. search needs)
+    (λ c. search needs))

@@ -1,0 +1,70 @@
+// A run back, call by call, for any caller: the record goes in by value and comes back with the answer.
+ghost use mathlib.Core.Path.{_≡_};
+ghost use mathlib.Core.List.{[]};
+ghost use Rattle.runs.specs.Answers.{told};
+ghost use Rattle.gate.specs.Own.Ready.{Ready};
+ghost use Rattle.runs.specs.Back.{takenBack, firstHeld, endedBack};
+ghost use Rattle.frames.specs.Own.Faults.{toldFault};
+use crate::in_place;
+use frames::undo::Fault;
+use gate::questions;
+use runs::answer::Answer;
+use runs::answer::Found;
+use runs::record;
+use runs::record::Outcome;
+use runs::record::Run;
+use tables::widths;
+
+pub fn answered(fault: Fault) -> Answer
+    ensures { λ r. ⌜ told r ≡ toldFault fault ⌝ }
+{
+    match fault {
+        Fault::Range(place) => Answer::Range(place),
+        Fault::Folded(place) => Answer::Folded(place),
+        Fault::Halves(place) => Answer::Halves(place),
+        Fault::Unfolded(place) => Answer::Unfolded(place),
+        Fault::Clear => Answer::Done,
+    }
+}
+
+// Take a frame: its coefficients in, the block before it out. The first frame writes nothing.
+pub fn take(run: Run, frame: &[i32], block: &mut [i32]) -> Outcome
+    ensures { λ r. ⌜ (told (r .answer), r .run, now (block .exit)) ≡ takenBack run (now (frame .entry)) (now (block .entry)) ⌝ }
+{
+    let mut held = run.held;
+    let answer = in_place::take(run.width, run.count, run.finished, &mut held, frame, block);
+    let count = questions::next_count(run.count, answer);
+    record::hand_back(record::make(run.width, count, held, run.finished), answer)
+}
+
+// Question 11 at the finish: the held lower half.
+fn first_held(run: Run, half: usize) -> Found
+    requires { ⌜ Ready run half ⌝ }
+    ensures { λ r. ⌜ r ≡ firstHeld run ⌝ }
+{
+    let held = run.held;
+    questions::first_beyond(&held[..half], 0)
+}
+
+// Finish: the run is closed.
+pub fn finish(run: Run) -> Outcome
+    ensures { λ r. ⌜ (told (r .answer), r .run, []) ≡ endedBack run ⌝ }
+{
+    if !questions::sound(65537, run) {
+        return record::hand_back(run, Answer::Record);
+    }
+    if run.finished {
+        return record::hand_back(run, Answer::Closed);
+    }
+    if run.count == 0 {
+        return record::hand_back(run, Answer::Empty);
+    }
+    let held = first_held(run, widths::half_width(run.width));
+    if let Found::At(place) = held {
+        return record::hand_back(run, Answer::Halves(place));
+    }
+    record::hand_back(
+        record::make(run.width, run.count, record::nothing_held(), true),
+        Answer::Done,
+    )
+}

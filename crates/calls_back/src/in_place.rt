@@ -1,0 +1,141 @@
+// Taking a frame back where the held values of the record are lent, and stay where they lie.
+ghost use mathlib.Core.Path.{_≡_};
+ghost use Prim.Native.Nat.{_≤_, _<_};
+ghost use lib.ListN.{length};
+ghost use Rattle.integers.specs.Places.{Within};
+ghost use Rattle.tables.specs.Widths.{halfWidth};
+ghost use Rattle.steps.specs.Limits.{foldedLimit};
+ghost use Rattle.runs.specs.Answers.{told};
+ghost use Rattle.runs.specs.Record.{recordOf, nextCount, opened};
+ghost use Rattle.runs.specs.Back.{undoneIn, takenBack};
+ghost use Rattle.frames.specs.Own.Faults.{toldFault, countAfter};
+use crate::back;
+use frames::undo;
+use frames::undo::Fault;
+use constants::fill;
+use gate::questions;
+use runs::answer::Answer;
+use stages::room;
+
+// Room is cleared when it is made, so there are two sizes: at width 8, room for 128 costs more than the step.
+fn in_small_room(
+    width: usize,
+    count: usize,
+    frame: &[i32],
+    held: &mut [i64],
+    block: &mut [i32],
+) -> Fault
+    requires { ⌜ width ≤ 32 ⌝ }
+    requires { ⌜ 0 < halfWidth width ⌝ }
+    requires { ⌜ (length (now frame) ≡ width) × (length (now held) ≡ halfWidth width) × (length (now block) ≡ width) ⌝ }
+    requires { ⌜ Within foldedLimit (now held) ⌝ }
+    ensures { λ r. ⌜ (toldFault r, opened width (countAfter count r) (now (held .exit)), now (block .exit)) ≡ undoneIn (opened width count (now (held .entry))) (now (frame .entry)) (now (block .entry)) ⌝ }
+{
+    let half = width / 2;
+    let long = fill::tables_long(width);
+    let mut t = room::of_274();
+    let mut folded = room::of_36();
+    let mut wide = room::of_36();
+    let mut top = room::of_16();
+    let mut bottom = room::of_16();
+    let mut y = room::of_72();
+    let mut z = room::of_72();
+    fill::fill(width, &mut t[..long], &mut y);
+    undo::undo(
+        width,
+        count,
+        &t[..long],
+        frame,
+        held,
+        block,
+        &mut folded[..width],
+        &mut wide[..width],
+        &mut top[..half],
+        &mut bottom[..half],
+        &mut y,
+        &mut z,
+    )
+}
+
+fn in_large_room(
+    width: usize,
+    count: usize,
+    frame: &[i32],
+    held: &mut [i64],
+    block: &mut [i32],
+) -> Fault
+    requires { ⌜ width ≤ 128 ⌝ }
+    requires { ⌜ 0 < halfWidth width ⌝ }
+    requires { ⌜ (length (now frame) ≡ width) × (length (now held) ≡ halfWidth width) × (length (now block) ≡ width) ⌝ }
+    requires { ⌜ Within foldedLimit (now held) ⌝ }
+    ensures { λ r. ⌜ (toldFault r, opened width (countAfter count r) (now (held .exit)), now (block .exit)) ≡ undoneIn (opened width count (now (held .entry))) (now (frame .entry)) (now (block .entry)) ⌝ }
+{
+    let half = width / 2;
+    let long = fill::tables_long(width);
+    let mut t = room::of_1906();
+    let mut folded = room::of_128();
+    let mut wide = room::of_128();
+    let mut top = room::of_64();
+    let mut bottom = room::of_64();
+    let mut y = room::of_648();
+    let mut z = room::of_648();
+    fill::fill(width, &mut t[..long], &mut y);
+    undo::undo(
+        width,
+        count,
+        &t[..long],
+        frame,
+        held,
+        block,
+        &mut folded[..width],
+        &mut wide[..width],
+        &mut top[..half],
+        &mut bottom[..half],
+        &mut y,
+        &mut z,
+    )
+}
+
+fn undo_in(width: usize, count: usize, frame: &[i32], held: &mut [i64], block: &mut [i32]) -> Fault
+    requires { ⌜ 0 < halfWidth width ⌝ }
+    requires { ⌜ (length (now frame) ≡ width) × (length (now held) ≡ halfWidth width) × (length (now block) ≡ width) ⌝ }
+    requires { ⌜ Within foldedLimit (now held) ⌝ }
+    ensures { λ r. ⌜ (toldFault r, opened width (countAfter count r) (now (held .exit)), now (block .exit)) ≡ undoneIn (opened width count (now (held .entry))) (now (frame .entry)) (now (block .entry)) ⌝ }
+{
+    if width <= 32 {
+        return in_small_room(width, count, frame, held, block);
+    }
+    in_large_room(width, count, frame, held, block)
+}
+
+// The record is handed back in the held values and, where the call has worked, in one more of the count.
+pub fn take(
+    width: usize,
+    count: usize,
+    finished: bool,
+    held: &mut [i64],
+    frame: &[i32],
+    block: &mut [i32],
+) -> Answer
+    requires { ⌜ length (now held) ≡ 64 ⌝ }
+    ensures { λ r. ⌜ (told r, recordOf width (nextCount (told r .0) count) (now (held .exit)) finished, now (block .exit)) ≡ takenBack (recordOf width count (now (held .entry)) finished) (now (frame .entry)) (now (block .entry)) ⌝ }
+{
+    if !questions::sound_held(65537, width, count, finished, held) {
+        return Answer::Record;
+    }
+    if finished {
+        return Answer::Closed;
+    }
+    if count == 65537 {
+        return Answer::Full;
+    }
+    if frame.len() != width {
+        return Answer::InputLength;
+    }
+    if block.len() != width {
+        return Answer::OutputLength;
+    }
+    let half = width / 2;
+    let fault = undo_in(width, count, frame, &mut held[..half], block);
+    back::answered(fault)
+}

@@ -1,0 +1,66 @@
+// A run forward, call by call, for any caller: the record goes in by value and comes back with the answer.
+ghost use mathlib.Core.Path.{_≡_};
+ghost use lib.ListN.{length};
+ghost use Rattle.runs.specs.Answers.{told};
+ghost use Rattle.runs.specs.Record.{zeros, closed};
+ghost use Rattle.gate.specs.Own.Ready.{Ready};
+ghost use Rattle.runs.specs.Forward.{started, frameOn, taken, ended};
+use gate::questions;
+use crate::in_place;
+use frames::step;
+use runs::answer::Answer;
+use runs::record;
+use runs::record::Outcome;
+use runs::record::Run;
+use tables::widths;
+
+// A fresh run of a width.
+pub fn start(width: usize) -> Outcome
+    ensures { λ r. ⌜ (told (r .answer), r .run) ≡ started width ⌝ }
+{
+    let held = record::nothing_held();
+    let half = widths::half_width(width);
+    if half == 0 {
+        return record::hand_back(record::make(0, 0, held, false), Answer::Width);
+    }
+    record::hand_back(record::make(width, 0, held, false), Answer::Done)
+}
+
+fn close(run: Run, half: usize, frame: &mut [i32]) -> Run
+    requires { ⌜ Ready run half ⌝ }
+    requires { ⌜ length (now frame) ≡ run .width ⌝ }
+    ensures { λ r. ⌜ (r ≡ closed run) × (now (frame .exit) ≡ frameOn run (zeros (run .width))) ⌝ }
+{
+    let width = run.width;
+    let zeros = step::zero_block();
+    let mut held = run.held;
+    in_place::step_in(width, &zeros[..width], &mut held[..half], frame);
+    record::make(width, run.count, record::nothing_held(), true)
+}
+
+// Take a block: its readings in, its frame out.
+pub fn take(run: Run, block: &[i32], frame: &mut [i32]) -> Outcome
+    ensures { λ r. ⌜ (told (r .answer), r .run, now (frame .exit)) ≡ taken run (now (block .entry)) (now (frame .entry)) ⌝ }
+{
+    let mut held = run.held;
+    let answer = in_place::take(run.width, run.count, run.finished, &mut held, block, frame);
+    let count = questions::next_count(run.count, answer);
+    record::hand_back(record::make(run.width, count, held, run.finished), answer)
+}
+
+// Finish: the frame of the last block's held half.
+pub fn finish(run: Run, frame: &mut [i32]) -> Outcome
+    ensures { λ r. ⌜ (told (r .answer), r .run, now (frame .exit)) ≡ ended run (now (frame .entry)) ⌝ }
+{
+    let width = run.width;
+    if !questions::sound(65536, run) {
+        return record::hand_back(run, Answer::Record);
+    }
+    if run.finished {
+        return record::hand_back(run, Answer::Closed);
+    }
+    if frame.len() != width {
+        return record::hand_back(run, Answer::OutputLength);
+    }
+    record::hand_back(close(run, widths::half_width(width), frame), Answer::Done)
+}

@@ -1,0 +1,2 @@
+// The fold of a block, and the fold undone.
+pub mod folding;

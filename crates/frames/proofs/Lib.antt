@@ -1,0 +1,5 @@
+pub mod FrameLaws
+pub mod RoomLaws
+pub mod RoomSizes
+pub mod StepLaws
+pub mod UndoLaws

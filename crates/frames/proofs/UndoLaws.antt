@@ -1,0 +1,119 @@
+-- What questions 9 to 12 decide of a frame, test by test, where a run holds the lower half of the frame before.
+use mathlib.Core.Path.{_≡_, refl, sym, ap, ap₂, _∙_}
+use mathlib.Core.Bool.{Bool, true, false, cond}
+use mathlib.Core.List.{List, [], _∷_}
+use Prim.Native.Nat.{ℕ, suc, _+_}
+use native.Mathlib.Nat.{add-suc, add-zero}
+use borrow.Author.Tests.{eq-eqb, ne-eqb}
+use lib.IntN.{ℤ, pos}
+use lib.ListN.{length, take, drop}
+use Rattle.tables.specs.Widths.{halfWidth}
+use Rattle.steps.specs.Limits.{foldedLimit, coefficientLimit}
+use Rattle.steps.specs.Steps.{unstages, unfolded}
+use Rattle.runs.specs.Answers.{first, firstBeyond}
+use Rattle.runs.specs.declared.answer.Found.{Found}
+use Rattle.runs.specs.declared.answer.Found.the-variants.{At, Nothing}
+use Rattle.runs.specs.declared.record.Run.{Run}
+use Rattle.runs.specs.Record.{nextCount, opened}
+use Rattle.runs.specs.Gate.{askEach, firstOut}
+use Rattle.runs.proofs.RecordLaws.{take-filled}
+use Rattle.runs.proofs.BackLaws.{length-block}
+use Rattle.frames.specs.declared.undo.Fault.{Fault}
+use Rattle.frames.specs.declared.undo.Fault.the-variants.{Range, Folded, Halves, Unfolded, Clear}
+use Rattle.frames.specs.Own.Faults.{toldFault, countAfter}
+use Rattle.runs.specs.Back.{framed, blockOn, firstUpper, firstFrame, laterFrame, unfoldedIn, undoneIn}
+
+-- ---- a search whose places count from elsewhere
+from : ℕ → Found → Found
+from m (At place) = At (m + place)
+from m Nothing = Nothing
+
+first-from : (test : ℤ → Bool) (xs : List ℤ) (m k : ℕ) → first test xs (m + k) ≡ from m (first test xs k)
+unfolding first from
+first-from test [] m k = refl
+first-from test (x ∷ xs) m k = by (test x) (first-from test xs m (suc k))
+  where
+    by : (b : Bool) → first test xs (m + suc k) ≡ from m (first test xs (suc k)) → cond b (At (m + k)) (first test xs (suc (m + k))) ≡ from m (cond b (At k) (first test xs (suc k)))
+    by true h = refl
+    by false h = rw (← add-suc m k) h
+
+-- ---- 11 and 12, where a run holds `low`
+module _ (N count : ℕ) (low folded out : List ℤ) where
+  abbrev run : Run
+  run = opened N count low
+
+  abbrev upper : List ℤ
+  upper = drop (halfWidth N) folded
+
+  upper-at : (f : Found) → firstBeyond (pos 0) upper 0 ≡ f → firstUpper run folded ≡ from (halfWidth N) f
+  unfolding firstUpper opened
+  upper-at f e = ap (first _ upper) (sym (add-zero (halfWidth N))) ∙ first-from _ upper (halfWidth N) 0 ∙ ap (from (halfWidth N)) e
+
+  framed-is : (kept : List ℤ) → kept ≡ take (halfWidth N) folded → opened N (suc count) kept ≡ framed run folded
+  unfolding framed opened
+  framed-is kept e = ap (opened N (suc count)) e
+
+  module _ (z : count ≡ 0) where
+    is-first : firstFrame run folded out ≡ unfoldedIn run folded out
+    unfolding unfoldedIn opened
+    is-first = rw (eq-eqb _ _ z)
+
+    pub upper-refused : (half place : ℕ) → half ≡ halfWidth N → firstBeyond (pos 0) upper 0 ≡ At place
+        → (toldFault (Halves (half + place)), opened N (countAfter count (Halves (half + place))) low, out) ≡ unfoldedIn run folded out
+    unfolding toldFault countAfter firstFrame askEach from
+    upper-refused half place h e = sym (ap (λ f. askEach 11 f run out ((0, 0), framed run folded, out)) (upper-at (At place) e) ∙ ap (λ n. ((11, n + place), run, out)) (sym h)) ∙ is-first
+
+    pub first-done : (kept : List ℤ) → kept ≡ take (halfWidth N) folded → firstBeyond (pos 0) upper 0 ≡ Nothing → (toldFault Clear, opened N (countAfter count Clear) kept, out) ≡ unfoldedIn run folded out
+    unfolding toldFault countAfter firstFrame askEach from
+    first-done kept k e = ap (λ (r : Run). ((0, 0), r, out)) (framed-is kept k) ∙ sym (ap (λ f. askEach 11 f run out ((0, 0), framed run folded, out)) (upper-at Nothing e)) ∙ is-first
+
+  -- the block between what is held and the frame's upper half
+  pub block-is : (half : ℕ) → half ≡ halfWidth N → length low ≡ halfWidth N → unfolded N low (drop half folded) ≡ blockOn run folded
+  unfolding blockOn opened
+  block-is half h l = ap (λ n. unfolded N low (drop n folded)) h ∙ ap (λ xs. unfolded N xs (drop (halfWidth N) folded)) (sym (take-filled (halfWidth N) low l))
+
+  pub block-long : length (blockOn run folded) ≡ N
+  unfolding opened
+  block-long = length-block run folded
+
+  module _ (n : count ≡ 0 → ⊥) where
+    is-later : laterFrame run folded out ≡ unfoldedIn run folded out
+    unfolding unfoldedIn opened
+    is-later = rw (ne-eqb _ _ n)
+
+    pub later-refused : (place : ℕ) → firstOut (blockOn run folded) 0 ≡ At place → (toldFault (Unfolded place), opened N (countAfter count (Unfolded place)) low, out) ≡ unfoldedIn run folded out
+    unfolding toldFault countAfter laterFrame askEach
+    later-refused place e = sym (ap (λ f. askEach 12 f run out ((0, 0), framed run folded, blockOn run folded)) e) ∙ is-later
+
+    pub later-done : (kept block : List ℤ) → kept ≡ take (halfWidth N) folded → block ≡ blockOn run folded → firstOut (blockOn run folded) 0 ≡ Nothing
+        → (toldFault Clear, opened N (countAfter count Clear) kept, block) ≡ unfoldedIn run folded out
+    unfolding toldFault countAfter laterFrame askEach
+    later-done kept block k b e =
+        ap₂ (λ (r : Run) (w : List ℤ). ((0, 0), r, w)) (framed-is kept k) b ∙ sym (ap (λ f. askEach 12 f run out ((0, 0), framed run folded, blockOn run folded)) e) ∙ is-later
+
+-- ---- 9 and 10
+module _ (N count : ℕ) (low frame out : List ℤ) where
+  abbrev asked : Run
+  asked = opened N count low
+
+  pub range-refused : (place : ℕ) → firstBeyond (pos coefficientLimit) frame 0 ≡ At place → (toldFault (Range place), opened N (countAfter count (Range place)) low, out) ≡ undoneIn asked frame out
+  unfolding toldFault countAfter undoneIn askEach
+  range-refused place e = rw e
+
+  module _ (e : firstBeyond (pos coefficientLimit) frame 0 ≡ Nothing) where
+    pub folded-refused : (place : ℕ) → firstBeyond (pos foldedLimit) (unstages N frame) 0 ≡ At place → (toldFault (Folded place), opened N (countAfter count (Folded place)) low, out) ≡ undoneIn asked frame out
+    unfolding toldFault countAfter undoneIn askEach opened
+    folded-refused place d = rw (e, d)
+
+    pub folded-passed : firstBeyond (pos foldedLimit) (unstages N frame) 0 ≡ Nothing → unfoldedIn asked (unstages N frame) out ≡ undoneIn asked frame out
+    unfolding undoneIn askEach opened
+    folded-passed d = rw (e, d)
+
+-- ---- the count, by the answer's number
+pub count-told : (count : ℕ) (f : Fault) → nextCount (toldFault f .0) count ≡ countAfter count f
+unfolding nextCount toldFault countAfter
+count-told count (Range place) = refl
+count-told count (Folded place) = refl
+count-told count (Halves place) = refl
+count-told count (Unfolded place) = refl
+count-told count Clear = refl

@@ -1,0 +1,140 @@
+-- `frames::transform::unstages` meets its contract.
+use borrow.Author.Needs.{needs}
+use borrow.Rule.Slice.PartAt.{part-to-end}
+use native.Mathlib.Omega.{arith}
+use mathlib.Core.Path.{_≡_, sym, ap, ap₂, subst, _∙_}
+use mathlib.Core.List.{List}
+use Prim.Native.Nat.{ℕ, _+_, _-_, _/_, _%_, _≤_}
+use lib.IntN.{ℤ}
+use lib.ListN.{length, take, drop, length-drop}
+use Rattle.integers.specs.Places.{places, Within}
+use Rattle.tables.specs.Widths.{halfWidth}
+use Rattle.tables.proofs.Reading.{half-is}
+use Rattle.stages.specs.Moves.{wovenAt}
+use Rattle.stages.specs.Expanded.{untop2, unbottom1}
+use Rattle.steps.proofs.Undo.{width-half}
+use Rattle.stages.proofs.PartLaws.{half-in-fours}
+use Rattle.stages.proofs.FrameSizes.{unlong2, unlong1}
+use Rattle.stages.proofs.Parts.{part-long}
+use Rattle.frames.proofs.FrameLaws.{unstages-halves, take-within, drop-within}
+use Rattle.frames.proofs.transform.unstages.Statement.{statement}
+use Rattle.frames.proofs.transform.unstages.Tie as tie
+
+module _ (s : tie.Start) where
+  abbrev N : ℕ
+  N = s .args .width
+
+  abbrev M : ℕ
+  M = halfWidth N
+
+  abbrev half : ℕ
+  half = N / 2
+
+  abbrev work : List ℤ
+  work = s .args .given .now
+
+  long : length work ≡ N
+  long = s .pre .1 .1 .1 .1 .0 .0
+
+  out-long : length (s .args .out .now) ≡ N
+  out-long = s .pre .1 .1 .1 .1 .0 .1
+
+  inside : Within 1048576 work
+  inside = s .pre .1 .1 .1 .1 .1
+
+  half-long : (half ≡ M) × (M + M ≡ N)
+  half-long = (half-is N (s .pre .0), width-half N (s .pre .0))
+
+  half-le : half ≤ length work
+  half-le = omega (arith, half-long, long)
+
+  front-is : take half work ≡ take M work
+  front-is = ap (λ n. take n work) (half-long .0)
+
+  back-is : take (length work - half) (drop half work) ≡ drop M work
+  back-is = part-to-end work half ∙ ap (λ n. drop n work) (half-long .0)
+
+top1 : (c : tie.After-widen) → c .widen .last .1 .0 ≡ take (M (c .before .before .before)) (work (c .before .before .before))
+top1 c = c .widen .ensures ∙ front-is (c .before .before .before)
+
+bottom1 : (c : tie.After-widen2) → c .widen2 .last .1 .0 ≡ drop (M (c .before .before .before .before .before .before .before)) (work (c .before .before .before .before .before .before .before))
+bottom1 c = c .widen2 .ensures ∙ back-is (c .before .before .before .before .before .before .before)
+
+slice-aggregate-widen : tie.Need-slice-aggregate-widen
+slice-aggregate-widen c = part-long _ _ (half-le (c .before))
+
+widen-requires : tie.Need-widen-requires
+widen-requires c κs =
+    let s = c .before .before in
+    let l = sym (part-long _ _ (half-le s)) ∙ half-long s .0 in
+    (l ∙ sym (s .pre .1 .1 .0 .top-long), ap (λ n. n % 4) l ∙ half-in-fours (N s))
+
+sub-widen : tie.Need-sub-widen
+sub-widen c = half-le (c .before .before .before .before)
+
+part-widen-start : tie.Need-part-widen-start
+part-widen-start c = half-le (c .before .before .before .before)
+
+widen-requires-2 : tie.Need-widen-requires-2
+widen-requires-2 c κs =
+    let s = c .before .before .before .before .before .before in
+    let l : length (take (length (work s) - half s) (drop (half s) (work s))) ≡ M s = ap length (back-is s) ∙ omega (arith, length-drop (M s) (work s), half-long s, long s) in
+    (l ∙ sym (s .pre .1 .1 .0 .bottom-long), ap (λ n. n % 4) l ∙ half-in-fours (N s))
+
+backward-requires : tie.Need-backward-requires
+backward-requires c κs =
+    let q = c .before .before .before .before .before in
+    let p = q .before .before .before .before in
+    let s = p .before .before .before in (
+      s .pre .0,
+      (
+        s .pre .1 .0,
+        (
+          record { top-long = q .before .before .before .top .given ∙ s .pre .1 .1 .0 .top-long; bottom-long = c .before .before .before .before .bottom .given ∙ s .pre .1 .1 .0 .bottom-long },
+          (
+            s .pre .1 .1 .1 .0,
+            (subst (Within 1048576) (sym (top1 p)) (take-within (N s) 1048576 (work s) (inside s) (M s)), subst (Within 1048576) (sym (bottom1 q)) (drop-within (N s) 1048576 (work s) (inside s) (M s))),
+          ),
+        ),
+      ),
+    )
+
+interleave-requires : tie.Need-interleave-requires
+interleave-requires c κs =
+    let g = c .before .before .before .before .before .before .before in
+    let s = g .before .before .before .before .before .before .before .before .before .before .before .before .before in
+    let x = ap length (g .backward .ensures .0) ∙ unlong2 (N s) _ _ in
+    let y = ap length (g .backward .ensures .1) ∙ unlong1 (N s) _ _ in
+    (x ∙ sym y, omega (arith, half-long s, out-long s))
+
+returns : tie.Need-returns
+returns c =
+    let j = c .before in
+    let g = j .before .before .before .before .before .before .before .before in
+    let q = g .before .before .before .before .before .before in
+    let p = q .before .before .before .before in
+    let s = p .before .before .before in
+    j .interleave .ensures
+    ∙ ap₂ (λ t u. places (length (s .args .out .now)) (wovenAt t u)) (g .backward .ensures .0 ∙ ap₂ (untop2 (N s)) (top1 p) (bottom1 q)) (g .backward .ensures .1 ∙ ap₂ (unbottom1 (N s)) (top1 p) (bottom1 q))
+    ∙ ap (λ n. places n (wovenAt (untop2 (N s) (take (M s) (work s)) (drop (M s) (work s))) (unbottom1 (N s) (take (M s) (work s)) (drop (M s) (work s))))) (out-long s ∙ sym (long s))
+    ∙ unstages-halves (N s) (work s) (long s)
+
+pub unstages-spec : {M : Type 1} → statement M
+unstages-spec =
+    tie.close
+    (tie.spec
+    slice-aggregate-widen
+    widen-requires
+    (λ c. search needs)
+    sub-widen
+    part-widen-start
+    (λ c. search needs)
+    widen-requires-2
+    backward-requires
+    interleave-requires
+    (λ c. search needs)
+    (λ c. search needs)
+    (λ c. search needs)
+    (λ c. search needs)
+    (λ c. search needs)
+    returns)

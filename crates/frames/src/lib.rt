@@ -1,0 +1,4 @@
+// A frame from a block and held values, and back.
+pub mod step;
+pub mod transform;
+pub mod undo;

@@ -1,0 +1,6 @@
+pub mod LimitLaws
+pub mod GateLaws
+pub mod BlockLaws
+pub mod PartLaws
+pub mod ReadyLaws
+pub mod FaultLaws

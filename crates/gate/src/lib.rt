@@ -1,0 +1,2 @@
+// The gate's questions, each in one function.
+pub mod questions;

@@ -1,9 +1,0 @@
-pub mod GateLaws
-pub mod StepLaws
-pub mod RoomLaws
-pub mod BlockLaws
-pub mod FirstRefusal
-pub mod ReadyLaws
-pub mod FaultLaws
-pub mod PartLaws
-pub mod Stepping

@@ -1,3 +1,0 @@
--- Serves the code; no promise cites it.
-pub mod Ready
-pub mod Faults

@@ -1,0 +1,4 @@
+pub mod LoopLaws
+pub mod PlacedLaws
+pub mod RoomLaws
+pub mod Undoing

@@ -1,0 +1,81 @@
+-- A whole run back as the code counts it: frames that are whole, the calls left behind the first frame, and their outputs in parts of one list.
+use mathlib.Core.Path.{_≡_, sym, ap, ap₂, _∙_}
+use mathlib.Core.List.{List, _++_, append-assoc, append-nil}
+use Prim.Native.Nat.{ℕ, suc, _+_, _-_, _*_, _/_, _%_, _≤_, _<_}
+use native.Mathlib.Nat.{mul-le-mul-right, add-div-right}
+use native.Mathlib.Numerals.{add-one}
+use native.Mathlib.Omega.{arith}
+use lib.IntN.{ℤ}
+use lib.ListN.{length, take, drop, length-drop}
+use lib.Seq.{take-all, drop-drop}
+use Rattle.tables.specs.Widths.{halfWidth}
+use Rattle.runs.specs.declared.record.Run.{Run}
+use Rattle.runs.specs.Record.{frameLimit, zeros}
+use Rattle.runs.specs.Forward.{started}
+use Rattle.gate.specs.Own.Ready.{Blocks}
+use Rattle.runs.proofs.RecordLaws.{width-le, width-pos}
+use Rattle.runs.proofs.WholeLaws.{whole-blocks, some-blocks}
+use Rattle.runs.proofs.OneByOne.{outputs-next, first-behind, outputs-behind}
+use Rattle.gate.proofs.PartLaws.{written, written-front, written-rest}
+use Rattle.runs.specs.Back.{takenBack}
+use Rattle.runs.specs.WholeBack.{answerFrom, outputsFrom, allOutputs, firstAnswer}
+use Rattle.whole_back.specs.Own.Ready.{Frames}
+
+-- ---- frames that are whole
+module _ (N : ℕ) (frames : List ℤ) (f : Frames N frames) where
+  pub few-numbers : length frames ≤ 8388736
+  few-numbers = omega (arith, f .whole, mul-le-mul-right N (f .few), width-le N (f .wide))
+
+  pub one-frame : N ≤ length frames
+  one-frame = omega (arith, f .whole, mul-le-mul-right N (f .some))
+
+pub frames-whole : (N : ℕ) (frames : List ℤ) → 0 < halfWidth N → length frames % N ≡ 0 → length frames / N ≤ frameLimit → 0 < length frames → Frames N frames
+frames-whole N frames w e few some =
+    let whole = whole-blocks N frames e in
+    record { wide = w; whole = whole; some = some-blocks N frames whole some; few = few }
+
+-- readings are one block less
+module _ (N : ℕ) (frames out : List ℤ) (f : Frames N frames) (r : length out + N ≡ length frames) where
+  pub one-block-less : length frames / N ≡ suc (length out / N)
+  one-block-less = ap (λ (n : ℕ). n / N) (sym r) ∙ add-div-right (length out) (width-pos N (f .wide)) ∙ add-one (length out / N)
+
+  readings-whole : length out / N * N ≡ length out
+  readings-whole = let e = rw one-block-less at (f .whole) in omega (arith, e, r)
+
+  rest-long : length (drop N frames) ≡ length out
+  rest-long = omega (arith, length-drop N frames, r)
+
+  rest-count : length (drop N frames) / N ≡ length out / N
+  rest-count = ap (λ (n : ℕ). n / N) rest-long
+
+  -- the frames behind the first one
+  pub rest-blocks : Blocks N (drop N frames)
+  rest-blocks = record {
+    wide = f .wide;
+    whole = rest-long ∙ sym readings-whole ∙ ap (λ (n : ℕ). n * N) (sym rest-count);
+    some = omega (arith, rest-count, one-block-less, f .few);
+  }
+
+-- ---- the outputs of the calls left, behind those that are written
+pub blocks-next : (N place left : ℕ) (run after : Run) (answer : ℕ × ℕ) (frames out ys : List ℤ) → 0 < left → place + N ≤ length out → length ys ≡ N
+    → (answer, after, ys) ≡ takenBack run (take N (drop place frames)) (take N (drop place out))
+    → take place out ++ outputsFrom N run left (drop place frames) (drop place out)
+    ≡ take (place + N) (written place N out ys) ++ outputsFrom N after (left - 1) (drop (place + N) frames) (drop (place + N) (written place N out ys))
+blocks-next N place left run after answer frames out ys h i l e =
+    let d : left ≡ suc (left - 1) = omega arith in
+    ap (λ (zs : List ℤ). take place out ++ zs) (outputs-next N (left - 1) run (drop place frames) (drop place out) d (sym e))
+    ∙ rw (written-front place N out ys i l, written-rest place N out ys i l, drop-drop N place frames, drop-drop N place out, append-assoc)
+
+pub no-blocks : (N place left : ℕ) (run : Run) (frames out : List ℤ) → left ≡ 0 → length out ≤ place → take place out ++ outputsFrom N run left frames (drop place out) ≡ out
+unfolding outputsFrom
+no-blocks N place left run frames out z h = rw (z, append-nil) (take-all place out h)
+
+-- ---- and with readings that are one block less, the frames behind the first as the code counts them
+module _ (N : ℕ) (frames out : List ℤ) (f : Frames N frames) (r : length out + N ≡ length frames) (after : Run) (e : after ≡ takenBack (started N .1) (take N frames) (zeros N) .1) where
+  pub answer-left : takenBack (started N .1) (take N frames) (zeros N) .0 .0 ≡ 0 → answerFrom N N after (length (drop N frames) / N) (drop N frames) out ≡ firstAnswer N frames out
+  answer-left z =
+      let d : N ≡ 0 + N = omega arith in
+      ap₂ (λ (d n : ℕ). answerFrom N d after n (drop N frames) out) d (rest-count N frames out f r) ∙ sym (first-behind N _ frames out (one-block-less N frames out f r) after e z)
+
+  pub outputs-left : outputsFrom N after (length (drop N frames) / N) (drop N frames) out ≡ drop N (allOutputs N frames out)
+  outputs-left = ap (λ (n : ℕ). outputsFrom N after n (drop N frames) out) (rest-count N frames out f r) ∙ sym (outputs-behind N _ frames out (one-block-less N frames out f r) after e)

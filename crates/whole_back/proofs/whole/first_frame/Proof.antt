@@ -1,0 +1,114 @@
+-- `whole_back::whole::first_frame` meets its contract.
+use borrow.Author.Needs.{needs}
+use native.Mathlib.Omega.{arith}
+use mathlib.Core.Path.{_≡_, sym, ap, subst, _∙_}
+use mathlib.Core.List.{List}
+use Prim.Native.Nat.{ℕ, _≤_}
+use lib.IntN.{ℤ, pos}
+use lib.ListN.{length, length-replicate}
+use Rattle.tables.specs.Widths.{halfWidth}
+use Rattle.stages.proofs.Parts.{part-long}
+use Rattle.runs.specs.declared.record.Run.{Run}
+use Rattle.runs.specs.Record.{zeros, opened}
+use Rattle.runs.specs.Gate.{Given}
+use Rattle.runs.specs.Forward.{started}
+use Rattle.gate.proofs.FaultLaws.{width-room}
+use Rattle.frames.specs.Own.Faults.{toldFault, countAfter}
+use Rattle.runs.specs.Back.{takenBack}
+use Rattle.runs.proofs.BackLaws.{started-back, ReachedBack, back-first}
+use Rattle.whole_back.proofs.Undoing.{low-within, frame-taken, run-after, reached-after}
+use Rattle.whole_back.proofs.whole.first_frame.Statement.{statement}
+use Rattle.whole_back.proofs.whole.first_frame.Tie as tie
+
+module _ (s : tie.Start) where
+  abbrev N : ℕ
+  N = s .args .width
+
+  abbrev frame : List ℤ
+  frame = s .args .frame .now
+
+  abbrev low : List ℤ
+  low = s .args .held .now
+
+  begun : ReachedBack N 0 low
+  begun = subst (ReachedBack N 0) (sym (s .pre .1 .1 .0 .1)) (back-first N (s .pre .0))
+
+  started-is : started N .1 ≡ opened N 0 low
+  started-is = started-back N (s .pre .0) ∙ ap (opened N 0) (sym (s .pre .1 .1 .0 .1))
+
+module _ (c : tie.After-spare) where
+  abbrev from : tie.Start
+  from = c .before
+
+  block-in : N from ≤ length (c .spare .result)
+  block-in = width-room (N from) (c .spare .result) (from .pre .0) (c .spare .ensures)
+
+-- the frame undone
+module _ (a : tie.After-z) where
+  abbrev step : tie.After-undo
+  step = a .before .before .before .before .before .before .before .before
+
+  abbrev start : tie.Start
+  start = from (step .before .before .before .before .before .before .before .before .before)
+
+  abbrev kept : List ℤ
+  kept = step .undo .last .1 .1 .1 .1 .0
+
+  kept-long : length kept ≡ halfWidth (N start)
+  kept-long = a .before .before .before .before .before .before .before .held .given ∙ begun start .long
+
+  given : _≡_ {A = Given} (takenBack (started (N start) .1) (frame start) (zeros (N start)))
+      (toldFault (step .undo .result), opened (N start) (countAfter 0 (step .undo .result)) kept, takenBack (opened (N start) 0 (low start)) (frame start) (zeros (N start)) .2)
+  given =
+      ap (λ (r : Run). takenBack r (frame start) (zeros (N start))) (started-is start)
+      ∙ frame-taken (N start) 0 (low start) kept (frame start) _ _ (step .undo .result) (begun start) (omega arith) kept-long (step .undo .ensures) (zeros (N start)) (start .pre .1 .1 .0 .0) (length-replicate (N start) (pos 0))
+
+  module _ (z : takenBack (started (N start) .1) (frame start) (zeros (N start)) .0 .0 ≡ 0) where
+    none : toldFault (step .undo .result) .0 ≡ 0
+    none = sym (ap (λ (g : Given). g .0 .0) given) ∙ z
+
+    after : opened (N start) 1 kept ≡ takenBack (started (N start) .1) (frame start) (zeros (N start)) .1
+    after = sym (ap (λ (g : Given). g .1) given ∙ run-after (N start) 0 (low start) kept (frame start) _ _ (step .undo .result) (begun start) (omega arith) kept-long (step .undo .ensures) none)
+
+    reached : ReachedBack (N start) 1 kept
+    reached = reached-after (N start) 0 (low start) kept (frame start) _ _ (step .undo .result) (begun start) (omega arith) kept-long (step .undo .ensures) none
+
+array-borrow-prefix-block : tie.Need-array-borrow-prefix-block
+array-borrow-prefix-block c = block-in (c .before)
+
+slice-aggregate-undo : tie.Need-slice-aggregate-undo
+slice-aggregate-undo c = let m = c .before .before in part-long _ (m .spare .result) (block-in m)
+
+undo-requires : tie.Need-undo-requires
+undo-requires c κs =
+    let m = c .before .before .before .before .before .before .before .before in
+    let s = from m in (
+      s .pre .0,
+      (
+        s .pre .1 .0,
+        (
+          (s .pre .1 .1 .0 .0, begun s .long, s .pre .1 .1 .1 .0 .0, s .pre .1 .1 .1 .0 .1, sym (part-long _ (m .spare .result) (block-in m))),
+          (s .pre .1 .1 .1 .1 .0, (s .pre .1 .1 .1 .1 .1, low-within (begun s))),
+        ),
+      ),
+    )
+
+returns : tie.Need-returns
+returns c = λ z. (after c z, low-within (reached c z))
+
+pub first-frame-spec : {M : Type 1} → statement M
+first-frame-spec =
+    tie.close
+    (tie.spec
+    (λ c κs. search needs)
+    array-borrow-prefix-block
+    slice-aggregate-undo
+    undo-requires
+    (λ c. search needs)
+    (λ c. search needs)
+    (λ c. search needs)
+    (λ c. search needs)
+    (λ c. search needs)
+    (λ c. search needs)
+    (λ c. search needs)
+    returns)

@@ -1,0 +1,301 @@
+-- `whole_back::whole::readings_of` meets its contract: what the first frame holds, and the outputs of the others.
+use borrow.Author.Needs.{needs}
+use native.Mathlib.Omega.{arith}
+use mathlib.Core.Path.{_≡_, refl, sym, ap, ap₂, subst, subst₂, _∙_}
+use mathlib.Core.List.{List, _++_}
+use Prim.Native.Nat.{ℕ, _-_, _/_, _≤_}
+use lib.IntN.{ℤ, pos}
+use lib.ListN.{length, take, drop, length-drop, length-replicate}
+use Rattle.integers.specs.Places.{Within}
+use Rattle.tables.specs.Widths.{halfWidth}
+use Rattle.tables.proofs.Reading.{half-is}
+use Rattle.steps.specs.Limits.{foldedLimit}
+use Rattle.stages.proofs.Parts.{part-long, front, front-long, front-le}
+use Rattle.runs.specs.Record.{zeros, opened}
+use Rattle.gate.specs.Own.Ready.{Blocks}
+use Rattle.runs.specs.Forward.{started}
+use Rattle.gate.proofs.GateLaws.{rest-part}
+use Rattle.gate.proofs.FaultLaws.{width-room, half-room}
+use Rattle.gate.proofs.ReadyLaws.{none-held}
+use Rattle.runs.specs.Back.{takenBack}
+use Rattle.runs.specs.WholeBack.{answerFrom, outputsFrom}
+use Rattle.whole_back.proofs.LoopLaws.{one-frame, one-block-less, rest-blocks, answer-left, outputs-left}
+use Rattle.runs.proofs.OneByOne.{first-yes}
+use Rattle.frames.proofs.RoomLaws.{product-le, halves-lent}
+use Rattle.whole_back.proofs.whole.readings_of.Statement.{statement}
+use Rattle.whole_back.proofs.whole.readings_of.Tie as tie
+
+module _ (s : tie.Start) where
+  abbrev N : ℕ
+  N = s .args .width
+
+  abbrev half : ℕ
+  half = s .args .width / 2
+
+  half-wide : half ≡ halfWidth N
+  half-wide = half-is N (s .pre .1 .0 .wide)
+
+  abbrev frames : List ℤ
+  frames = s .args .frames .now
+
+  abbrev out : List ℤ
+  out = s .args .readings .now
+
+  long : N ≤ length frames
+  long = one-frame N frames (s .pre .1 .0)
+
+  rest : take (length frames - N) (drop N frames) ≡ drop N frames
+  rest = rest-part (length frames) N N frames refl refl
+
+  taken : takenBack (started N .1) (take N frames) (zeros N) .0 .0 ≡ 0
+  taken = first-yes N _ frames out (one-block-less N frames out (s .pre .1 .0) (s .pre .1 .1 .0)) (s .pre .1 .1 .1)
+
+-- the arrays made
+module _ (m : tie.After-of-6482) where
+  abbrev from : tie.Start
+  from = m .before .before .before .before .before .before .before
+
+  abbrev held : List ℤ
+  held = m .before .before .before .before .before .before .nothing-held .result
+
+  abbrev folded : List ℤ
+  folded = m .before .before .before .before .before .of-128 .result
+
+  abbrev wide : List ℤ
+  wide = m .before .before .before .before .of-1282 .result
+
+  abbrev top : List ℤ
+  top = m .before .before .before .of-64 .result
+
+  abbrev bottom : List ℤ
+  bottom = m .before .before .of-642 .result
+
+  held-in : half from ≤ length held
+  held-in = half-room (N from) (half from) held (half-wide from) (ap length (m .before .before .before .before .before .before .nothing-held .ensures) ∙ length-replicate 64 (pos 0))
+
+  folded-in : N from ≤ length folded
+  folded-in = width-room (N from) folded (from .pre .1 .0 .wide) (m .before .before .before .before .before .of-128 .ensures)
+
+  wide-in : N from ≤ length wide
+  wide-in = width-room (N from) wide (from .pre .1 .0 .wide) (m .before .before .before .before .of-1282 .ensures)
+
+  top-in : half from ≤ length top
+  top-in = half-room (N from) (half from) top (half-wide from) (sym (m .before .before .before .of-64 .ensures))
+
+  bottom-in : half from ≤ length bottom
+  bottom-in = half-room (N from) (half from) bottom (half-wide from) (sym (m .before .before .of-642 .ensures))
+
+-- behind the first frame
+module _ (c : tie.After-z2) where
+  abbrev step : tie.After-first-frame
+  step = c .before .before .before .before .before .before .before
+
+  abbrev made : tie.After-of-6482
+  made = step .before .before .before .before .before .before .before .before .before
+
+  abbrev start : tie.Start
+  start = from made
+
+  abbrev kept : List ℤ
+  kept = step .first-frame .last .1 .1 .1 .0
+
+  abbrev folded-left : List ℤ
+  folded-left = step .first-frame .last .1 .1 .1 .1 .0
+
+  abbrev wide-left : List ℤ
+  wide-left = step .first-frame .last .1 .1 .1 .1 .1 .0
+
+  abbrev top-left : List ℤ
+  top-left = step .first-frame .last .1 .1 .1 .1 .1 .1 .0
+
+  abbrev bottom-left : List ℤ
+  bottom-left = step .first-frame .last .1 .1 .1 .1 .1 .1 .1 .0
+
+  held-long : length kept ≡ half start
+  held-long = c .before .before .before .before .before .before .held2 .given ∙ sym (part-long _ (held made) (held-in made))
+
+  folded-long : length folded-left ≡ N start
+  folded-long = c .before .before .before .before .before .folded2 .given ∙ sym (part-long _ (folded made) (folded-in made))
+
+  wide-long : length wide-left ≡ N start
+  wide-long = c .before .before .before .before .wide2 .given ∙ sym (part-long _ (wide made) (wide-in made))
+
+  top-long : length top-left ≡ half start
+  top-long = c .before .before .before .top2 .given ∙ sym (part-long _ (top made) (top-in made))
+
+  bottom-long : length bottom-left ≡ half start
+  bottom-long = c .before .before .bottom2 .given ∙ sym (part-long _ (bottom made) (bottom-in made))
+
+  stored : take (half start) (kept ++ drop (half start) (held made)) ≡ kept
+  stored = front (half start) kept (drop (half start) (held made)) held-long
+
+  after : opened (N start) 1 kept ≡ takenBack (started (N start) .1) (take (N start) (frames start)) (zeros (N start)) .1
+  after = step .first-frame .ensures (taken start) .0
+
+slice-aggregate-first-frame : tie.Need-slice-aggregate-first-frame
+slice-aggregate-first-frame c = let s = from (c .before) in part-long _ (frames s) (long s)
+
+array-borrow-prefix-held : tie.Need-array-borrow-prefix-held
+array-borrow-prefix-held c = held-in (c .before)
+
+slice-aggregate-first-frame-2 : tie.Need-slice-aggregate-first-frame-2
+slice-aggregate-first-frame-2 c = let m = c .before .before in part-long _ (held m) (held-in m)
+
+array-borrow-prefix-folded : tie.Need-array-borrow-prefix-folded
+array-borrow-prefix-folded c = folded-in (c .before .before)
+
+slice-aggregate-first-frame-3 : tie.Need-slice-aggregate-first-frame-3
+slice-aggregate-first-frame-3 c = let m = c .before .before .before in part-long _ (folded m) (folded-in m)
+
+array-borrow-prefix-wide : tie.Need-array-borrow-prefix-wide
+array-borrow-prefix-wide c = wide-in (c .before .before .before)
+
+slice-aggregate-first-frame-4 : tie.Need-slice-aggregate-first-frame-4
+slice-aggregate-first-frame-4 c = let m = c .before .before .before .before in part-long _ (wide m) (wide-in m)
+
+array-borrow-prefix-top : tie.Need-array-borrow-prefix-top
+array-borrow-prefix-top c = top-in (c .before .before .before .before)
+
+slice-aggregate-first-frame-5 : tie.Need-slice-aggregate-first-frame-5
+slice-aggregate-first-frame-5 c = let m = c .before .before .before .before .before in part-long _ (top m) (top-in m)
+
+array-borrow-prefix-bottom : tie.Need-array-borrow-prefix-bottom
+array-borrow-prefix-bottom c = bottom-in (c .before .before .before .before .before)
+
+slice-aggregate-first-frame-6 : tie.Need-slice-aggregate-first-frame-6
+slice-aggregate-first-frame-6 c = let m = c .before .before .before .before .before .before in part-long _ (bottom m) (bottom-in m)
+
+first-frame-requires : tie.Need-first-frame-requires
+first-frame-requires c κs =
+    let m = c .before .before .before .before .before .before .before .before in
+    let s = from m in
+    let w = s .pre .1 .0 .wide in (
+      w,
+      (
+        s .pre .0,
+        (
+          (sym (part-long _ (frames s) (long s)), none-held (N s) (half s) (held m) (half-wide s) (m .before .before .before .before .before .before .nothing-held .ensures)),
+          (
+            (sym (part-long _ (folded m) (folded-in m)), sym (part-long _ (wide m) (wide-in m))),
+            (
+              halves-lent (N s) w (top m) (bottom m) (top-in m) (bottom-in m),
+              record { y-long = omega (arith, product-le (N s), m .before .of-648 .ensures); z-long = omega (arith, product-le (N s), m .of-6482 .ensures) },
+            ),
+          ),
+        ),
+      ),
+    )
+
+array-borrow-prefix-held-2 : tie.Need-array-borrow-prefix-held-2
+array-borrow-prefix-held-2 c = let a = c .before in front-le _ (kept a) _ (held-long a)
+
+slice-aggregate-blocks-before : tie.Need-slice-aggregate-blocks-before
+slice-aggregate-blocks-before c = let a = c .before .before in front-long _ (kept a) _ (held-long a)
+
+array-borrow-prefix-folded-2 : tie.Need-array-borrow-prefix-folded-2
+array-borrow-prefix-folded-2 c = let a = c .before .before .before in front-le _ (folded-left a) _ (folded-long a)
+
+slice-aggregate-blocks-before-2 : tie.Need-slice-aggregate-blocks-before-2
+slice-aggregate-blocks-before-2 c = let a = c .before .before .before .before in front-long _ (folded-left a) _ (folded-long a)
+
+array-borrow-prefix-wide-2 : tie.Need-array-borrow-prefix-wide-2
+array-borrow-prefix-wide-2 c = let a = c .before .before .before .before in front-le _ (wide-left a) _ (wide-long a)
+
+slice-aggregate-blocks-before-3 : tie.Need-slice-aggregate-blocks-before-3
+slice-aggregate-blocks-before-3 c = let a = c .before .before .before .before .before in front-long _ (wide-left a) _ (wide-long a)
+
+array-borrow-prefix-top-2 : tie.Need-array-borrow-prefix-top-2
+array-borrow-prefix-top-2 c = let a = c .before .before .before .before .before in front-le _ (top-left a) _ (top-long a)
+
+slice-aggregate-blocks-before-4 : tie.Need-slice-aggregate-blocks-before-4
+slice-aggregate-blocks-before-4 c = let a = c .before .before .before .before .before .before in front-long _ (top-left a) _ (top-long a)
+
+array-borrow-prefix-bottom-2 : tie.Need-array-borrow-prefix-bottom-2
+array-borrow-prefix-bottom-2 c = let a = c .before .before .before .before .before .before in front-le _ (bottom-left a) _ (bottom-long a)
+
+slice-aggregate-blocks-before-5 : tie.Need-slice-aggregate-blocks-before-5
+slice-aggregate-blocks-before-5 c = let a = c .before .before .before .before .before .before .before in front-long _ (bottom-left a) _ (bottom-long a)
+
+blocks-before-requires : tie.Need-blocks-before-requires
+blocks-before-requires c κs =
+    let a = c .before .before .before .before .before .before .before .before .before in
+    let m = made a in
+    let s = start a in (
+      s .pre .0,
+      (
+        subst (Blocks (N s)) (sym (rest s)) (rest-blocks (N s) (frames s) (out s) (s .pre .1 .0) (s .pre .1 .1 .0)),
+        (
+          (
+            ap length (stored a) ∙ held-long a ∙ half-wide s,
+            sym (front-long _ (folded-left a) _ (folded-long a)),
+            sym (front-long _ (wide-left a) _ (wide-long a)),
+            omega (arith, ap length (rest s), length-drop (N s) (frames s), s .pre .1 .1 .0),
+          ),
+          (
+            halves-lent (N s) (s .pre .1 .0 .wide) (top-left a ++ drop (half s) (top m)) (bottom-left a ++ drop (half s) (bottom m)) (front-le _ (top-left a) _ (top-long a)) (front-le _ (bottom-left a) _ (bottom-long a)),
+            (
+              record { y-long = omega (arith, product-le (N s), m .before .of-648 .ensures, a .before .y2 .given); z-long = omega (arith, product-le (N s), m .of-6482 .ensures, a .z2 .given) },
+              (
+                subst (Within foldedLimit) (sym (stored a)) (step a .first-frame .ensures (taken s) .1),
+                subst₂ (λ (k l : List ℤ). answerFrom (N s) (N s) (opened (N s) 1 k) (length l / N s) l (out s) .0 ≡ 0) (sym (stored a)) (sym (rest s))
+                    (ap (λ (x : ℕ × ℕ). x .0) (answer-left (N s) (frames s) (out s) (s .pre .1 .0) (s .pre .1 .1 .0) (opened (N s) 1 (kept a)) (after a) (taken s)) ∙ s .pre .1 .1 .1),
+              ),
+            ),
+          ),
+        ),
+      ),
+    )
+
+returns : tie.Need-returns
+returns c =
+    let b = c .before .before .before .before .before .before .before .before in
+    let a = b .before .before .before .before .before .before .before .before .before .before in
+    let s = start a in
+    b .blocks-before .ensures
+    ∙ ap₂ (λ (k l : List ℤ). outputsFrom (N s) (opened (N s) 1 k) (length l / N s) l (out s)) (stored a) (rest s)
+    ∙ outputs-left (N s) (frames s) (out s) (s .pre .1 .0) (s .pre .1 .1 .0) (opened (N s) 1 (kept a)) (after a)
+
+pub readings-of-spec : {M : Type 1} → statement M
+readings-of-spec =
+    tie.close
+    (tie.spec
+    (λ c κs. search needs)
+    (λ c κs. search needs)
+    (λ c κs. search needs)
+    (λ c κs. search needs)
+    (λ c κs. search needs)
+    (λ c κs. search needs)
+    (λ c κs. search needs)
+    slice-aggregate-first-frame
+    array-borrow-prefix-held
+    slice-aggregate-first-frame-2
+    array-borrow-prefix-folded
+    slice-aggregate-first-frame-3
+    array-borrow-prefix-wide
+    slice-aggregate-first-frame-4
+    array-borrow-prefix-top
+    slice-aggregate-first-frame-5
+    array-borrow-prefix-bottom
+    slice-aggregate-first-frame-6
+    (λ c. search needs)
+    (λ c. search needs)
+    first-frame-requires
+    (λ c. search needs)
+    (λ c. search needs)
+    (λ c. search needs)
+    (λ c. search needs)
+    array-borrow-prefix-held-2
+    slice-aggregate-blocks-before
+    array-borrow-prefix-folded-2
+    slice-aggregate-blocks-before-2
+    array-borrow-prefix-wide-2
+    slice-aggregate-blocks-before-3
+    array-borrow-prefix-top-2
+    slice-aggregate-blocks-before-4
+    array-borrow-prefix-bottom-2
+    slice-aggregate-blocks-before-5
+    (λ c. search needs)
+    (λ c. search needs)
+    blocks-before-requires
+    (λ c. search needs)
+    returns)
