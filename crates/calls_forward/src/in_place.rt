@@ -9,10 +9,10 @@ ghost use Rattle.steps.specs.Steps.{held, frame};
 ghost use Rattle.runs.specs.Answers.{told};
 ghost use Rattle.runs.specs.Record.{recordOf, nextCount};
 ghost use Rattle.runs.specs.Forward.{taken};
+use constants::fill;
+use frames::step;
 use gate::questions;
 use gate::questions::Fault;
-use frames::step;
-use constants::fill;
 use runs::answer::Answer;
 use stages::room;
 

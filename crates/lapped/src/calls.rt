@@ -4,9 +4,9 @@ ghost use mathlib.Core.List.{[]};
 ghost use Rattle.lapped.specs.Calls.{lappedStart, lappedTake, lappedFinish, lappedBackTake, lappedBackFinish};
 use crate::answer;
 use crate::record;
+use calls_back::back;
 use calls_forward::forward;
 use calls_forward::in_place;
-use calls_back::back;
 use runs::answer::Answer;
 
 // A fresh run of a width, either way.

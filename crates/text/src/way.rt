@@ -7,9 +7,9 @@ ghost use Rattle.lines.specs.Put.{Put};
 ghost use Rattle.text.specs.declared.state.Way.the-variants.{Back};
 ghost use Rattle.text.specs.Way.{takenBy, endedBy, rowLine, lastLine, shownRow, shownLast, Closing};
 use crate::state::Way;
-use lines::print;
-use calls_forward::forward;
 use calls_back::back;
+use calls_forward::forward;
+use lines::print;
 use runs::record::Outcome;
 use runs::record::Run;
 

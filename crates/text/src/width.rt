@@ -7,9 +7,9 @@ use crate::refuse;
 use crate::state::Phase;
 use crate::state::Printed;
 use crate::state::State;
+use calls_forward::forward;
 use lines::print;
 use lines::read::Field;
-use calls_forward::forward;
 
 fn start(state: State, width: usize) -> Printed
     ensures { λ r. ⌜ given r ≡ widthStarted state width ⌝ }
