@@ -211,10 +211,10 @@ step-spec =
     part-narrow-start
     (λ c. search needs)
     narrow-requires-2
+    (λ c. c .before .before .before .before .before .before .before .before .before .before .before .before .before .before .before .before .before .before .before .held .given)
     (λ c. search needs)
-    (λ c. search needs)
-    (λ c. search needs)
-    (λ c. search needs)
-    (λ c. search needs)
-    (λ c. search needs)
+    (λ c. c .before .before .before .before .before .before .before .before .before .before .before .top2 .given ∙ c .before .before .before .before .before .before .before .before .before .before .before .before .before .before .before .before .before .before .top .given)
+    (λ c. c .before .before .before .before .before .before .before .before .before .before .bottom2 .given ∙ c .before .before .before .before .before .before .before .before .before .before .before .before .before .before .before .before .before .bottom .given)
+    (λ c. c .before .before .before .before .before .before .before .before .before .y .given)
+    (λ c. c .before .before .before .before .before .before .before .before .z .given)
     returns)

@@ -132,9 +132,9 @@ unstages-spec =
     widen-requires-2
     backward-requires
     interleave-requires
-    (λ c. search needs)
-    (λ c. search needs)
-    (λ c. search needs)
-    (λ c. search needs)
-    (λ c. search needs)
+    (λ c. c .out .given)
+    (λ c. c .before .before .before .before .before .before .before .before .top2 .given ∙ c .before .before .before .before .before .before .before .before .before .before .before .before .before .before .before .before .before .before .top .given)
+    (λ c. c .before .before .before .before .before .before .before .bottom2 .given ∙ c .before .before .before .before .before .before .before .before .before .before .before .before .before .before .bottom .given)
+    (λ c. c .before .before .before .before .before .before .y .given)
+    (λ c. c .before .before .before .before .before .z .given)
     returns)

@@ -114,26 +114,26 @@ undo-spec =
     (tie.spec
     coefficient-beyond-requires
     (λ c. search needs)
-    (λ c. search needs)
+    (λ c. c .before .before .before .folded .given)
     returns
     enum-told
     unstages-requires
     (λ c κs. search needs)
     (λ c. search needs)
-    (λ c. search needs)
-    (λ c. search needs)
-    (λ c. search needs)
-    (λ c. search needs)
-    (λ c. search needs)
+    (λ c. c .before .before .before .before .before .before .before .before .before .folded2 .given ∙ c .before .before .before .before .before .before .before .before .before .before .before .before .before .before .before .before .before .before .folded .given)
+    (λ c. c .before .before .before .before .before .before .before .before .top .given)
+    (λ c. c .before .before .before .before .before .before .before .bottom .given)
+    (λ c. c .before .before .before .before .before .before .y .given)
+    (λ c. c .before .before .before .before .before .z .given)
     returns-2
     (λ c. search needs)
     unfolded-requires
-    (λ c. search needs)
-    (λ c. search needs)
-    (λ c. search needs)
-    (λ c. search needs)
-    (λ c. search needs)
-    (λ c. search needs)
-    (λ c. search needs)
-    (λ c. search needs)
+    (λ c. c .before .before .held .given)
+    (λ c. c .block .given)
+    (λ c. c .before .before .before .before .before .before .before .before .before .before .before .before .before .before .before .before .folded2 .given ∙ c .before .before .before .before .before .before .before .before .before .before .before .before .before .before .before .before .before .before .before .before .before .before .before .before .before .folded .given)
+    (λ c. c .before .wide .given)
+    (λ c. c .before .before .before .before .before .before .before .before .before .before .before .before .before .before .before .top .given)
+    (λ c. c .before .before .before .before .before .before .before .before .before .before .before .before .before .before .bottom .given)
+    (λ c. c .before .before .before .before .before .before .before .before .before .before .before .before .before .y .given)
+    (λ c. c .before .before .before .before .before .before .before .before .before .before .before .before .z .given)
     returns-3)

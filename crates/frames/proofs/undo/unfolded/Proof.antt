@@ -197,7 +197,7 @@ unfolded-spec =
     enum-told
     slice-aggregate-copy
     copy-requires
-    (λ c. search needs)
+    (λ c. c .held .given)
     returns-2
     slice-aggregate-unfold
     (λ c. search needs)
@@ -218,7 +218,7 @@ unfolded-spec =
     narrow-requires
     slice-aggregate-copy-2
     copy-requires-2
-    (λ c. search needs)
-    (λ c. search needs)
-    (λ c. search needs)
+    (λ c. c .held2 .given)
+    (λ c. c .before .before .before .before .before .before .before .before .before .before .before .before .wide .given)
+    (λ c. c .before .before .before .before .block .given)
     returns-4)

@@ -104,11 +104,11 @@ first-frame-spec =
     array-borrow-prefix-block
     slice-aggregate-undo
     undo-requires
-    (λ c. search needs)
-    (λ c. search needs)
-    (λ c. search needs)
-    (λ c. search needs)
-    (λ c. search needs)
-    (λ c. search needs)
-    (λ c. search needs)
+    (λ c. c .before .before .before .before .before .before .before .held .given)
+    (λ c. c .before .before .before .before .before .folded .given)
+    (λ c. c .before .before .before .before .wide .given)
+    (λ c. c .before .before .before .top .given)
+    (λ c. c .before .before .bottom .given)
+    (λ c. c .before .y .given)
+    (λ c. c .z .given)
     returns)

@@ -135,5 +135,5 @@ in-two-passes-spec =
     array-share-prefix-t-2
     slice-aggregate-readings-of
     readings-of-requires
-    (λ c. search needs)
+    (λ c. c .readings .given)
     returns-2)

@@ -297,5 +297,5 @@ readings-of-spec =
     (λ c. search needs)
     (λ c. search needs)
     blocks-before-requires
-    (λ c. search needs)
+    (λ c. c .before .before .before .before .before .before .readings .given)
     returns)
