@@ -19,18 +19,17 @@ use Rattle.runs.specs.declared.record.Run.{Run}
 use Rattle.runs.specs.Record.{blockLimit, frameLimit, zeros, recordOf, nextCount, opened, closed}
 use Rattle.runs.specs.Gate as Gate
 use Rattle.runs.specs.Gate.{ask, askEach, admitted, sound}
-use Rattle.runs.specs.Forward.{started, ended}
+use Rattle.runs.specs.Forward.{started, taken, ended}
+use Rattle.runs.specs.Back.{takenBack, endedBack}
 use Rattle.runs.proofs.AskLaws.{record-refused}
 use Rattle.runs.proofs.CallLaws.{every-answer}
 use Rattle.runs.proofs.RecordLaws.{width-le}
-use Rattle.gate.proofs.GateLaws.{no-width}
-use Rattle.gate.proofs.PartLaws.{written-end}
-use Rattle.runs.proofs.Refusals.{Same}
-use Rattle.runs.specs.Back.{endedBack}
-use Rattle.lapped.specs.Record.{runLength, isRecord, packed, unpacked}
-use Rattle.lapped.specs.Ready.{Packable}
-use Rattle.lapped.specs.Calls.{Given, kept, handed, lappedStart}
-use Rattle.lapped.proofs.RecordLaws.{has-room, no-record, packed-unpacked}
+use Rattle.runs.proofs.Refusals.{Same, admitted-few, same-taken, same-taken-back}
+use Rattle.c_record.specs.Record.{runLength, isRecord, packed, unpacked}
+use Rattle.c_record.specs.Ready.{Packable}
+use Rattle.c_record.specs.Calls.{Given, kept, handed, lappedStart, lappedTake, lappedBackTake}
+use Rattle.c_record.proofs.RecordLaws.{has-room, no-record, packed-unpacked, held-put}
+use Rattle.c_record.proofs.AnswerLaws.{kept-refused, kept-worked}
 
 -- ---- a sound record is one of 67 numbers, and its own fit
 module _ (numbers : List ℤ) (top : ℕ) (s : sound top (unpacked numbers) ≡ true) where
@@ -42,14 +41,14 @@ module _ (numbers : List ℤ) (top : ℕ) (s : sound top (unpacked numbers) ≡ 
   unfolding sound
   few = leb-true _ top (every-answer _ s 1)
 
-  room : (b : Bool) → isRecord numbers ≡ b → length numbers ≡ runLength
+  sound-record : (b : Bool) → isRecord numbers ≡ b → b ≡ true
   unfolding halfWidth byWidth
-  room true e = has-room numbers e
-  room false e = absurd (let h : 0 < halfWidth 0 = subst (λ r. 0 < halfWidth (r .width)) (sym (no-record numbers (zeros 64) refl e)) wide in omega (arith, h))
+  sound-record true e = refl
+  sound-record false e = absurd (let h : 0 < halfWidth 0 = subst (λ r. 0 < halfWidth (r .width)) (sym (no-record numbers (zeros 64) refl e)) wide in omega (arith, h))
 
   fits : top ≤ frameLimit → (run : Run) → run .width ≡ unpacked numbers .width → run .count ≤ unpacked numbers .count → Packable run numbers
   fits t run w c =
-      record { narrow = omega (arith, width-le (unpacked numbers .width) wide); few = omega (arith, few); room = room (isRecord numbers) refl }
+      record { narrow = omega (arith, width-le (unpacked numbers .width) wide); few = omega (arith, few); room = has-room numbers (sound-record _ refl) }
 
 -- ---- one question after the other
 record Works (numbers : List ℤ) (given : Gate.Given) : Type 0 where
@@ -76,88 +75,113 @@ module _ (numbers : List ℤ) where
     closes out = record { packable = λ _. fits numbers top s t (closed run) refl (omega arith) }
 
   -- ---- the two finishes
-  pub finish-works : (out : List ℤ) → ended run out .0 .0 ≡ 0 → Packable (ended run out .1) numbers
+  finish-works : (out : List ℤ) → Works numbers (ended run out)
   unfolding ended
-  finish-works out = asked _ _ _ _ _ (λ s. asked _ _ _ _ _ (λ _. asked _ _ _ _ _ (λ _. closes blockLimit (omega arith) s _))) .packable
+  finish-works out = asked _ _ _ _ _ (λ s. asked _ _ _ _ _ (λ _. asked _ _ _ _ _ (λ _. closes blockLimit (omega arith) s _)))
 
-  pub back-finish-works : endedBack run .0 .0 ≡ 0 → Packable (endedBack run .1) numbers
+  back-finish-works : Works numbers (endedBack run)
   unfolding endedBack
-  back-finish-works = asked _ _ _ _ _ (λ s. asked _ _ _ _ _ (λ _. asked _ _ _ _ _ (λ _. asked-each _ _ _ _ _ (closes frameLimit (omega arith) s _)))) .packable
+  back-finish-works = asked _ _ _ _ _ (λ s. asked _ _ _ _ _ (λ _. asked _ _ _ _ _ (λ _. asked-each _ _ _ _ _ (closes frameLimit (omega arith) s _))))
 
--- ---- what is handed back
-pub worked : (numbers out : List ℤ) (answer : ℕ × ℕ) (run : Run) (given : Gate.Given) → (answer, run, out) ≡ given → (given .0 .0 ≡ 0 → Packable (given .1) numbers)
-    → answer .0 ≡ 0 → Packable run numbers
-worked numbers out answer run given e h = subst (λ (g : Gate.Given). g .0 .0 ≡ 0 → Packable (g .1) numbers) (sym e) h
+-- ---- what is handed back of a call on the record that the numbers are
+module _ (numbers : List ℤ) (call : Run → Gate.Given) (run after : Run) (answer : ℕ × ℕ) (out : List ℤ) (is : run ≡ unpacked numbers) (e : (answer, after, out) ≡ call run) where
+  given-is : (answer, after, out) ≡ call (unpacked numbers)
+  given-is = e ∙ ap call is
 
-module _ (numbers : List ℤ) (n : ℕ) (run : Run) where
-  pub kept-refused : (n ≡ 0 → ⊥) → numbers ≡ kept n run numbers
-  unfolding kept
-  kept-refused e = rw (ne-eqb n 0 e)
+  packs : Works numbers (call (unpacked numbers)) → answer .0 ≡ 0 → Packable after numbers
+  packs w = subst (λ (g : Gate.Given). g .0 .0 ≡ 0 → Packable (g .1) numbers) (sym given-is) (w .packable)
 
-  pub kept-worked : n ≡ 0 → packed run ≡ kept n run numbers
-  unfolding kept
-  kept-worked e = rw (eq-eqb n 0 e)
+  pub handed-is : (a : ℕ × ℕ) (stays : List ℤ) → a ≡ answer → stays ≡ kept (answer .0) after numbers → (a, stays, out) ≡ handed numbers (call (unpacked numbers))
+  unfolding handed
+  handed-is a stays p q = ap₂ (λ (x : ℕ × ℕ) (y : List ℤ). (x, y, out)) p q ∙ ap (handed numbers) given-is
 
-pub handed-is : (numbers after out : List ℤ) (a answer : ℕ × ℕ) (run : Run) (given : Gate.Given) → a ≡ answer → after ≡ kept (answer .0) run numbers
-    → (answer, run, out) ≡ given → (a, after, out) ≡ handed numbers given
-unfolding handed
-handed-is numbers after out a answer run given p q e = ap₂ (λ (x : ℕ × ℕ) (y : List ℤ). (x, y, out)) p q ∙ ap (handed numbers) e
+module _ (numbers : List ℤ) (run after : Run) (answer : ℕ × ℕ) (is : run ≡ unpacked numbers) where
+  pub finish-packs : (out now : List ℤ) → (answer, after, now) ≡ ended run out → answer .0 ≡ 0 → Packable after numbers
+  finish-packs out now e = packs numbers (λ (r : Run). ended r out) run after answer now is e (finish-works numbers out)
 
--- ---- a call in place
+  pub back-finish-packs : (answer, after, []) ≡ endedBack run → answer .0 ≡ 0 → Packable after numbers
+  back-finish-packs e = packs numbers endedBack run after answer [] is e (back-finish-works numbers)
+
+-- ---- a block forward or a frame back
+abbrev either : Bool → Run → List ℤ → List ℤ → Gate.Given
+either back = cond back takenBack taken
+
+same-either : (back : Bool) (run : Run) (given out : List ℤ) → Same run (either back run given out)
+same-either true = same-taken-back
+same-either false = same-taken
+
+few-either : (back : Bool) (run : Run) (given out : List ℤ) → either back run given out .0 .0 ≡ 0 → run .count < frameLimit
+unfolding taken takenBack
+few-either true run given out e = admitted-few frameLimit run given out _ e
+few-either false run given out e = let n = admitted-few blockLimit run given out _ e in omega arith
+
+handed-either : (back : Bool) (numbers given out : List ℤ) → handed numbers (either back (unpacked numbers) given out) ≡ cond back lappedBackTake lappedTake numbers given out
+unfolding lappedTake lappedBackTake
+handed-either true numbers given out = refl
+handed-either false numbers given out = refl
+
 -- numbers that are no record
-pub no-call : (numbers : List ℤ) (top : ℕ) (given out : List ℤ) (next : Gate.Given) (a : ℕ × ℕ) → isRecord numbers ≡ false → a ≡ told Record
-    → (a, numbers, out) ≡ handed numbers (admitted top (unpacked numbers) given out next)
-unfolding admitted told halfWidth byWidth
-no-call numbers top given out next a e p =
-    let run = unpacked numbers in
-    let none : halfWidth (run .width) ≡ 0 = ap (λ (r : Run). halfWidth (r .width)) (sym (no-record numbers (zeros 64) refl e)) in
-    handed-is numbers numbers out a (told Record) run _ p (kept-refused numbers 2 run (λ z. omega arith)) (record-refused top run out _ (sym (no-width top run none)))
+module _ (numbers given out : List ℤ) (n : isRecord numbers ≡ false) where
+  refused : (top : ℕ) (next : Gate.Given) → (told Record, unpacked numbers, out) ≡ admitted top (unpacked numbers) given out next
+  unfolding admitted
+  refused top next = record-refused top (unpacked numbers) out _ (by (sound top (unpacked numbers)) refl)
+    where
+      by : (b : Bool) → sound top (unpacked numbers) ≡ b → b ≡ false
+      by true s = sym (sound-record numbers top s false n)
+      by false s = refl
 
-pub next-worked : (number count : ℕ) → number ≡ 0 → nextCount number count ≡ suc count
-unfolding nextCount
-next-worked number count e = rw e
+  refused-either : (back : Bool) → (told Record, unpacked numbers, out) ≡ either back (unpacked numbers) given out
+  unfolding taken takenBack
+  refused-either true = refused frameLimit _
+  refused-either false = refused blockLimit _
 
-pub next-refused : (number count : ℕ) → (number ≡ 0 → ⊥) → nextCount number count ≡ count
-unfolding nextCount
-next-refused number count e = rw (ne-eqb number 0 e)
+  pub no-call : (back : Bool) (a : ℕ × ℕ) → a ≡ told Record → (a, numbers, out) ≡ cond back lappedBackTake lappedTake numbers given out
+  unfolding told
+  no-call back a p =
+      let run = unpacked numbers in
+      handed-is numbers (λ (r : Run). either back r given out) run run (told Record) out refl (refused-either back) a numbers p (kept-refused numbers 2 run (λ z. omega arith))
+      ∙ handed-either back numbers given out
 
 -- what is stored in the held values leaves the count
-second : (numbers held : List ℤ) → 3 ≤ length numbers → at (take 3 numbers ++ held) 1 ≡ at numbers 1
+second : (numbers held : List ℤ) → length numbers ≡ runLength → at (take 3 numbers ++ held) 1 ≡ at numbers 1
 second [] held l = absurd (omega arith)
 second (a ∷ []) held l = absurd (omega arith)
 second (a ∷ b ∷ numbers) held l = refl
 
-pub count-stays : (numbers held : List ℤ) → 3 ≤ length numbers → at (putMid 3 (length numbers - 3) numbers held) 1 ≡ at numbers 1
-count-stays numbers held l = ap (λ xs. at xs 1) (written-end 3 numbers held l) ∙ second numbers held l
+pub count-stays : (numbers held : List ℤ) → length numbers ≡ runLength → at (putMid 3 (length numbers - 3) numbers held) 1 ≡ at numbers 1
+count-stays numbers held l = ap (λ xs. at xs 1) (held-put numbers held l) ∙ second numbers held l
 
-module _ (numbers : List ℤ) (r : isRecord numbers ≡ true) (answer a : ℕ × ℕ) (held out : List ℤ) (p : a ≡ answer) where
-  -- the record that a call on `run` hands back
-  abbrev after : Run → Run
-  after run = recordOf (run .width) (nextCount (answer .0) (run .count)) held (run .finished)
+-- the call in place: the held values, then the count
+module _ (numbers : List ℤ) (r : isRecord numbers ≡ true) (run : Run) (is : run ≡ unpacked numbers) (answer : ℕ × ℕ) (held : List ℤ) where
+  abbrev after : Run
+  after = recordOf (run .width) (nextCount (answer .0) (run .count)) held (run .finished)
 
-  -- the count is stored before the held values
-  stored : set (putMid 3 (length numbers - 3) numbers held) 1 (pos (after (unpacked numbers) .count)) ≡ packed (after (unpacked numbers))
+  abbrev left : List ℤ
+  left = set (putMid 3 (length numbers - 3) numbers held) 1 (pos (after .count))
+
+  packed-run : packed run ≡ numbers
+  packed-run = ap packed is ∙ packed-unpacked numbers r
+
+  stored : left ≡ packed after
   unfolding packed
-  stored =
-      let run = unpacked numbers in
-      ap (λ (l : List ℤ). set l 1 (pos (after run .count))) (written-end 3 numbers held (omega (arith, has-room numbers r)) ∙ ap (λ (l : List ℤ). take 3 l ++ held) (sym (packed-unpacked numbers r)))
+  stored = ap (λ (l : List ℤ). set l 1 (pos (after .count))) (held-put numbers held (has-room numbers r) ∙ ap (λ (l : List ℤ). take 3 l ++ held) (sym packed-run))
 
-  kept-is : (given : Gate.Given) → Same (unpacked numbers) given → (answer, after (unpacked numbers), out) ≡ given → packed (after (unpacked numbers)) ≡ kept (answer .0) (after (unpacked numbers)) numbers
-  kept-is given s e = by (eqb (answer .0) 0) refl
-    where
-      by : (b : Bool) → eqb (answer .0) 0 ≡ b → packed (after (unpacked numbers)) ≡ kept (answer .0) (after (unpacked numbers)) numbers
-      by true z = kept-worked numbers _ _ (eqb-true _ 0 z)
-      by false z =
-          let n = eqb-false (answer .0) 0 z in
-          ap packed (ap (λ (g : Gate.Given). g .1) e ∙ s .same (λ d. n (ap (λ (g : Gate.Given). g .0 .0) e ∙ d))) ∙ packed-unpacked numbers r ∙ kept-refused numbers _ _ n
+  module _ (back : Bool) (given out now : List ℤ) (e : (answer, after, now) ≡ either back run given out) where
+    pub few-taken : answer .0 ≡ 0 → run .count < frameLimit
+    few-taken z = few-either back run given out (ap (λ (g : Gate.Given). g .0 .0) (sym e) ∙ z)
 
-  module _ (call : Run → Gate.Given) (s : Same (unpacked numbers) (call (unpacked numbers))) (run : Run) (is : run ≡ unpacked numbers) (e : (answer, after run, out) ≡ call run) where
-    pub called : (stays : List ℤ) → stays ≡ set (putMid 3 (length numbers - 3) numbers held) 1 (pos (after run .count)) → (a, stays, out) ≡ handed numbers (call (unpacked numbers))
-    called stays q =
-        let given = ap (λ (r : Run). (answer, after r, out)) (sym is) ∙ e ∙ ap call is in
-        handed-is numbers stays out a answer (after (unpacked numbers)) _ p
-        (q ∙ ap (λ (r : Run). set (putMid 3 (length numbers - 3) numbers held) 1 (pos (after r .count))) is ∙ stored ∙ kept-is _ s given)
-        given
+    kept-is : left ≡ kept (answer .0) after numbers
+    kept-is = by (eqb (answer .0) 0) refl
+      where
+        by : (b : Bool) → eqb (answer .0) 0 ≡ b → left ≡ kept (answer .0) after numbers
+        by true z = stored ∙ kept-worked numbers _ _ (eqb-true _ 0 z)
+        by false z =
+            let n = eqb-false (answer .0) 0 z in
+            let same = same-either back run given out .same (λ d. n (ap (λ (g : Gate.Given). g .0 .0) e ∙ d)) in
+            stored ∙ ap packed (ap (λ (g : Gate.Given). g .1) e ∙ same) ∙ packed-run ∙ kept-refused numbers _ _ n
+
+    pub called : (a : ℕ × ℕ) (stays : List ℤ) → a ≡ answer → stays ≡ left → (a, stays, now) ≡ cond back lappedBackTake lappedTake numbers given out
+    called a stays p q = handed-is numbers (λ (r : Run). either back r given out) run after answer now is e a stays p (q ∙ kept-is) ∙ handed-either back numbers given out
 
 -- ---- a fresh start
 module _ (N : ℕ) (numbers : List ℤ) where

@@ -1,3 +1,1 @@
-pub mod RecordLaws
-pub mod AnswerLaws
 pub mod CallLaws

@@ -1,12 +1,19 @@
 // A run block by block, for C. The record's numbers are the caller's; a refused call leaves them as they were.
 ghost use mathlib.Core.Path.{_≡_};
+ghost use mathlib.Core.Bool.{cond};
 ghost use mathlib.Core.List.{[]};
-ghost use Rattle.lapped.specs.Calls.{lappedStart, lappedTake, lappedFinish, lappedBackTake, lappedBackFinish};
-use crate::answer;
-use crate::record;
-use calls_back::back;
+ghost use lib.ListN.{length};
+ghost use Rattle.runs.specs.Answers.{told};
+ghost use Rattle.runs.specs.Record.{recordOf, nextCount};
+ghost use Rattle.runs.specs.Forward.{taken};
+ghost use Rattle.runs.specs.Back.{takenBack};
+ghost use Rattle.c_record.specs.Calls.{lappedStart, lappedTake, lappedFinish, lappedBackTake, lappedBackFinish};
+use c_record::answer;
+use c_record::record;
+use c_record::record::Head;
 use calls_forward::forward;
 use calls_forward::in_place;
+use calls_back::back;
 use runs::answer::Answer;
 
 // A fresh run of a width, either way.
@@ -27,6 +34,32 @@ pub extern "C" fn lapped_start(width: usize, run: &mut [i64], place: &mut usize)
     answer::tell(answer, place)
 }
 
+// One code for both ways. The held values stay where they lie in the record.
+fn take_held(back: bool, head: Head, held: &mut [i64], given: &[i32], out: &mut [i32]) -> Answer
+    requires { ⌜ length (now held) ≡ 64 ⌝ }
+    ensures { λ r. ⌜ (told r, recordOf (head .width) (nextCount (told r .0) (head .count)) (now (held .exit)) (head .finished), now (out .exit)) ≡ cond back takenBack taken (recordOf (head .width) (head .count) (now (held .entry)) (head .finished)) (now (given .entry)) (now (out .entry)) ⌝ }
+{
+    let width = head.width;
+    let count = head.count;
+    let finished = head.finished;
+    if back {
+        return calls_back::in_place::take(width, count, finished, held, given, out);
+    }
+    in_place::take(width, count, finished, held, given, out)
+}
+
+fn take(back: bool, run: &mut [i64], given: &[i32], out: &mut [i32], place: &mut usize) -> u32
+    ensures { λ r. ⌜ ((r, now (place .exit)), now (run .exit), now (out .exit)) ≡ cond back lappedBackTake lappedTake (now (run .entry)) (now (given .entry)) (now (out .entry)) ⌝ }
+{
+    if !record::is_record(run) {
+        return answer::tell(Answer::Record, place);
+    }
+    let head = record::front(run);
+    let answer = take_held(back, head, &mut run[3..], given, out);
+    record::store_count(head.count, answer, run);
+    answer::tell(answer, place)
+}
+
 // Take a block: its readings in, its frame out.
 #[no_mangle]
 pub extern "C" fn lapped_take(
@@ -37,21 +70,7 @@ pub extern "C" fn lapped_take(
 ) -> u32
     ensures { λ r. ⌜ ((r, now (place .exit)), now (run .exit), now (frame .exit)) ≡ lappedTake (now (run .entry)) (now (block .entry)) (now (frame .entry)) ⌝ }
 {
-    if !record::is_record(run) {
-        return answer::tell(Answer::Record, place);
-    }
-    let head = record::front(run);
-    let count = head.count;
-    let answer = in_place::take(
-        head.width,
-        count,
-        head.finished,
-        &mut run[3..],
-        block,
-        frame,
-    );
-    record::store_count(count, answer, run);
-    answer::tell(answer, place)
+    take(false, run, block, frame, place)
 }
 
 // Finish: the frame of the last block's held half.
@@ -73,21 +92,7 @@ pub extern "C" fn lapped_back_take(
 ) -> u32
     ensures { λ r. ⌜ ((r, now (place .exit)), now (run .exit), now (block .exit)) ≡ lappedBackTake (now (run .entry)) (now (frame .entry)) (now (block .entry)) ⌝ }
 {
-    if !record::is_record(run) {
-        return answer::tell(Answer::Record, place);
-    }
-    let head = record::front(run);
-    let count = head.count;
-    let answer = calls_back::in_place::take(
-        head.width,
-        count,
-        head.finished,
-        &mut run[3..],
-        frame,
-        block,
-    );
-    record::store_count(count, answer, run);
-    answer::tell(answer, place)
+    take(true, run, frame, block, place)
 }
 
 // Finish back: the run is closed.

@@ -3,7 +3,7 @@ ghost use mathlib.Core.Path.{_≡_};
 ghost use Rattle.runs.specs.Alone.{stagesAlone, unstagesAlone};
 ghost use Rattle.runs.specs.Whole.{wholeForward, WholeRun};
 ghost use Rattle.runs.specs.WholeBack.{wholeBack};
-use crate::answer;
+use c_record::answer;
 use alone::frame;
 
 // The whole run forward: every block's frame, and the finish's.

@@ -6,7 +6,7 @@ use Prim.Native.Nat.{ℕ}
 use lib.IntN.{ℤ}
 use Rattle.runs.specs.Answers.{told}
 use Rattle.runs.specs.declared.record.Run.{Run}
-use Rattle.lapped.specs.Ready.{Packable}
+use Rattle.c_record.specs.Ready.{Packable}
 use Rattle.lapped.proofs.CallLaws.{start-fits, start-packed, start-no-room, start-refused}
 use Rattle.lapped.proofs.calls.lapped_start.Statement.{statement}
 use Rattle.lapped.proofs.calls.lapped_start.Tie as tie

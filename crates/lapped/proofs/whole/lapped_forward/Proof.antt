@@ -2,7 +2,7 @@
 use borrow.Author.Needs.{needs}
 use mathlib.Core.Path.{sym, ap, _∙_}
 use Prim.Native.Nat.{ℕ}
-use Rattle.lapped.proofs.AnswerLaws.{told-done}
+use Rattle.c_record.proofs.AnswerLaws.{told-done}
 use Rattle.lapped.proofs.whole.lapped_forward.Statement.{statement}
 use Rattle.lapped.proofs.whole.lapped_forward.Tie as tie
 

@@ -1,0 +1,82 @@
+-- `c_record::record::pack` meets its contract.
+use borrow.Author.Needs.{needs}
+use native.Mathlib.Omega.{arith}
+use mathlib.Core.Path.{_≡_, sym, _∙_}
+use mathlib.Core.List.{List}
+use lib.IntN.{ℤ}
+use lib.ListN.{length, length-take, length-drop, length-set}
+use Rattle.runs.specs.declared.record.Run.{Run}
+use Rattle.c_record.proofs.RecordLaws.{packed-is}
+use Rattle.c_record.proofs.record.pack.Statement.{statement}
+use Rattle.c_record.proofs.record.pack.Tie as tie
+
+module _ (s : tie.Start) where
+  abbrev run : Run
+  run = s .args .run
+
+  abbrev numbers : List ℤ
+  numbers = s .args .numbers .now
+
+  held-long : length (run .held) ≡ 64
+  held-long = search needs
+
+cast-numbers : tie.Need-cast-numbers
+cast-numbers c = search needs
+
+slice-set-from-numbers : tie.Need-slice-set-from-numbers
+slice-set-from-numbers c = search needs
+
+cast-numbers-2 : tie.Need-cast-numbers-2
+cast-numbers-2 c = search needs
+
+slice-set-from-numbers-2 : tie.Need-slice-set-from-numbers-2
+slice-set-from-numbers-2 c = search needs
+
+cast-numbers-3 : tie.Need-cast-numbers-3
+cast-numbers-3 c = search needs
+
+slice-set-from-numbers-3 : tie.Need-slice-set-from-numbers-3
+slice-set-from-numbers-3 c = search needs
+
+slice-aggregate-copy : tie.Need-slice-aggregate-copy
+slice-aggregate-copy c = search needs
+
+sub-copy : tie.Need-sub-copy
+sub-copy c = let s = c .before .before .before .before .before in simp length-set (omega (arith, s .pre .room))
+
+part-copy-start : tie.Need-part-copy-start
+part-copy-start c = let s = c .before .before .before .before .before in simp length-set (omega (arith, s .pre .room))
+
+part-copy-end : tie.Need-part-copy-end
+part-copy-end c = search needs
+
+copy-requires : tie.Need-copy-requires
+copy-requires c κs =
+    let s = c .before .before .before .before .before .before in
+    held-long s ∙ sym (simp (length-take, length-drop, length-set, s .pre .room))
+
+same-length : tie.Need-same-length
+same-length c = c .numbers .given .1 ∙ simp length-set
+
+returns : tie.Need-returns
+returns c =
+    let s = c .before .before .before .before .before .before .before .before in
+    packed-is (run s) (numbers s) (s .pre) _ (c .before .copy .ensures)
+
+pub pack-spec : {M : Type 1} → statement M
+pack-spec =
+    tie.close
+    (tie.spec
+    cast-numbers
+    slice-set-from-numbers
+    cast-numbers-2
+    slice-set-from-numbers-2
+    cast-numbers-3
+    slice-set-from-numbers-3
+    slice-aggregate-copy
+    sub-copy
+    part-copy-start
+    part-copy-end
+    copy-requires
+    same-length
+    returns)

@@ -1,0 +1,123 @@
+-- Records as numbers, and the calls at width 8, computed on the definitions: what each call tells, what it leaves of the record's numbers and
+-- of the output. `tests/reference.c`, written from the paper alone, gives the same frames and blocks.
+use mathlib.Core.Path.{_≡_, refl}
+use mathlib.Core.Bool.{Bool, true, false}
+use mathlib.Core.List.{List, [], _∷_, _++_, map}
+use Prim.Native.Nat.{ℕ}
+use lib.IntN.{ℤ, pos, negℤ}
+use lib.ListN.{replicate}
+use Rattle.integers.specs.Floor.{round, floorDiv}
+use Rattle.integers.specs.Places.{tab, sum}
+use Rattle.tables.specs.Widths.{byWidth, halfWidth}
+use Rattle.tables.specs.Angles.{halfTurn, reflected, minus, signed}
+use Rattle.tables.specs.Numbers.{sines, halfTangents, halfTangents8, secants, secants8, cosineOf, sineOf, halfTangentOf, secantOf}
+use Rattle.steps.specs.Steps.{rootLog, tangent, sine, cosine, oddOf, secant, alternate, tangentAmount, sineAmount, rotatedA, rotatedB, lower, held, topOf, bottomOf, amount1, amount2, amount3, stage1, stage2, stage3, stage4, stage5, stages, frame, unrotatedA, unrotatedB, unfolded, unstage1, unstage2, unstage3, unstage4, unstage5, interleaved, unstages}
+use Rattle.runs.specs.declared.record.Run.{Run}
+use Rattle.runs.specs.Answers.{first, beyond}
+use Rattle.runs.specs.Record.{zeros, recordOf, filled, opened, advanced, closed}
+use Rattle.runs.specs.Gate.{ask, askEach, nothing, inside, every, sound, dead, admitted}
+use Rattle.runs.specs.Forward.{started, frameOn, takenIn, taken, ended}
+use Rattle.runs.specs.Back.{framed, blockOn, firstUpper, firstFrame, laterFrame, unfoldedIn, undoneIn, takenBack, firstHeld, endedBack}
+use Rattle.runs.specs.Cases.{sample, output}
+use Rattle.c_record.specs.Record.{packed, isRecord, unpacked}
+use Rattle.c_record.specs.Calls.{Given, kept, handed, lappedStart, lappedTake, lappedFinish, lappedBackTake, lappedBackFinish}
+
+-- a table of what is computed and what the paper says: in every row the two are the same
+abbrev Said : {A : Type 0} → List (A × A) → Type 0
+Said rows = map (λ row. row .0) rows ≡ map (λ row. row .1) rows
+
+abbrev less : ℕ → ℤ
+less n = negℤ (pos n)
+
+abbrev ones : ℕ → List ℤ
+ones n = replicate n (pos 1)
+
+-- a record's numbers
+abbrev numbers : ℕ → ℕ → ℕ → List ℤ → List ℤ
+numbers width count finished held = pos width ∷ pos count ∷ pos finished ∷ held
+
+-- the sample's frames
+abbrev one : List ℤ
+one = pos 39 ∷ less 24 ∷ less 48 ∷ pos 4 ∷ pos 50 ∷ pos 14 ∷ less 44 ∷ less 33 ∷ []
+
+abbrev two : List ℤ
+two = less 3 ∷ pos 4 ∷ pos 2 ∷ less 5 ∷ pos 0 ∷ pos 5 ∷ less 3 ∷ less 3 ∷ []
+
+-- a block with the dead mark at place 2
+abbrev marked : List ℤ
+marked = pos 0 ∷ pos 5 ∷ less 32768 ∷ zeros 5
+
+-- the numbers of a fresh record, of those after the first block and after the first frame back, and numbers that are no record's
+abbrev fresh : List ℤ
+fresh = numbers 8 0 0 (zeros 64)
+
+abbrev forward1 : List ℤ
+forward1 = numbers 8 1 0 (less 10 ∷ zeros 63)
+
+abbrev back1 : List ℤ
+back1 = numbers 8 1 0 (zeros 3 ++ pos 100 ∷ zeros 60)
+
+abbrev damaged : List ℤ
+damaged = numbers 8 0 2 (zeros 64)
+
+-- ---- which numbers are a record's: 67, the width and the count from 0 up, 0 or 1
+records : Said {A = Bool}
+    ((isRecord fresh, true)
+    ∷ (isRecord (numbers 9 70000 1 (ones 64)), true)
+    ∷ (isRecord (numbers 8 0 0 (zeros 63)), false)
+    ∷ (isRecord (numbers 8 0 0 (zeros 65)), false)
+    ∷ (isRecord (less 8 ∷ pos 0 ∷ zeros 65), false)
+    ∷ (isRecord (pos 8 ∷ less 1 ∷ zeros 65), false)
+    ∷ (isRecord (pos 8 ∷ pos 0 ∷ less 1 ∷ zeros 64), false)
+    ∷ (isRecord damaged, false)
+    ∷ [])
+unfolding isRecord every
+records = refl
+
+-- ---- the record of numbers, and the numbers of a record
+unpacked-given : Said {A = Run}
+    ((unpacked (numbers 32 7 1 (less 10 ∷ zeros 63)), recordOf 32 7 (less 10 ∷ zeros 63) true)
+    ∷ (unpacked forward1, recordOf 8 1 (less 10 ∷ zeros 63) false)
+    ∷ (unpacked damaged, recordOf 0 0 (zeros 64) false)
+    ∷ [])
+unfolding unpacked isRecord every opened filled
+unpacked-given = refl
+
+packed-given : packed (recordOf 32 7 (less 10 ∷ zeros 63) true) ∷ packed (recordOf 8 1 (ones 64) false) ∷ [] ≡ numbers 32 7 1 (less 10 ∷ zeros 63) ∷ numbers 8 1 0 (ones 64) ∷ []
+unfolding packed
+packed-given = refl
+
+-- ---- a fresh start: 1 before 2, and a refused one packed where there is room
+start-given : Said {A = (ℕ × ℕ) × List ℤ}
+    ((lappedStart 8 (ones 67), ((0, 0), fresh))
+    ∷ (lappedStart 9 (ones 67), ((1, 0), zeros 67))
+    ∷ (lappedStart 9 (ones 66), ((1, 0), ones 66))
+    ∷ (lappedStart 8 (ones 66), ((2, 0), ones 66))
+    ∷ (lappedStart 8 (ones 68), ((2, 0), ones 68))
+    ∷ [])
+unfolding lappedStart started packed opened filled halfWidth byWidth
+start-given = refl
+
+-- ---- forward: 2 and 8 leave the numbers and the output; a block; 7, and the finish
+forward-given : Said {A = Given}
+    ((lappedTake damaged sample output, ((2, 0), damaged, output))
+    ∷ (lappedTake fresh marked output, ((8, 2), fresh, output))
+    ∷ (lappedTake fresh sample output, ((0, 0), forward1, one))
+    ∷ (lappedFinish forward1 (ones 7), ((7, 0), forward1, ones 7))
+    ∷ (lappedFinish forward1 output, ((0, 0), numbers 8 1 1 (zeros 64), two))
+    ∷ [])
+unfolding lappedTake lappedFinish handed kept packed unpacked isRecord byWidth halfWidth halfTurn reflected minus signed sines halfTangents halfTangents8 secants secants8 cosineOf sineOf halfTangentOf secantOf round floorDiv tab sum rootLog tangent sine cosine oddOf secant alternate tangentAmount sineAmount rotatedA rotatedB lower held topOf bottomOf amount1 amount2 amount3 stage1 stage2 stage3 stage4 stage5 stages frame first beyond ask askEach nothing inside every sound admitted filled opened advanced closed frameOn takenIn taken ended dead
+forward-given = refl
+
+-- ---- back: 2 and 11 leave the numbers and the output; two frames; 5 and 11, and the finish
+back-given : Said {A = Given}
+    ((lappedBackTake damaged one output, ((2, 0), damaged, output))
+    ∷ (lappedBackTake fresh two output, ((11, 4), fresh, output))
+    ∷ (lappedBackTake fresh one output, ((0, 0), back1, output))
+    ∷ (lappedBackTake back1 two output, ((0, 0), numbers 8 2 0 (zeros 64), sample))
+    ∷ (lappedBackFinish fresh, ((5, 0), fresh, []))
+    ∷ (lappedBackFinish back1, ((11, 3), back1, []))
+    ∷ (lappedBackFinish (numbers 8 2 0 (zeros 64)), ((0, 0), numbers 8 2 1 (zeros 64), []))
+    ∷ [])
+unfolding lappedBackTake lappedBackFinish handed kept packed unpacked isRecord byWidth halfWidth halfTurn reflected minus signed sines halfTangents halfTangents8 secants secants8 cosineOf sineOf halfTangentOf secantOf round floorDiv tab sum rootLog tangent sine cosine oddOf secant alternate tangentAmount sineAmount unrotatedA unrotatedB unfolded amount1 amount2 amount3 unstage1 unstage2 unstage3 unstage4 unstage5 interleaved unstages first beyond ask askEach nothing inside every sound admitted filled opened closed framed blockOn firstUpper firstFrame laterFrame unfoldedIn undoneIn takenBack firstHeld endedBack
+back-given = refl

@@ -1,0 +1,98 @@
+// The run record as 67 numbers: the width, the count, whether it is finished, and the held values.
+ghost use mathlib.Core.Path.{_≡_};
+ghost use mathlib.Core.Bool.{true};
+ghost use Prim.Native.Nat.{_<_};
+ghost use lib.IntN.{pos};
+ghost use lib.ListN.{length, drop, set};
+ghost use Rattle.integers.specs.Places.{at};
+ghost use Rattle.runs.specs.Answers.{told};
+ghost use Rattle.runs.specs.Record.{recordOf, nextCount};
+ghost use Rattle.c_record.specs.Record.{isRecord, packed, unpacked};
+ghost use Rattle.c_record.specs.Ready.{Packable};
+use runs::answer::Answer;
+use runs::record;
+use runs::record::Run;
+
+pub struct Head {
+    pub width: usize,
+    pub count: usize,
+    pub finished: bool,
+}
+
+fn copy(x: &[i64], out: &mut [i64])
+    requires { ⌜ length (now x) ≡ length (now out) ⌝ }
+    ensures { λ _. ⌜ now (out .exit) ≡ now (x .entry) ⌝ }
+{
+    let mut i = 0;
+    while i < out.len() {
+        out[i] = x[i];
+        i += 1;
+    }
+}
+
+pub fn is_record(numbers: &[i64]) -> bool
+    ensures { λ r. ⌜ r ≡ isRecord (now (numbers .entry)) ⌝ }
+{
+    if numbers.len() != 67 {
+        return false;
+    }
+    if numbers[0] < 0 {
+        return false;
+    }
+    if numbers[1] < 0 {
+        return false;
+    }
+    if numbers[2] < 0 {
+        return false;
+    }
+    numbers[2] < 2
+}
+
+// The numbers before the held values.
+pub fn front(numbers: &[i64]) -> Head
+    requires { ⌜ isRecord (now numbers) ≡ true ⌝ }
+    ensures { λ r. ⌜ recordOf (r .width) (r .count) (drop 3 (now (numbers .entry))) (r .finished) ≡ unpacked (now (numbers .entry)) ⌝ }
+    ensures { λ r. ⌜ at (now (numbers .entry)) 1 ≡ pos (r .count) ⌝ }
+{
+    Head {
+        width: numbers[0] as usize,
+        count: numbers[1] as usize,
+        finished: numbers[2] == 1,
+    }
+}
+
+// The count of a record in its place, after a call that gave this answer. A refused call stores nothing.
+pub fn store_count(count: usize, answer: Answer, numbers: &mut [i64])
+    requires { ⌜ (told answer .0 ≡ 0 → count < 65537) ⌝ }
+    requires { ⌜ (length (now numbers) ≡ 67) × (at (now numbers) 1 ≡ pos count) ⌝ }
+    ensures { λ _. ⌜ now (numbers .exit) ≡ set (now (numbers .entry)) 1 (pos (nextCount (told answer .0) count)) ⌝ }
+{
+    if runs::answer::number(answer) != 0 {
+        return;
+    }
+    numbers[1] = (count + 1) as i64;
+}
+
+// Of numbers that are no record, one of width 0.
+pub fn unpack(numbers: &[i64]) -> Run
+    ensures { λ r. ⌜ r ≡ unpacked (now (numbers .entry)) ⌝ }
+{
+    let mut held = record::nothing_held();
+    if !is_record(numbers) {
+        return record::make(0, 0, held, false);
+    }
+    copy(&numbers[3..], &mut held);
+    let head = front(numbers);
+    record::make(head.width, head.count, held, head.finished)
+}
+
+pub fn pack(run: Run, numbers: &mut [i64])
+    requires { ⌜ Packable run (now numbers) ⌝ }
+    ensures { λ _. ⌜ now (numbers .exit) ≡ packed run ⌝ }
+{
+    let held = run.held;
+    numbers[0] = run.width as i64;
+    numbers[1] = run.count as i64;
+    numbers[2] = run.finished as i64;
+    copy(&held, &mut numbers[3..]);
+}
