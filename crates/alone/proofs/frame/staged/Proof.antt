@@ -85,11 +85,11 @@ staged-spec =
     widen-requires
     (λ c κs. search needs)
     (λ c. search needs)
-    (λ c. search needs)
+    (λ c. c .before .before .before .before .before .work .given)
     returns
     enum-told
     alone-requires
     narrow-requires
-    (λ c. search needs)
-    (λ c. search needs)
+    (λ c. c .before .before .before .before .work2 .given ∙ c .before .before .before .before .before .before .before .before .before .before .before .work .given)
+    (λ c. c .frame .given)
     returns-2)

@@ -105,16 +105,16 @@ unstaged-spec =
     widen-requires
     (λ c κs. search needs)
     (λ c. search needs)
-    (λ c. search needs)
+    (λ c. c .before .before .before .before .before .work .given)
     returns
     enum-told
     alone-requires
     (λ c κs. search needs)
     (λ c. search needs)
-    (λ c. search needs)
+    (λ c. c .before .before .before .before .before .work2 .given ∙ c .before .before .before .before .before .before .before .before .before .before .before .before .work .given)
     returns-2
     (λ c. search needs)
     narrow-requires
-    (λ c. search needs)
-    (λ c. search needs)
+    (λ c. c .before .before .before .before .before .before .before .before .work2 .given ∙ c .before .before .before .before .before .before .before .before .before .before .before .before .before .before .before .work .given)
+    (λ c. c .folded .given)
     returns-3)

@@ -131,5 +131,5 @@ alone-spec =
     (λ c. search needs)
     (λ c. search needs)
     either-way-requires
-    (λ c. search needs)
+    (λ c. c .before .before .before .before .out .given)
     (λ c. search needs))

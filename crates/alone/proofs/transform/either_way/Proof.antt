@@ -43,16 +43,16 @@ either-way-spec =
     tie.close
     (tie.spec
     unstages-requires
-    (λ c. search needs)
-    (λ c. search needs)
-    (λ c. search needs)
-    (λ c. search needs)
-    (λ c. search needs)
+    (λ c. c .before .before .before .before .out .given)
+    (λ c. c .before .before .before .top .given)
+    (λ c. c .before .before .bottom .given)
+    (λ c. c .before .y .given)
+    (λ c. c .z .given)
     returns
     stages-requires
-    (λ c. search needs)
-    (λ c. search needs)
-    (λ c. search needs)
-    (λ c. search needs)
-    (λ c. search needs)
+    (λ c. c .before .before .before .before .out2 .given)
+    (λ c. c .before .before .before .top2 .given)
+    (λ c. c .before .before .bottom2 .given)
+    (λ c. c .before .y2 .given)
+    (λ c. c .z2 .given)
     returns-2)

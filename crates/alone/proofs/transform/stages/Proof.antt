@@ -170,8 +170,8 @@ stages-spec =
     (λ c. search needs)
     copy-requires-2
     (λ c. search needs)
-    (λ c. search needs)
-    (λ c. search needs)
-    (λ c. search needs)
-    (λ c. search needs)
+    (λ c. c .before .before .before .before .before .before .before .before .before .before .before .top2 .given ∙ c .before .before .before .before .before .before .before .before .before .before .before .before .before .before .before .before .before .before .before .before .top .given)
+    (λ c. c .before .before .before .before .before .before .before .before .before .before .bottom2 .given ∙ c .before .before .before .before .before .before .before .before .before .before .before .before .before .before .before .before .before .bottom .given)
+    (λ c. c .before .before .before .before .before .before .before .before .before .y .given)
+    (λ c. c .before .before .before .before .before .before .before .before .z .given)
     returns)

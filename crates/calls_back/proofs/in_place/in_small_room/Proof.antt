@@ -139,6 +139,6 @@ in-small-room-spec =
     (λ c. search needs)
     (λ c. search needs)
     undo-requires
-    (λ c. search needs)
-    (λ c. search needs)
+    (λ c. c .before .before .before .before .before .before .before .held .given)
+    (λ c. c .before .before .before .before .before .before .block .given)
     (λ c. search needs))

@@ -120,6 +120,6 @@ in-small-room-spec =
     (λ c. search needs)
     (λ c. search needs)
     step-requires
-    (λ c. search needs)
-    (λ c. search needs)
+    (λ c. c .before .before .before .before .before .held .given)
+    (λ c. c .before .before .before .before .frame .given)
     (λ c. search needs))
