@@ -1,0 +1,18 @@
+-- What the code answers, as the definitions give it.
+use mathlib.Core.Path.{_≡_, ap}
+use mathlib.Core.List.{List, [], _∷_, _++_}
+use Prim.Native.Nat.{ℕ}
+use lib.ListN.{take}
+use Rattle.text_runs.specs.Lines.{lineFeed, refusal}
+use Rattle.text_runs.specs.declared.state.State.{State}
+use Rattle.text_runs.specs.declared.state.Phase.the-variants.{Over}
+use Rattle.text_runs.specs.State.{given, inPhase, lineNumber, refused}
+
+pub given-text : (s : State) (n : ℕ) (text after : List ℕ) → take n after ≡ text → given (record { state = s; text = after; length = n }) ≡ (s, text)
+unfolding given
+given-text s n text after e = ap (λ (t : List ℕ). (s, t)) e
+
+pub refused-by : (s : State) (number line place : ℕ) → line ≡ lineNumber (s .phase) (s .run)
+    → (record { way = s .way; phase = Over; run = s .run }, refusal number line place ++ (lineFeed ∷ [])) ≡ refused s (number, place)
+unfolding refused inPhase
+refused-by s number line place e = ap (λ n. (record { way = s .way; phase = Over; run = s .run }, refusal number n place ++ (lineFeed ∷ []))) e
