@@ -1,11 +1,10 @@
 -- What one line gives, as the code decides it.
 use mathlib.Core.Path.{_≡_, refl, ap, _∙_}
-use mathlib.Core.Bool.{Bool, true, false, cond}
+use mathlib.Core.Bool.{Bool, true, false}
 use mathlib.Core.List.{List, []}
 use Prim.Native.Nat.{ℕ, suc, _≤_, min}
 use native.Mathlib.Omega.{arith}
-use borrow.Author.Tests.{leb-true, ltb-true, eq-eqb, ne-eqb}
-use lib.Dec.{eqb}
+use borrow.Author.Tests.{leb-true, ltb-true}
 use lib.IntN.{ℤ}
 use lib.ListN.{take}
 use Rattle.runs.specs.declared.record.Run.{Run}
@@ -21,22 +20,10 @@ use Rattle.text_runs.specs.declared.state.Way.{Way}
 use Rattle.text_runs.specs.declared.state.State.{State}
 use Rattle.text_runs.specs.declared.state.Way.the-variants.{Forward, Back}
 use Rattle.text_runs.specs.declared.state.Phase.the-variants.{Ended}
-use Rattle.text_runs.specs.State.{Given, inPhase}
+use Rattle.text_runs.specs.State.{inPhase}
 use Rattle.text_runs.specs.Way.{output, endedBy}
 use Rattle.text_state.specs.Own.Closing.{Closing}
 use Rattle.text_runs.specs.Line.{rowTaken, betweenTaken}
-
--- ---- what a call of the code gives
-pub told-pair : (answer : ℕ × ℕ) {a b : ℕ} → a ≡ answer .0 → b ≡ answer .1 → (a, b) ≡ answer
-told-pair (n, m) p q = rw (p, q)
-
--- ---- an answer's number decides
-module _ (n : ℕ) (yes no : Given) where
-  pub works : n ≡ 0 → yes ≡ cond (eqb n 0) yes no
-  works e = rw (eq-eqb n 0 e)
-
-  pub works-not : (n ≡ 0 → ⊥) → no ≡ cond (eqb n 0) yes no
-  works-not e = rw (ne-eqb n 0 e)
 
 -- ---- a finish that works
 module _ (n : ℕ) (run : Run) (out : List ℤ) (next : Gate.Given) where

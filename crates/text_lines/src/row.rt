@@ -2,19 +2,16 @@
 ghost use mathlib.Core.Path.{_≡_};
 ghost use Prim.Native.Nat.{_≤_, min};
 ghost use lib.ListN.{length};
-ghost use Rattle.runs.specs.Answers.{told};
 ghost use Rattle.runs.specs.Record.{zeros};
 ghost use Rattle.text_runs.specs.Lines.{same, endLine, numbersIn};
 ghost use Rattle.text_runs.specs.State.{given};
 ghost use Rattle.text_runs.specs.Way.{takenBy, endedBy, output};
-ghost use Rattle.text_state.specs.Own.Closing.{Closing};
 ghost use Rattle.text_runs.specs.Line.{rowGiven, rowTaken, betweenTaken, finishGiven};
 use crate::way;
 use decimal::compare;
 use decimal::print;
-use decimal::read::Fields;
 use decimal::read;
-use runs::record::Outcome;
+use decimal::read::Fields;
 use text_runs::state::Phase;
 use text_runs::state::Printed;
 use text_runs::state::State;
@@ -34,33 +31,6 @@ fn room() -> [i32; 128]
     [0; 128]
 }
 
-// What is printed for a call that took a block or frame, or for its refusal.
-fn given_row(state: State, outcome: Outcome, out: &[i32]) -> Printed
-    requires { ⌜ length (now out) ≤ 128 ⌝ }
-    ensures { λ r. ⌜ given r ≡ rowGiven state (told (outcome .answer), outcome .run, now (out .entry)) ⌝ }
-    ensures { λ r. ⌜ r .length ≤ 2048 ⌝ }
-{
-    let answer = outcome.answer;
-    let number = runs::answer::number(answer);
-    if number != 0 {
-        return refuse::by(state, number, runs::answer::place(answer));
-    }
-    let way = state.way;
-    let before = state.run;
-    let run = outcome.run;
-    let mut text = [0u8; 2048];
-    let length = lines::shown(way, before, out, &mut text);
-    Printed {
-        state: State {
-            way: way,
-            phase: Phase::Between,
-            run: run,
-        },
-        text: text,
-        length: length,
-    }
-}
-
 fn take_numbers(state: State, numbers: &[i32]) -> Printed
     ensures { λ r. ⌜ given r ≡ rowGiven state (takenBy (state .way) (state .run) (now (numbers .entry)) (output (state .run))) ⌝ }
     ensures { λ r. ⌜ r .length ≤ 2048 ⌝ }
@@ -70,7 +40,7 @@ fn take_numbers(state: State, numbers: &[i32]) -> Printed
     let n = output_length(run.width);
     let mut out = room();
     let outcome = way::take(way, run, numbers, &mut out[..n]);
-    given_row(state, outcome, &out[..n])
+    lines::given_row(state, outcome, &out[..n])
 }
 
 // A line of 2,048 bytes has at most 1,024 numbers.
@@ -112,34 +82,6 @@ pub fn take(state: State, line: &[u8]) -> Printed
     take_row(state, line)
 }
 
-// What is printed for a finish that worked, or for its refusal.
-fn given_last(state: State, outcome: Outcome, out: &[i32]) -> Printed
-    requires { ⌜ length (now out) ≤ 128 ⌝ }
-    requires { ⌜ (told (outcome .answer) .0 ≡ 0 → Closing (state .way) (state .run .count)) ⌝ }
-    ensures { λ r. ⌜ given r ≡ finishGiven state (told (outcome .answer), outcome .run, now (out .entry)) ⌝ }
-    ensures { λ r. ⌜ r .length ≤ 2048 ⌝ }
-{
-    let answer = outcome.answer;
-    let number = runs::answer::number(answer);
-    if number != 0 {
-        return refuse::by(state, number, runs::answer::place(answer));
-    }
-    let way = state.way;
-    let before = state.run;
-    let run = outcome.run;
-    let mut text = [0u8; 2048];
-    let length = lines::shown_last(way, before, out, &mut text);
-    Printed {
-        state: State {
-            way: way,
-            phase: Phase::Over,
-            run: run,
-        },
-        text: text,
-        length: length,
-    }
-}
-
 // The finish, once the input has ended.
 pub fn finish(state: State) -> Printed
     ensures { λ r. ⌜ given r ≡ finishGiven state (endedBy (state .way) (state .run) (output (state .run))) ⌝ }
@@ -150,5 +92,5 @@ pub fn finish(state: State) -> Printed
     let n = output_length(run.width);
     let mut out = room();
     let outcome = way::finish(way, run, &mut out[..n]);
-    given_last(state, outcome, &out[..n])
+    lines::given_last(state, outcome, &out[..n])
 }

@@ -13,8 +13,7 @@ use Rattle.decimal.proofs.PutLaws.{put-then}
 use Rattle.text_runs.specs.declared.state.Phase.the-variants.{Between}
 use Rattle.text_runs.specs.State.{withRun, refused}
 use Rattle.text_runs.specs.Line.{widthStarted}
-use Rattle.text_state.proofs.GivenLaws.{given-text}
-use Rattle.text_lines.proofs.StepLaws.{told-pair, works, works-not}
+use Rattle.text_state.proofs.GivenLaws.{given-text, told-pair, works, works-not}
 use Rattle.text_lines.proofs.width.start.Statement.{statement}
 use Rattle.text_lines.proofs.width.start.Tie as tie
 
