@@ -1,5 +1,5 @@
 // Frames on standard input to readings on standard output.
-use text::state::Way;
+use text_runs::state::Way;
 
 fn main() {
     stream::run(Way::Back, 0, 1);

@@ -1,9 +1,9 @@
 // The numbers of a line.
 ghost use Prim.Native.Nat.{_+_, _≤_};
 ghost use lib.ListN.{length};
-use lines::read;
-use lines::read::Field;
-use lines::search;
+use decimal::read;
+use decimal::search;
+use text_runs::number::Field;
 
 // Where a byte ends a part of a text.
 pub fn end(text: &[u8], from: usize, byte: u8) -> usize

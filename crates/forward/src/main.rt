@@ -1,5 +1,5 @@
 // Readings on standard input to frames on standard output.
-use text::state::Way;
+use text_runs::state::Way;
 
 fn main() {
     stream::run(Way::Forward, 0, 1);

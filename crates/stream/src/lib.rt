@@ -4,9 +4,9 @@ mod piece;
 
 ghost use Prim.Native.Nat.{_<_};
 use output::Progress;
-use text::state;
-use text::state::State;
-use text::state::Way;
+use text_runs::state::State;
+use text_runs::state::Way;
+use text_state::state;
 
 // A proved loop ends, and nothing says that an input does. The longest run has 65,539 lines, each of at most 2,049 bytes, and one line more is
 // refused: with these bytes every run is over.

@@ -3,10 +3,10 @@ ghost use mathlib.Core.Path.{_≡_};
 ghost use Prim.Native.Nat.{_≤_};
 ghost use lib.ListN.{length};
 ghost use Rattle.stream.specs.Room.{InRoom};
-use lines::print;
-use text::state::Phase;
-use text::state::Printed;
-use text::state::State;
+use decimal::print;
+use text_runs::state::Phase;
+use text_runs::state::Printed;
+use text_runs::state::State;
 
 // How far a run has come: its state, how many bytes there are of a line that no line feed has ended, and how many printed bytes wait.
 pub struct Progress {

@@ -2,11 +2,11 @@
 ghost use mathlib.Core.Path.{_≡_};
 ghost use lib.ListN.{length};
 ghost use Rattle.stream.specs.Room.{InRoom, Buffers};
-use crate::output;
 use crate::output::Progress;
-use lines::gather;
-use text::input;
-use text::state;
+use crate::output;
+use decimal::gather;
+use text_lines::input;
+use text_state::state;
 
 fn hand_on(
     output: i32,

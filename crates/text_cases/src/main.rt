@@ -1,6 +1,6 @@
 // The sample runs as text: each run's name, and then all that is printed for it.
-use lines::search;
-use text::state::Way;
+use decimal::search;
+use text_runs::state::Way;
 
 fn show(way: Way, name: &[u8]) {
     io::write_all(1, name);

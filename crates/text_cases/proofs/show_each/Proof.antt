@@ -3,7 +3,7 @@ use Prim.Native.Nat.{_-_, _≤_}
 use native.Mathlib.Omega.{arith}
 use borrow.Author.Needs.{needs}
 use lib.ListN.{length, drop, length-drop}
-use Rattle.lines.proofs.UpToLaws.{part-length}
+use Rattle.text_runs.proofs.UpToLaws.{part-length}
 use Rattle.text_cases.proofs.show_each.Statement.{statement}
 use Rattle.text_cases.proofs.show_each.Tie as tie
 

@@ -2,7 +2,7 @@
 use native.Mathlib.Omega.{arith}
 use borrow.Author.Needs.{needs}
 use lib.ListN.{drop, length-drop}
-use Rattle.lines.proofs.UpToLaws.{part-length}
+use Rattle.text_runs.proofs.UpToLaws.{part-length}
 use Rattle.cases.proofs.line.end.Statement.{statement}
 use Rattle.cases.proofs.line.end.Tie as tie
 

@@ -1,0 +1,4 @@
+-- Serves the code; no promise cites it.
+pub mod Put
+pub mod Reading
+pub mod Gathers

@@ -1,0 +1,96 @@
+// Text gathered at the start of a buffer: each function puts its bytes behind the `at` bytes that are there, and answers how many there
+// are then.
+ghost use mathlib.Core.Path.{_≡_};
+ghost use Prim.Native.Nat.{_+_, _*_, _≤_};
+ghost use lib.ListN.{length, drop};
+ghost use Rattle.text_runs.specs.Decimal.{decimal, printed};
+ghost use Rattle.text_runs.specs.Lines.{row, endLine, refusal};
+ghost use Rattle.decimal.specs.Own.Put.{Put};
+
+pub fn bytes(out: &mut [u8], at: usize, text: &[u8]) -> usize
+    requires { ⌜ at + length (now text) ≤ length (now out) ⌝ }
+    ensures { λ r. ⌜ Put at (now (out .entry)) (now (text .entry)) r (now (out .exit)) ⌝ }
+{
+    let mut i = 0;
+    while i < text.len() {
+        out[at + i] = text[i];
+        i += 1;
+    }
+    at + i
+}
+
+// The digits of n in the last places of a work array; answers where they begin.
+fn digits(n: u64, work: &mut [u8]) -> usize
+    requires { ⌜ length (now work) ≡ 20 ⌝ }
+    ensures { λ r. ⌜ (r ≤ 20) × (drop r (now (work .exit)) ≡ decimal n) ⌝ }
+{
+    let mut i = 20;
+    let mut rest = n;
+    while 9 < rest {
+        i -= 1;
+        work[i] = 48 + (rest % 10) as u8;
+        rest /= 10;
+    }
+    i -= 1;
+    work[i] = 48 + rest as u8;
+    i
+}
+
+pub fn natural(out: &mut [u8], at: usize, n: u64) -> usize
+    requires { ⌜ at + length (decimal n) ≤ length (now out) ⌝ }
+    ensures { λ r. ⌜ Put at (now (out .entry)) (decimal n) r (now (out .exit)) ⌝ }
+{
+    let mut work = [0u8; 20];
+    let from = digits(n, &mut work);
+    bytes(out, at, &work[from..])
+}
+
+pub fn number(out: &mut [u8], at: usize, x: i32) -> usize
+    requires { ⌜ at + 11 ≤ length (now out) ⌝ }
+    ensures { λ r. ⌜ Put at (now (out .entry)) (printed x) r (now (out .exit)) × (r ≤ at + 11) ⌝ }
+{
+    let wide = x as i64;
+    if wide < 0 {
+        let n = bytes(out, at, b"-");
+        return natural(out, n, (0 - wide) as u64);
+    }
+    natural(out, at, wide as u64)
+}
+
+// Numbers parted by commas.
+pub fn numbers(out: &mut [u8], at: usize, x: &[i32]) -> usize
+    requires { ⌜ at + 12 * length (now x) ≤ length (now out) ⌝ }
+    ensures { λ r. ⌜ Put at (now (out .entry)) (row (now (x .entry))) r (now (out .exit)) × (r ≤ at + 12 * length (now (x .entry))) ⌝ }
+{
+    if x.len() == 0 {
+        return at;
+    }
+    let mut n = number(out, at, x[0]);
+    let mut i = 1;
+    while i < x.len() {
+        n = bytes(out, n, b",");
+        n = number(out, n, x[i]);
+        i += 1;
+    }
+    n
+}
+
+pub fn end_line(out: &mut [u8], at: usize, count: usize) -> usize
+    requires { ⌜ at + 24 ≤ length (now out) ⌝ }
+    ensures { λ r. ⌜ Put at (now (out .entry)) (endLine count) r (now (out .exit)) × (r ≤ at + 24) ⌝ }
+{
+    let n = bytes(out, at, b"end,");
+    natural(out, n, count as u64)
+}
+
+pub fn refused(out: &mut [u8], at: usize, number: usize, line: usize, place: usize) -> usize
+    requires { ⌜ at + 70 ≤ length (now out) ⌝ }
+    ensures { λ r. ⌜ Put at (now (out .entry)) (refusal number line place) r (now (out .exit)) × (r ≤ at + 70) ⌝ }
+{
+    let a = bytes(out, at, b"refused,");
+    let b = natural(out, a, number as u64);
+    let c = bytes(out, b, b",");
+    let d = natural(out, c, line as u64);
+    let e = bytes(out, d, b",");
+    natural(out, e, place as u64)
+}

@@ -1,4 +1,0 @@
-pub mod Decimal
-pub mod Gather
-pub mod Lines
-pub mod Put

@@ -1,0 +1,67 @@
+-- `text_lines::input::take_formed` meets its contract.
+use borrow.Author.Needs.{needs}
+use mathlib.Core.Path.{sym, ap, _∙_}
+use Rattle.text_runs.specs.Line.{widthTaken, formed}
+use Rattle.text_lines.proofs.input.take_formed.Statement.{statement}
+use Rattle.text_lines.proofs.input.take_formed.Tie as tie
+
+enum-told : tie.Need-enum-told
+enum-told c = search needs
+
+number-requires : tie.Need-number-requires
+number-requires c κs = search needs
+
+take-requires : tie.Need-take-requires
+take-requires c κs = search needs
+
+enum-told-2 : tie.Need-enum-told-2
+enum-told-2 c = search needs
+
+take-requires-2 : tie.Need-take-requires-2
+take-requires-2 c κs = search needs
+
+enum-told-3 : tie.Need-enum-told-3
+enum-told-3 c = search needs
+
+bad-form-requires : tie.Need-bad-form-requires
+bad-form-requires c κs = search needs
+
+enum-told-4 : tie.Need-enum-told-4
+enum-told-4 c = search needs
+
+silent-requires : tie.Need-silent-requires
+silent-requires c κs = search needs
+
+returns : tie.Need-returns
+unfolding formed
+returns c = (c .take .ensures .0 ∙ ap (widthTaken (c .before .before .before .before .before .args .state)) (c .before .number .ensures) ∙ sym (ap (λ p. formed p (c .before .before .before .before .before .args .state) (c .before .before .before .before .before .args .line .now)) (c .before .before .enum-told .given .1)), c .take .ensures .1)
+
+returns-2 : tie.Need-returns-2
+unfolding formed
+returns-2 c = (c .take2 .ensures .0 ∙ sym (ap (λ p. formed p (c .before .before .before .before .args .state) (c .before .before .before .before .args .line .now)) (c .before .enum-told2 .given .1)), c .take2 .ensures .1)
+
+returns-3 : tie.Need-returns-3
+unfolding formed
+returns-3 c = (c .bad-form .ensures .0 ∙ sym (ap (λ p. formed p (c .before .before .before .before .args .state) (c .before .before .before .before .args .line .now)) (c .before .enum-told3 .given .1)), c .bad-form .ensures .1)
+
+returns-4 : tie.Need-returns-4
+unfolding formed
+returns-4 c = (c .silent .ensures .0 ∙ sym (ap (λ p. formed p (c .before .before .before .before .args .state) (c .before .before .before .before .args .line .now)) (c .before .enum-told4 .given .1)), c .silent .ensures .1)
+
+pub take-formed-spec : {M : Type 1} → statement M
+take-formed-spec =
+    tie.close
+    (tie.spec
+    enum-told
+    number-requires
+    take-requires
+    enum-told-2
+    take-requires-2
+    enum-told-3
+    bad-form-requires
+    enum-told-4
+    silent-requires
+    returns
+    returns-2
+    returns-3
+    returns-4)

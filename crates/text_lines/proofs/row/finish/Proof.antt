@@ -1,0 +1,73 @@
+-- `text_lines::row::finish` meets its contract.
+use borrow.Author.Needs.{needs}
+use native.Mathlib.Omega.{arith}
+use mathlib.Core.Path.{_≡_, sym, ap, _∙_}
+use mathlib.Core.List.{_++_}
+use lib.ListN.{length, take, drop, length-append}
+use lib.Seq.{length-take-le, take-at}
+use Rattle.runs.specs.Answers.{told}
+use Rattle.runs.specs.Gate.{Given}
+use Rattle.text_runs.specs.Way.{endedBy}
+use Rattle.text_runs.specs.Line.{finishGiven}
+use Rattle.text_lines.proofs.StepLaws.{output-room, closing}
+use Rattle.text_lines.proofs.row.finish.Statement.{statement}
+use Rattle.text_lines.proofs.row.finish.Tie as tie
+
+-- the part that is lent, and afterwards
+full : (c : tie.After-room) → length (take (c .before .output-length .result) (c .room .result)) ≡ c .before .output-length .result
+full c = length-take-le _ _ (omega (arith, c .before .output-length .ensures .1, ap length (c .room .ensures)))
+
+after : (c : tie.After-out2) → length (c .before .finish .last .1 .1 .0) ≡ c .before .before .before .before .output-length .result
+after c = c .out2 .given ∙ full (c .before .before .before)
+
+outputs : (c : tie.After-out2) → take (c .before .before .before .before .output-length .result) (c .before .finish .last .1 .1 .0 ++ drop (c .before .before .before .before .output-length .result) (c .before .before .before .room .result)) ≡ c .before .finish .last .1 .1 .0
+outputs c = take-at _ _ _ (after c)
+
+output-length-requires : tie.Need-output-length-requires
+output-length-requires c κs = search needs
+
+room-requires : tie.Need-room-requires
+room-requires c κs = search needs
+
+array-borrow-prefix-out : tie.Need-array-borrow-prefix-out
+array-borrow-prefix-out c = search needs
+
+slice-aggregate-finish : tie.Need-slice-aggregate-finish
+slice-aggregate-finish c = sym (full (c .before))
+
+finish-requires : tie.Need-finish-requires
+finish-requires c κs = search needs
+
+array-share-prefix-out : tie.Need-array-share-prefix-out
+array-share-prefix-out c = omega (arith, after c, length-append (c .before .finish .last .1 .1 .0) (drop (c .before .before .before .before .output-length .result) (c .before .before .before .room .result)))
+
+slice-aggregate-given-last : tie.Need-slice-aggregate-given-last
+slice-aggregate-given-last c = sym (ap length (outputs (c .before)) ∙ after (c .before))
+
+given-last-requires : tie.Need-given-last-requires
+given-last-requires c κs = (omega (arith, ap length (outputs (c .before)), after (c .before), c .before .before .before .before .before .output-length .ensures .1), λ e. closing (c .before .before .before .before .before .before .before .args .state .way) (c .before .before .before .before .before .before .before .args .state .run) _ (ap (λ (g : Given). g .0 .0) (sym (c .before .before .finish .ensures)) ∙ e))
+
+returns : tie.Need-returns
+returns c =
+    let a = c .before .before in
+    let s = c .before .before .before .before .before .before .before .before .args in
+    let room = output-room (s .state .run) (a .before .before .before .before .output-length .result) (a .before .before .before .room .result) (a .before .before .before .before .output-length .ensures .0) (a .before .before .before .before .output-length .ensures .1) (a .before .before .before .room .ensures) in (
+      c .given-last .ensures .0
+          ∙ ap (λ xs. finishGiven (s .state) (told (a .before .finish .result .answer), a .before .finish .result .run, xs)) (outputs a)
+          ∙ ap (finishGiven (s .state)) (a .before .finish .ensures ∙ ap (endedBy (s .state .way) (s .state .run)) room),
+      c .given-last .ensures .1,
+    )
+
+pub finish-spec : {M : Type 1} → statement M
+finish-spec =
+    tie.close
+    (tie.spec
+    output-length-requires
+    room-requires
+    array-borrow-prefix-out
+    slice-aggregate-finish
+    finish-requires
+    array-share-prefix-out
+    slice-aggregate-given-last
+    given-last-requires
+    returns)

@@ -1,0 +1,45 @@
+-- `text_lines::way::take` meets its contract.
+use borrow.Author.Needs.{needs}
+use mathlib.Core.Path.{sym, ap, _∙_}
+use Rattle.text_runs.specs.Way.{takenBy}
+use Rattle.text_lines.proofs.way.take.Statement.{statement}
+use Rattle.text_lines.proofs.way.take.Tie as tie
+
+enum-told : tie.Need-enum-told
+enum-told c = search needs
+
+take-requires : tie.Need-take-requires
+take-requires c κs = search needs
+
+enum-told-2 : tie.Need-enum-told-2
+enum-told-2 c = search needs
+
+take-requires-2 : tie.Need-take-requires-2
+take-requires-2 c κs = search needs
+
+same-length : tie.Need-same-length
+same-length c = search needs
+
+returns : tie.Need-returns
+unfolding takenBy
+returns c = c .before .take .ensures ∙ sym (ap (λ w. takenBy w (c .before .before .before .before .before .args .run) (c .before .before .before .before .before .args .numbers .now) (c .before .before .before .before .before .args .out .now)) (c .before .before .before .enum-told .given .1))
+
+same-length-2 : tie.Need-same-length-2
+same-length-2 c = search needs
+
+returns-2 : tie.Need-returns-2
+unfolding takenBy
+returns-2 c = c .before .take2 .ensures ∙ sym (ap (λ w. takenBy w (c .before .before .before .before .before .args .run) (c .before .before .before .before .before .args .numbers .now) (c .before .before .before .before .before .args .out .now)) (c .before .before .before .enum-told2 .given .1))
+
+pub take-spec : {M : Type 1} → statement M
+take-spec =
+    tie.close
+    (tie.spec
+    enum-told
+    take-requires
+    enum-told-2
+    take-requires-2
+    same-length
+    returns
+    same-length-2
+    returns-2)

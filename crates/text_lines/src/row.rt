@@ -1,0 +1,96 @@
+// A line between the width and the end line: a block or a frame, or the end line.
+ghost use mathlib.Core.Path.{_≡_};
+ghost use Prim.Native.Nat.{_≤_, min};
+ghost use lib.ListN.{length};
+ghost use Rattle.runs.specs.Record.{zeros};
+ghost use Rattle.text_runs.specs.Lines.{same, endLine, numbersIn};
+ghost use Rattle.text_runs.specs.State.{given};
+ghost use Rattle.text_runs.specs.Way.{takenBy, endedBy, output};
+ghost use Rattle.text_runs.specs.Line.{rowGiven, rowTaken, betweenTaken, finishGiven};
+use crate::way;
+use decimal::compare;
+use decimal::print;
+use decimal::read;
+use decimal::read::Fields;
+use text_runs::state::Phase;
+use text_runs::state::Printed;
+use text_runs::state::State;
+use text_state::lines;
+use text_state::refuse;
+
+// No run is wider than 128.
+fn output_length(width: usize) -> usize
+    ensures { λ r. ⌜ (r ≡ min width 128) × (r ≤ 128) ⌝ }
+{
+    if width < 128 { width } else { 128 }
+}
+
+fn room() -> [i32; 128]
+    ensures { λ r. ⌜ r ≡ zeros 128 ⌝ }
+{
+    [0; 128]
+}
+
+fn take_numbers(state: State, numbers: &[i32]) -> Printed
+    ensures { λ r. ⌜ given r ≡ rowGiven state (takenBy (state .way) (state .run) (now (numbers .entry)) (output (state .run))) ⌝ }
+    ensures { λ r. ⌜ r .length ≤ 2048 ⌝ }
+{
+    let way = state.way;
+    let run = state.run;
+    let n = output_length(run.width);
+    let mut out = room();
+    let outcome = way::take(way, run, numbers, &mut out[..n]);
+    lines::given_row(state, outcome, &out[..n])
+}
+
+// A line of 2,048 bytes has at most 1,024 numbers.
+fn take_row(state: State, line: &[u8]) -> Printed
+    requires { ⌜ length (now line) ≤ 2048 ⌝ }
+    ensures { λ r. ⌜ given r ≡ rowTaken state (numbersIn (now (line .entry))) ⌝ }
+    ensures { λ r. ⌜ r .length ≤ 2048 ⌝ }
+{
+    let mut numbers = [0i32; 1024];
+    let fields = read::numbers(line, &mut numbers);
+    let Fields::Numbers(n) = fields else {
+        return refuse::bad_form(state);
+    };
+    take_numbers(state, &numbers[..n])
+}
+
+fn is_end(line: &[u8], count: usize) -> bool
+    ensures { λ r. ⌜ r ≡ same (now (line .entry)) (endLine count) ⌝ }
+{
+    let mut end = [0u8; 24];
+    let n = print::end_line(&mut end, 0, count);
+    compare::same(line, &end[..n])
+}
+
+pub fn take(state: State, line: &[u8]) -> Printed
+    requires { ⌜ length (now line) ≤ 2048 ⌝ }
+    ensures { λ r. ⌜ given r ≡ betweenTaken state (now (line .entry)) ⌝ }
+    ensures { λ r. ⌜ r .length ≤ 2048 ⌝ }
+{
+    let way = state.way;
+    let run = state.run;
+    if is_end(line, run.count) {
+        return refuse::silent(State {
+            way: way,
+            phase: Phase::Ended,
+            run: run,
+        });
+    }
+    take_row(state, line)
+}
+
+// The finish, once the input has ended.
+pub fn finish(state: State) -> Printed
+    ensures { λ r. ⌜ given r ≡ finishGiven state (endedBy (state .way) (state .run) (output (state .run))) ⌝ }
+    ensures { λ r. ⌜ r .length ≤ 2048 ⌝ }
+{
+    let way = state.way;
+    let run = state.run;
+    let n = output_length(run.width);
+    let mut out = room();
+    let outcome = way::finish(way, run, &mut out[..n]);
+    lines::given_last(state, outcome, &out[..n])
+}

@@ -1,0 +1,51 @@
+// The first line: the width.
+ghost use mathlib.Core.Path.{_≡_};
+ghost use Prim.Native.Nat.{_≤_};
+ghost use Rattle.text_runs.specs.State.{given};
+ghost use Rattle.text_runs.specs.Line.{widthStarted, widthTaken};
+use decimal::print;
+use calls_forward::forward;
+use text_runs::number::Field;
+use text_runs::state::Phase;
+use text_runs::state::Printed;
+use text_runs::state::State;
+use text_state::refuse;
+
+fn start(state: State, width: usize) -> Printed
+    ensures { λ r. ⌜ given r ≡ widthStarted state width ⌝ }
+    ensures { λ r. ⌜ r .length ≤ 2048 ⌝ }
+{
+    let begun = forward::start(width);
+    let answer = begun.answer;
+    let number = runs::answer::number(answer);
+    if number != 0 {
+        return refuse::by(state, number, runs::answer::place(answer));
+    }
+    let way = state.way;
+    let run = begun.run;
+    let mut text = [0u8; 2048];
+    let n = print::natural(&mut text, 0, width as u64);
+    let length = print::bytes(&mut text, n, b"\n");
+    Printed {
+        state: State {
+            way: way,
+            phase: Phase::Between,
+            run: run,
+        },
+        text: text,
+        length: length,
+    }
+}
+
+pub fn take(state: State, field: Field) -> Printed
+    ensures { λ r. ⌜ given r ≡ widthTaken state field ⌝ }
+    ensures { λ r. ⌜ r .length ≤ 2048 ⌝ }
+{
+    let Field::Number(width) = field else {
+        return refuse::bad_form(state);
+    };
+    if width < 0 {
+        return refuse::by(state, 1, 0);
+    }
+    start(state, width as usize)
+}

@@ -1,0 +1,13 @@
+pub mod DecimalLaws
+pub mod TextLaws
+pub mod UpToLaws
+pub mod FieldLaws
+pub mod SizeLaws
+pub mod RowLaws
+pub mod Inverse
+pub mod LineLaws
+pub mod OneLine
+pub mod RunRows
+pub mod ForwardRows
+pub mod BackRows
+pub mod TextReturn

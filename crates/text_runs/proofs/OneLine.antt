@@ -1,0 +1,86 @@
+-- One line of a text run that is taken, on either way: the width, a row, the end line; and the end of the input.
+use mathlib.Core.Path.{_≡_, _∙_}
+use mathlib.Core.Bool.{true}
+use mathlib.Core.List.{List, [], _∷_, _++_}
+use mathlib.Core.Option.{some}
+use Prim.Native.Nat.{ℕ, _≤_, _<_}
+use native.Mathlib.Omega.{arith}
+use borrow.Author.Tests.{le-leb, ne-eqb}
+use lib.IntN.{ℤ, pos}
+use lib.ListN.{length}
+use Rattle.tables.specs.Widths.{halfWidth}
+use Rattle.distance.specs.Statement.{IsWidth}
+use Rattle.runs.specs.declared.record.Run.{Run}
+use Rattle.runs.specs.Forward.{started}
+use Rattle.runs.proofs.RecordLaws.{width-le}
+use Rattle.text_runs.specs.Decimal.{decimal, printed, bits32, allBits}
+use Rattle.text_runs.specs.Lines.{lineFeed, row, endTag, endLine, numbersIn}
+use Rattle.text_runs.proofs.DecimalLaws.{decimal-within}
+use Rattle.text_runs.proofs.RowLaws.{row-length}
+use Rattle.text_runs.proofs.Inverse.{read-printed, read-row}
+use Rattle.text_runs.specs.declared.state.Way.{Way}
+use Rattle.text_runs.specs.declared.state.State.{State}
+use Rattle.text_runs.specs.declared.state.Phase.{Phase}
+use Rattle.text_runs.specs.declared.state.Phase.the-variants.{Between, Ended}
+use Rattle.text_runs.specs.State.{begun, inPhase, withRun}
+use Rattle.text_runs.specs.Way.{output, takenBy, endedBy, shownRow, shownLast}
+use Rattle.text_runs.specs.Line.{lineLimit, widthStarted, widthTaken, rowGiven, rowTaken, betweenTaken, formed, lineTaken, finishGiven, endIn, inputEnded}
+use Rattle.text_runs.specs.Input.{Line, printedFrom}
+use Rattle.text_runs.proofs.LineLaws.{same-itself, row-not-end}
+
+abbrev pub state : Way → Phase → Run → State
+state way phase run = record { way = way; phase = phase; run = run }
+
+-- ---- a line that is whole and not too long
+line-formed : (s : State) (bytes : List ℕ) → length bytes ≤ lineLimit → lineTaken s true bytes ≡ formed (s .phase) s bytes
+unfolding lineTaken
+line-formed s bytes h = rw (le-leb (length bytes) lineLimit h)
+
+-- ---- the width
+started-works : (N : ℕ) → IsWidth N → started N .0 .0 ≡ 0
+unfolding started
+started-works N w = rw (ne-eqb (halfWidth N) 0 (λ e. omega arith))
+
+width-taken : (way : Way) (N : ℕ) → IsWidth N → lineTaken (begun way) true (decimal N) ≡ (state way Between (started N .1), decimal N ++ lineFeed ∷ [])
+unfolding begun formed widthTaken widthStarted withRun printed bits32
+width-taken way N w =
+    line-formed (begun way) (decimal N) (omega (arith, decimal-within N))
+    ∙ rw (read-printed (pos N) (omega (arith, width-le N w)), started-works N w)
+
+pub width-printed : (way : Way) (N : ℕ) → IsWidth N → (lines : List Line)
+    → printedFrom (begun way) ((true, decimal N) ∷ lines) ≡ (decimal N ++ lineFeed ∷ []) ++ printedFrom (state way Between (started N .1)) lines
+unfolding printedFrom
+width-printed way N w lines = rw (width-taken way N w)
+
+-- ---- between, where the call works: a row,
+some-read : (xs : List ℤ) → 0 < length xs → allBits xs → numbersIn (row xs) ≡ some xs
+some-read [] p b = absurd (omega arith)
+some-read (x ∷ xs) p b = read-row x xs b
+
+module _ (way : Way) (run : Run) where
+  row-taken : (xs : List ℤ) (after : Run) (out : List ℤ) → length xs ≤ 128 → 0 < length xs → allBits xs → takenBy way run xs (output run) ≡ ((0, 0), after, out)
+      → lineTaken (state way Between run) true (row xs) ≡ (state way Between after, shownRow way run out)
+  unfolding formed betweenTaken rowTaken rowGiven withRun
+  row-taken xs after out l p b e =
+      line-formed (state way Between run) (row xs) (omega (arith, row-length xs b))
+      ∙ rw (row-not-end xs (run .count), some-read xs p b, e)
+
+  pub row-printed : (xs : List ℤ) (after : Run) (out : List ℤ) (lines : List Line) → length xs ≤ 128 → 0 < length xs → allBits xs
+      → takenBy way run xs (output run) ≡ ((0, 0), after, out)
+      → printedFrom (state way Between run) ((true, row xs) ∷ lines) ≡ shownRow way run out ++ printedFrom (state way Between after) lines
+  unfolding printedFrom
+  row-printed xs after out lines l p b e = rw (row-taken xs after out l p b e)
+
+  -- and the end line with the finish
+  end-length : length (endLine (run .count)) ≤ lineLimit
+  unfolding endLine endTag
+  end-length = omega (arith, decimal-within (run .count))
+
+  end-taken : lineTaken (state way Between run) true (endLine (run .count)) ≡ (state way Ended run, [])
+  unfolding formed betweenTaken inPhase
+  end-taken = line-formed (state way Between run) (endLine (run .count)) end-length ∙ rw (same-itself (endLine (run .count)))
+
+  pub end-printed : (after : Run) (out : List ℤ) → endedBy way run (output run) ≡ ((0, 0), after, out)
+      → printedFrom (state way Between run) ((true, endLine (run .count)) ∷ []) ≡ shownLast way run out
+  unfolding printedFrom inputEnded endIn finishGiven
+  end-printed after out e = rw (end-taken, e)

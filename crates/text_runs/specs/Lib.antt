@@ -1,0 +1,9 @@
+pub mod Decimal
+pub mod Lines
+pub mod Gather
+pub mod State
+pub mod Way
+pub mod Line
+pub mod Input
+pub mod Return
+pub mod Own

@@ -1,0 +1,81 @@
+-- One line of a text run, and the end of its input: document 01, "The text run".
+use mathlib.Core.Bool.{Bool, cond, _&&_}
+use mathlib.Core.List.{List, [], _∷_, _++_}
+use mathlib.Core.Option.{Option, none, some}
+use Prim.Native.Nat.{ℕ}
+use lib.Dec.{eqb, leb}
+use lib.IntN.{ℤ, pos, negsuc}
+use lib.ListN.{length}
+use Rattle.runs.specs.Gate as Gate
+use Rattle.runs.specs.Forward.{started}
+use Rattle.text_runs.specs.declared.number.Field.{Field}
+use Rattle.text_runs.specs.declared.number.Field.the-variants as Field
+use Rattle.text_runs.specs.Decimal.{decimal, numberIn}
+use Rattle.text_runs.specs.Lines.{lineFeed, same, endLine, numbersIn}
+use Rattle.text_runs.specs.declared.state.Phase.{Phase}
+use Rattle.text_runs.specs.declared.state.State.{State}
+use Rattle.text_runs.specs.declared.state.Phase.the-variants.{Width, Between, Ended, Over}
+use Rattle.text_runs.specs.State.{Given, inPhase, withRun, refused}
+use Rattle.text_runs.specs.Way.{output, takenBy, endedBy, shownRow, shownLast}
+
+-- "has at most 2,048 bytes"
+abbrev pub lineLimit : ℕ
+lineLimit = 2048
+
+-- "A bad form .. gives 13."
+unfoldable pub badForm : State → Given
+badForm state = refused state (13, 0)
+
+-- "Line 1 is the width."
+unfoldable pub widthStarted : State → ℕ → Given
+widthStarted state N = cond (eqb (started N .0 .0) 0) (withRun Between (started N .1) state, decimal N ++ lineFeed ∷ []) (refused state (started N .0))
+
+unfoldable pub widthTaken : State → Field → Given
+widthTaken state (Field.Number (pos N)) = widthStarted state N
+widthTaken state (Field.Number (negsuc n)) = refused state (1, 0)
+widthTaken state Field.Bad = badForm state
+
+-- "Then one line per block or frame."
+unfoldable pub rowGiven : State → Gate.Given → Given
+rowGiven state given =
+    cond (eqb (given .0 .0) 0) (withRun Between (given .1) state, shownRow (state .way) (state .run) (given .2)) (refused state (given .0))
+
+unfoldable pub rowTaken : State → Option (List ℤ) → Given
+rowTaken state none = badForm state
+rowTaken state (some xs) = rowGiven state (takenBy (state .way) (state .run) xs (output (state .run)))
+
+-- "The last line is `end,` and the count of lines between."
+unfoldable pub betweenTaken : State → List ℕ → Given
+betweenTaken state bytes = cond (same bytes (endLine (state .run .count))) (inPhase Ended state, []) (rowTaken state (numbersIn bytes))
+
+-- "left-over text by the end line, before the finish is worked"
+unfoldable pub formed : Phase → State → List ℕ → Given
+formed Width state bytes = widthTaken state (numberIn bytes)
+formed Between state bytes = betweenTaken state bytes
+formed Ended state bytes = badForm state
+formed Over state bytes = (state, [])
+
+unfoldable pub notFormed : Phase → State → Given
+notFormed Width state = badForm state
+notFormed Between state = badForm state
+notFormed Ended state = badForm state
+notFormed Over state = (state, [])
+
+-- a line, and whether it is whole: it ended in a line feed. "Form is asked before the gate for each line."
+unfoldable pub lineTaken : State → Bool → List ℕ → Given
+lineTaken state whole bytes = cond (whole && leb (length bytes) lineLimit) (formed (state .phase) state bytes) (notFormed (state .phase) state)
+
+-- ---- the end of the input
+unfoldable pub finishGiven : State → Gate.Given → Given
+finishGiven state given =
+    cond (eqb (given .0 .0) 0) (withRun Over (given .1) state, shownLast (state .way) (state .run) (given .2)) (refused state (given .0))
+
+-- "Missing text is named by the line after the last."
+unfoldable pub endIn : Phase → State → Given
+endIn Width state = badForm state
+endIn Between state = badForm state
+endIn Ended state = finishGiven state (endedBy (state .way) (state .run) (output (state .run)))
+endIn Over state = (state, [])
+
+unfoldable pub inputEnded : State → Given
+inputEnded state = endIn (state .phase) state

@@ -1,0 +1,76 @@
+-- The lines of a text run: document 01, "The text run".
+use mathlib.Core.Bool.{Bool, true, false, cond, _&&_}
+use mathlib.Core.List.{List, [], _∷_, _++_}
+use mathlib.Core.Option.{Option, none, some}
+use Prim.Native.Nat.{ℕ}
+use lib.Dec.{eqb}
+use lib.IntN.{ℤ}
+use Rattle.text_runs.specs.declared.number.Field.{Field}
+use Rattle.text_runs.specs.declared.number.Field.the-variants as Field
+use Rattle.text_runs.specs.Decimal.{decimal, printed, numberIn}
+
+abbrev pub comma : ℕ
+comma = 44
+
+abbrev pub lineFeed : ℕ
+lineFeed = 10
+
+-- "refused," and "end,"
+unfoldable pub refusedTag : List ℕ
+refusedTag = 114 ∷ 101 ∷ 102 ∷ 117 ∷ 115 ∷ 101 ∷ 100 ∷ 44 ∷ []
+
+unfoldable pub endTag : List ℕ
+endTag = 101 ∷ 110 ∷ 100 ∷ 44 ∷ []
+
+-- ---- printed
+unfoldable pub behindCommas : List ℤ → List ℕ
+behindCommas [] = []
+behindCommas (x ∷ xs) = comma ∷ printed x ++ behindCommas xs
+
+-- "fields parted by commas"
+unfoldable pub row : List ℤ → List ℕ
+row [] = []
+row (x ∷ xs) = printed x ++ behindCommas xs
+
+-- "`end,` and the count of lines between"
+unfoldable pub endLine : ℕ → List ℕ
+endLine count = endTag ++ decimal count
+
+-- "`refused,number,line,place`"
+unfoldable pub refusal : ℕ → ℕ → ℕ → List ℕ
+refusal number line place = refusedTag ++ (decimal number ++ comma ∷ (decimal line ++ comma ∷ decimal place))
+
+-- ---- read
+-- a byte in front of the first field
+unfoldable pub longer : ℕ → List (List ℕ) → List (List ℕ)
+longer b [] = (b ∷ []) ∷ []
+longer b (field ∷ rest) = (b ∷ field) ∷ rest
+
+unfoldable pub fields : List ℕ → List (List ℕ)
+fields [] = [] ∷ []
+fields (b ∷ bs) = cond (eqb b comma) ([] ∷ fields bs) (longer b (fields bs))
+
+-- the numbers of all fields, if each is one
+unfoldable pub inFront : Field → Option (List ℤ) → Option (List ℤ)
+inFront (Field.Number x) (some xs) = some (x ∷ xs)
+inFront (Field.Number x) none = none
+inFront Field.Bad rest = none
+
+unfoldable pub allNumbers : List (List ℕ) → Option (List ℤ)
+allNumbers [] = some []
+allNumbers (field ∷ rest) = inFront (numberIn field) (allNumbers rest)
+
+unfoldable pub numbersIn : List ℕ → Option (List ℤ)
+numbersIn bs = allNumbers (fields bs)
+
+-- the bytes before the first b
+unfoldable pub upTo : ℕ → List ℕ → List ℕ
+upTo b [] = []
+upTo b (c ∷ cs) = cond (eqb c b) [] (c ∷ upTo b cs)
+
+-- whether two lines are the same
+unfoldable pub same : List ℕ → List ℕ → Bool
+same [] [] = true
+same [] (y ∷ ys) = false
+same (x ∷ xs) [] = false
+same (x ∷ xs) (y ∷ ys) = eqb x y && same xs ys

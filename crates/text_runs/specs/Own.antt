@@ -1,0 +1,2 @@
+-- Serves the proofs; no promise cites it.
+pub mod Lacks

@@ -1,0 +1,3 @@
+// What is believed about text runs: numbers in decimal, lines, the state, one line, a whole input. Definitions and theorems, no code.
+pub mod number;
+pub mod state;

@@ -1,0 +1,32 @@
+-- What the code answers, as the definitions give it.
+use mathlib.Core.Path.{_≡_, ap}
+use mathlib.Core.Bool.{cond}
+use mathlib.Core.List.{List, [], _∷_, _++_}
+use Prim.Native.Nat.{ℕ}
+use borrow.Author.Tests.{eq-eqb, ne-eqb}
+use lib.Dec.{eqb}
+use lib.ListN.{take}
+use Rattle.text_runs.specs.Lines.{lineFeed, refusal}
+use Rattle.text_runs.specs.declared.state.State.{State}
+use Rattle.text_runs.specs.declared.state.Phase.the-variants.{Over}
+use Rattle.text_runs.specs.State.{Given, given, inPhase, lineNumber, refused}
+
+pub given-text : (s : State) (n : ℕ) (text after : List ℕ) → take n after ≡ text → given (record { state = s; text = after; length = n }) ≡ (s, text)
+unfolding given
+given-text s n text after e = ap (λ (t : List ℕ). (s, t)) e
+
+pub told-pair : (answer : ℕ × ℕ) {a b : ℕ} → a ≡ answer .0 → b ≡ answer .1 → (a, b) ≡ answer
+told-pair (n, m) p q = rw (p, q)
+
+pub refused-by : (s : State) (number line place : ℕ) → line ≡ lineNumber (s .phase) (s .run)
+    → (record { way = s .way; phase = Over; run = s .run }, refusal number line place ++ (lineFeed ∷ [])) ≡ refused s (number, place)
+unfolding refused inPhase
+refused-by s number line place e = ap (λ n. (record { way = s .way; phase = Over; run = s .run }, refusal number n place ++ (lineFeed ∷ []))) e
+
+-- ---- an answer's number decides
+module _ (n : ℕ) (yes no : Given) where
+  pub works : n ≡ 0 → yes ≡ cond (eqb n 0) yes no
+  works e = rw (eq-eqb n 0 e)
+
+  pub works-not : (n ≡ 0 → ⊥) → no ≡ cond (eqb n 0) yes no
+  works-not e = rw (ne-eqb n 0 e)

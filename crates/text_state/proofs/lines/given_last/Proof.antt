@@ -1,0 +1,47 @@
+-- `text_state::lines::given_last` meets its contract.
+use borrow.Author.Needs.{needs}
+use native.Mathlib.Omega.{arith}
+use mathlib.Core.Path.{sym, ap, _∙_}
+use Rattle.text_runs.specs.State.{withRun, refused}
+use Rattle.text_runs.specs.Line.{finishGiven}
+use Rattle.text_state.proofs.GivenLaws.{given-text, told-pair, works, works-not}
+use Rattle.text_state.proofs.lines.given_last.Statement.{statement}
+use Rattle.text_state.proofs.lines.given_last.Tie as tie
+
+number-requires : tie.Need-number-requires
+number-requires c κs = search needs
+
+place-requires : tie.Need-place-requires
+place-requires c κs = search needs
+
+by-requires : tie.Need-by-requires
+by-requires c κs = search needs
+
+returns : tie.Need-returns
+unfolding finishGiven
+returns c =
+    let s = c .before .before .before .before in
+    (c .by .ensures .0 ∙ ap (refused (s .args .state)) (told-pair _ (c .before .before .before .number .ensures) (c .before .place .ensures)) ∙ works-not _ _ _ (λ e. c .before .before .if1 .taken (c .before .before .before .number .ensures ∙ e)), c .by .ensures .1)
+
+slice-aggregate-shown-last : tie.Need-slice-aggregate-shown-last
+slice-aggregate-shown-last c = search needs
+
+shown-last-requires : tie.Need-shown-last-requires
+shown-last-requires c κs = let s = c .before .before .before .before .before in (omega (arith, s .pre .0), s .pre .1 (sym (c .before .before .before .before .number .ensures) ∙ c .before .before .before .if1 .left))
+
+returns-2 : tie.Need-returns-2
+unfolding finishGiven withRun
+returns-2 c =
+    (given-text _ _ _ _ (c .before .shown-last .ensures .0) ∙ works _ _ _ (sym (c .before .before .before .before .before .before .number .ensures) ∙ c .before .before .before .before .before .if1 .left), omega (arith, c .before .shown-last .ensures .1))
+
+pub given-last-spec : {M : Type 1} → statement M
+given-last-spec =
+    tie.close
+    (tie.spec
+    number-requires
+    place-requires
+    by-requires
+    returns
+    slice-aggregate-shown-last
+    shown-last-requires
+    returns-2)

@@ -1,0 +1,47 @@
+-- `text_state::lines::given_row` meets its contract.
+use borrow.Author.Needs.{needs}
+use native.Mathlib.Omega.{arith}
+use mathlib.Core.Path.{sym, ap, _∙_}
+use Rattle.text_runs.specs.State.{withRun, refused}
+use Rattle.text_runs.specs.Line.{rowGiven}
+use Rattle.text_state.proofs.GivenLaws.{given-text, told-pair, works, works-not}
+use Rattle.text_state.proofs.lines.given_row.Statement.{statement}
+use Rattle.text_state.proofs.lines.given_row.Tie as tie
+
+number-requires : tie.Need-number-requires
+number-requires c κs = search needs
+
+place-requires : tie.Need-place-requires
+place-requires c κs = search needs
+
+by-requires : tie.Need-by-requires
+by-requires c κs = search needs
+
+returns : tie.Need-returns
+unfolding rowGiven
+returns c =
+    let s = c .before .before .before .before in
+    (c .by .ensures .0 ∙ ap (refused (s .args .state)) (told-pair _ (c .before .before .before .number .ensures) (c .before .place .ensures)) ∙ works-not _ _ _ (λ e. c .before .before .if1 .taken (c .before .before .before .number .ensures ∙ e)), c .by .ensures .1)
+
+slice-aggregate-shown : tie.Need-slice-aggregate-shown
+slice-aggregate-shown c = search needs
+
+shown-requires : tie.Need-shown-requires
+shown-requires c κs = search needs
+
+returns-2 : tie.Need-returns-2
+unfolding rowGiven withRun
+returns-2 c =
+    (given-text _ _ _ _ (c .before .shown .ensures .0) ∙ works _ _ _ (sym (c .before .before .before .before .before .before .number .ensures) ∙ c .before .before .before .before .before .if1 .left), omega (arith, c .before .shown .ensures .1))
+
+pub given-row-spec : {M : Type 1} → statement M
+given-row-spec =
+    tie.close
+    (tie.spec
+    number-requires
+    place-requires
+    by-requires
+    returns
+    slice-aggregate-shown
+    shown-requires
+    returns-2)

@@ -1,0 +1,74 @@
+-- `text_state::lines::shown_last` meets its contract.
+use borrow.Author.Needs.{needs}
+use native.Mathlib.Omega.{arith}
+use mathlib.Core.Path.{_≡_, sym, ap, subst, _∙_}
+use mathlib.Core.List.{_++_}
+use Prim.Native.Nat.{suc, _+_}
+use Rattle.decimal.proofs.PutLaws.{put-then}
+use Rattle.text_runs.specs.Way.{rowLine, lastLine, shownLast}
+use Rattle.text_state.specs.Own.Closing.{Closing}
+use Rattle.text_state.proofs.lines.shown_last.Statement.{statement}
+use Rattle.text_state.proofs.lines.shown_last.Tie as tie
+
+enum-told : tie.Need-enum-told
+enum-told c = search needs
+
+row-line-requires : tie.Need-row-line-requires
+row-line-requires c κs = search needs
+
+add-last-line : tie.Need-add-last-line
+unfolding Closing
+add-last-line c = omega (arith, subst (λ w. Closing w (c .before .before .before .before .before .before .before .before .before .args .run .count)) (c .before .before .before .before .before .before .enum-told .given .1) (c .before .before .before .before .before .before .before .before .before .pre .1))
+
+last-line-requires : tie.Need-last-line-requires
+last-line-requires c κs = search needs
+
+enum-told-2 : tie.Need-enum-told-2
+enum-told-2 c = search needs
+
+sub-last-line : tie.Need-sub-last-line
+unfolding Closing
+sub-last-line c = subst (λ w. Closing w (c .before .before .before .before .before .args .run .count)) (c .before .before .enum-told2 .given .1) (c .before .before .before .before .before .pre .1)
+
+last-line-requires-2 : tie.Need-last-line-requires-2
+last-line-requires-2 c κs = search needs
+
+same-length : tie.Need-same-length
+same-length c = search needs
+
+returns : tie.Need-returns
+unfolding shownLast
+returns c =
+    let s = c .before .before .before .before .before .before .before .before .before .before .before .before in
+    let p = c .before .before .before .before .before .before .before .row-line .ensures in
+    let q = c .before .before .last-line .ensures in
+    let e : s .args .run .count + 1 ≡ suc (s .args .run .count) = omega arith in (
+      put-then (p .0) (q .0) .is ∙ ap (λ n. rowLine (s .args .out .now) ++ lastLine n) e ∙ sym (ap (λ w. shownLast w (s .args .run) (s .args .out .now)) (c .before .before .before .before .before .before .before .before .before .enum-told .given .1)),
+      omega (arith, p .1, q .1),
+    )
+
+same-length-2 : tie.Need-same-length-2
+same-length-2 c = search needs
+
+returns-2 : tie.Need-returns-2
+unfolding shownLast
+returns-2 c =
+    let s = c .before .before .before .before .before .before .before .before in
+    let q = c .before .before .last-line2 .ensures in
+    (q .0 .is ∙ sym (ap (λ w. shownLast w (s .args .run) (s .args .out .now)) (c .before .before .before .before .before .enum-told2 .given .1)), omega (arith, q .1))
+
+pub shown-last-spec : {M : Type 1} → statement M
+shown-last-spec =
+    tie.close
+    (tie.spec
+    enum-told
+    row-line-requires
+    add-last-line
+    last-line-requires
+    enum-told-2
+    sub-last-line
+    last-line-requires-2
+    same-length
+    returns
+    same-length-2
+    returns-2)

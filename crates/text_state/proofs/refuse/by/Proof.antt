@@ -1,0 +1,45 @@
+-- `text_state::refuse::by` meets its contract.
+use borrow.Author.Needs.{needs}
+use native.Mathlib.Omega.{arith}
+use mathlib.Core.Path.{_∙_}
+use Rattle.decimal.proofs.PutLaws.{put-then}
+use Rattle.text_state.proofs.GivenLaws.{given-text, refused-by}
+use Rattle.text_state.proofs.refuse.by.Statement.{statement}
+use Rattle.text_state.proofs.refuse.by.Tie as tie
+
+line-number-requires : tie.Need-line-number-requires
+line-number-requires c κs = search needs
+
+slice-aggregate-refused : tie.Need-slice-aggregate-refused
+slice-aggregate-refused c = search needs
+
+refused-requires : tie.Need-refused-requires
+refused-requires c κs = search needs
+
+slice-aggregate-bytes : tie.Need-slice-aggregate-bytes
+slice-aggregate-bytes c = search needs
+
+slice-aggregate-bytes-2 : tie.Need-slice-aggregate-bytes-2
+slice-aggregate-bytes-2 c = search needs
+
+bytes-requires : tie.Need-bytes-requires
+bytes-requires c κs = search needs
+
+returns : tie.Need-returns
+returns c =
+    let s = c .before .before .before .before .before .before .before .before .before .args .state in
+    let p = c .before .before .before .before .before .refused .ensures in
+    let q = c .before .bytes .ensures in
+    (given-text _ _ _ _ (put-then (p .0) q .is) ∙ refused-by s _ _ _ (c .before .before .before .before .before .before .before .line-number .ensures), omega (arith, p .1, q .count))
+
+pub by-spec : {M : Type 1} → statement M
+by-spec =
+    tie.close
+    (tie.spec
+    line-number-requires
+    slice-aggregate-refused
+    refused-requires
+    slice-aggregate-bytes
+    slice-aggregate-bytes-2
+    bytes-requires
+    returns)

@@ -1,0 +1,4 @@
+// How far a text run has come, and what it prints.
+pub mod lines;
+pub mod refuse;
+pub mod state;

@@ -1,0 +1,127 @@
+// What is printed for a block or frame that a run takes, and for its finish: the lines of each way, or the refusal.
+ghost use mathlib.Core.Path.{_≡_};
+ghost use Prim.Native.Nat.{_+_, _*_, _≤_};
+ghost use lib.ListN.{length, take};
+ghost use Rattle.runs.specs.Answers.{told};
+ghost use Rattle.decimal.specs.Own.Put.{Put};
+ghost use Rattle.text_runs.specs.declared.state.Way.the-variants.{Back};
+ghost use Rattle.text_runs.specs.State.{given};
+ghost use Rattle.text_runs.specs.Way.{rowLine, lastLine, shownRow, shownLast};
+ghost use Rattle.text_runs.specs.Line.{rowGiven, finishGiven};
+ghost use Rattle.text_state.specs.Own.Closing.{Closing};
+use crate::refuse;
+use decimal::print;
+use runs::record::Outcome;
+use runs::record::Run;
+use text_runs::state::Phase;
+use text_runs::state::Printed;
+use text_runs::state::State;
+use text_runs::state::Way;
+
+fn row_line(out: &[i32], text: &mut [u8]) -> usize
+    requires { ⌜ 12 * length (now out) + 1 ≤ length (now text) ⌝ }
+    ensures { λ r. ⌜ Put 0 (now (text .entry)) (rowLine (now (out .entry))) r (now (text .exit)) × (r ≤ 12 * length (now (out .entry)) + 1) ⌝ }
+{
+    let n = print::numbers(text, 0, out);
+    print::bytes(text, n, b"\n")
+}
+
+fn last_line(text: &mut [u8], at: usize, count: usize) -> usize
+    requires { ⌜ at + 25 ≤ length (now text) ⌝ }
+    ensures { λ r. ⌜ Put at (now (text .entry)) (lastLine count) r (now (text .exit)) × (r ≤ at + 25) ⌝ }
+{
+    let n = print::end_line(text, at, count);
+    print::bytes(text, n, b"\n")
+}
+
+// Back, the first frame only starts the run.
+fn shown_block(run: Run, out: &[i32], text: &mut [u8]) -> usize
+    requires { ⌜ 12 * length (now out) + 1 ≤ length (now text) ⌝ }
+    ensures { λ r. ⌜ (take r (now (text .exit)) ≡ shownRow Back run (now (out .entry))) × (r ≤ length (now (text .entry))) ⌝ }
+{
+    if run.count == 0 {
+        return 0;
+    }
+    row_line(out, text)
+}
+
+// For a block or frame that a record takes.
+fn shown(way: Way, run: Run, out: &[i32], text: &mut [u8]) -> usize
+    requires { ⌜ 12 * length (now out) + 1 ≤ length (now text) ⌝ }
+    ensures { λ r. ⌜ (take r (now (text .exit)) ≡ shownRow way run (now (out .entry))) × (r ≤ length (now (text .entry))) ⌝ }
+{
+    match way {
+        Way::Forward => row_line(out, text),
+        Way::Back => shown_block(run, out, text),
+    }
+}
+
+// For the finish.
+fn shown_last(way: Way, run: Run, out: &[i32], text: &mut [u8]) -> usize
+    requires { ⌜ 12 * length (now out) + 26 ≤ length (now text) ⌝ }
+    requires { ⌜ Closing way (run .count) ⌝ }
+    ensures { λ r. ⌜ (take r (now (text .exit)) ≡ shownLast way run (now (out .entry))) × (r ≤ length (now (text .entry))) ⌝ }
+{
+    match way {
+        Way::Forward => {
+            let n = row_line(out, text);
+            last_line(text, n, run.count + 1)
+        }
+        Way::Back => last_line(text, 0, run.count - 1),
+    }
+}
+
+// What is printed for a call that took a block or frame, or for its refusal.
+pub fn given_row(state: State, outcome: Outcome, out: &[i32]) -> Printed
+    requires { ⌜ length (now out) ≤ 128 ⌝ }
+    ensures { λ r. ⌜ given r ≡ rowGiven state (told (outcome .answer), outcome .run, now (out .entry)) ⌝ }
+    ensures { λ r. ⌜ r .length ≤ 2048 ⌝ }
+{
+    let answer = outcome.answer;
+    let number = runs::answer::number(answer);
+    if number != 0 {
+        return refuse::by(state, number, runs::answer::place(answer));
+    }
+    let way = state.way;
+    let before = state.run;
+    let run = outcome.run;
+    let mut text = [0u8; 2048];
+    let length = shown(way, before, out, &mut text);
+    Printed {
+        state: State {
+            way: way,
+            phase: Phase::Between,
+            run: run,
+        },
+        text: text,
+        length: length,
+    }
+}
+
+// What is printed for a finish that worked, or for its refusal.
+pub fn given_last(state: State, outcome: Outcome, out: &[i32]) -> Printed
+    requires { ⌜ length (now out) ≤ 128 ⌝ }
+    requires { ⌜ (told (outcome .answer) .0 ≡ 0 → Closing (state .way) (state .run .count)) ⌝ }
+    ensures { λ r. ⌜ given r ≡ finishGiven state (told (outcome .answer), outcome .run, now (out .entry)) ⌝ }
+    ensures { λ r. ⌜ r .length ≤ 2048 ⌝ }
+{
+    let answer = outcome.answer;
+    let number = runs::answer::number(answer);
+    if number != 0 {
+        return refuse::by(state, number, runs::answer::place(answer));
+    }
+    let way = state.way;
+    let before = state.run;
+    let run = outcome.run;
+    let mut text = [0u8; 2048];
+    let length = shown_last(way, before, out, &mut text);
+    Printed {
+        state: State {
+            way: way,
+            phase: Phase::Over,
+            run: run,
+        },
+        text: text,
+        length: length,
+    }
+}
