@@ -1,11 +1,11 @@
 // The calls of the library by kind: 0 start, 1 take a block, 2 finish, 3 take a frame back, 4 finish back, 5 whole run, 6 whole run back, 7 stages
 // alone, 8 stages alone back. Of the record 0 and those from 5 on take the width, and these hand it back as it was.
 use lifting::frame;
-use runs::answer::Answer;
 use run::forward;
+use run_back::back;
+use runs::answer::Answer;
 use runs::record::Outcome;
 use runs::record::Run;
-use run_back::back;
 
 // A place that no number of a line is.
 const NOWHERE: usize = 4294967296;
