@@ -2,8 +2,8 @@
 ghost use mathlib.Core.Path.{_≡_};
 ghost use lib.ListN.{length};
 ghost use Rattle.stream.specs.Room.{InRoom, Buffers};
-use crate::output::Progress;
 use crate::output;
+use crate::output::Progress;
 use decimal::gather;
 use text_lines::input;
 use text_state::state;

@@ -6,4 +6,6 @@ pub mod Way
 pub mod Line
 pub mod Input
 pub mod Return
+pub mod Bytes
+pub mod Samples
 pub mod Own

@@ -1,8 +1,8 @@
 // How far a text run has come.
 ghost use mathlib.Core.Path.{_≡_};
 ghost use Rattle.text_runs.specs.State.{begun, goesOn, lineBetween, lineNumber};
-use runs::record::Run;
 use runs::record;
+use runs::record::Run;
 use text_runs::state::Phase;
 use text_runs::state::State;
 use text_runs::state::Way;
