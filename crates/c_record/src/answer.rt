@@ -21,10 +21,9 @@ pub fn hand_back(outcome: Outcome, numbers: &mut [i64], place: &mut usize) -> u3
     ensures { λ _. ⌜ now (numbers .exit) ≡ kept (told (outcome .answer) .0) (outcome .run) (now (numbers .entry)) ⌝ }
 {
     let answer = outcome.answer;
-    if runs::answer::number(answer) != 0 {
-        return tell(answer, place);
+    if runs::answer::number(answer) == 0 {
+        let run = outcome.run;
+        record::pack(run, numbers);
     }
-    let run = outcome.run;
-    record::pack(run, numbers);
     tell(answer, place)
 }

@@ -21,22 +21,22 @@ module _ (s : tie.Start) where
   held-long = search needs
 
 cast-numbers : tie.Need-cast-numbers
-cast-numbers c = search needs
+cast-numbers c = record { sfits = c .before .before .pre .narrow }
 
 slice-set-from-numbers : tie.Need-slice-set-from-numbers
-slice-set-from-numbers c = search needs
+slice-set-from-numbers c = omega (arith, c .before .before .pre .room)
 
 cast-numbers-2 : tie.Need-cast-numbers-2
-cast-numbers-2 c = search needs
+cast-numbers-2 c = record { sfits = c .before .before .before .pre .few }
 
 slice-set-from-numbers-2 : tie.Need-slice-set-from-numbers-2
-slice-set-from-numbers-2 c = search needs
+slice-set-from-numbers-2 c = simp length-set (omega (arith, c .before .before .before .pre .room))
 
 cast-numbers-3 : tie.Need-cast-numbers-3
-cast-numbers-3 c = search needs
+cast-numbers-3 c = tt
 
 slice-set-from-numbers-3 : tie.Need-slice-set-from-numbers-3
-slice-set-from-numbers-3 c = search needs
+slice-set-from-numbers-3 c = simp length-set (omega (arith, c .before .before .before .before .pre .room))
 
 slice-aggregate-copy : tie.Need-slice-aggregate-copy
 slice-aggregate-copy c = search needs

@@ -84,7 +84,7 @@ take-spec =
     (tie.spec
     (λ c κs. search needs)
     (λ c κs. search needs)
-    (λ c. search needs)
+    (λ c. refl)
     returns
     front-requires
     (λ c. long (c .before .before))
@@ -93,6 +93,6 @@ take-spec =
     (λ c κs. rest-long (numbers (from (c .before .before .before .before))) (room (c .before .before .before .before)))
     store-count-requires
     (λ c κs. search needs)
-    (λ c. search needs)
-    (λ c. search needs)
+    (λ c. c .before .before .run2 .given ∙ c .before .before .before .before .before .before .run .given .1)
+    (λ c. c .before .before .before .before .before .out .given)
     returns-2)
