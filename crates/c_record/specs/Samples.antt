@@ -98,20 +98,14 @@ start-given : Said {A = (ℕ × ℕ) × List ℤ}
 unfolding lappedStart started packed opened filled halfWidth byWidth
 start-given = refl
 
--- ---- forward: 2 and 8 leave the numbers and the output; a block; 7, and the finish
-forward-given : Said {A = Given}
+-- ---- the calls: what a refusal leaves, forward 2, 8 and 7, back 2, 11 and 5; one block there and back, and the finishes
+calls-given : Said {A = Given}
     ((lappedTake damaged sample output, ((2, 0), damaged, output))
     ∷ (lappedTake fresh marked output, ((8, 2), fresh, output))
     ∷ (lappedTake fresh sample output, ((0, 0), forward1, one))
     ∷ (lappedFinish forward1 (ones 7), ((7, 0), forward1, ones 7))
     ∷ (lappedFinish forward1 output, ((0, 0), numbers 8 1 1 (zeros 64), two))
-    ∷ [])
-unfolding lappedTake lappedFinish handed kept packed unpacked isRecord byWidth halfWidth halfTurn reflected minus signed sines halfTangents halfTangents8 secants secants8 cosineOf sineOf halfTangentOf secantOf round floorDiv tab sum rootLog tangent sine cosine oddOf secant alternate tangentAmount sineAmount rotatedA rotatedB lower held topOf bottomOf amount1 amount2 amount3 stage1 stage2 stage3 stage4 stage5 stages frame first beyond ask askEach nothing inside every sound admitted filled opened advanced closed frameOn takenIn taken ended dead
-forward-given = refl
-
--- ---- back: 2 and 11 leave the numbers and the output; two frames; 5 and 11, and the finish
-back-given : Said {A = Given}
-    ((lappedBackTake damaged one output, ((2, 0), damaged, output))
+    ∷ (lappedBackTake damaged one output, ((2, 0), damaged, output))
     ∷ (lappedBackTake fresh two output, ((11, 4), fresh, output))
     ∷ (lappedBackTake fresh one output, ((0, 0), back1, output))
     ∷ (lappedBackTake back1 two output, ((0, 0), numbers 8 2 0 (zeros 64), sample))
@@ -119,5 +113,5 @@ back-given : Said {A = Given}
     ∷ (lappedBackFinish back1, ((11, 3), back1, []))
     ∷ (lappedBackFinish (numbers 8 2 0 (zeros 64)), ((0, 0), numbers 8 2 1 (zeros 64), []))
     ∷ [])
-unfolding lappedBackTake lappedBackFinish handed kept packed unpacked isRecord byWidth halfWidth halfTurn reflected minus signed sines halfTangents halfTangents8 secants secants8 cosineOf sineOf halfTangentOf secantOf round floorDiv tab sum rootLog tangent sine cosine oddOf secant alternate tangentAmount sineAmount unrotatedA unrotatedB unfolded amount1 amount2 amount3 unstage1 unstage2 unstage3 unstage4 unstage5 interleaved unstages first beyond ask askEach nothing inside every sound admitted filled opened closed framed blockOn firstUpper firstFrame laterFrame unfoldedIn undoneIn takenBack firstHeld endedBack
-back-given = refl
+unfolding lappedTake lappedFinish lappedBackTake lappedBackFinish handed kept packed unpacked isRecord byWidth halfWidth halfTurn reflected minus signed sines halfTangents halfTangents8 secants secants8 cosineOf sineOf halfTangentOf secantOf round floorDiv tab sum rootLog tangent sine cosine oddOf secant alternate tangentAmount sineAmount rotatedA rotatedB lower held topOf bottomOf amount1 amount2 amount3 stage1 stage2 stage3 stage4 stage5 stages frame first beyond ask askEach nothing inside every sound admitted filled opened advanced closed frameOn takenIn taken ended dead unrotatedA unrotatedB unfolded unstage1 unstage2 unstage3 unstage4 unstage5 interleaved unstages framed blockOn firstUpper firstFrame laterFrame unfoldedIn undoneIn takenBack firstHeld endedBack
+calls-given = refl

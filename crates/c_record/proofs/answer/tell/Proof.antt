@@ -5,12 +5,6 @@ use Rattle.c_record.proofs.AnswerLaws.{told-pair, told-small}
 use Rattle.c_record.proofs.answer.tell.Statement.{statement}
 use Rattle.c_record.proofs.answer.tell.Tie as tie
 
-place-requires : tie.Need-place-requires
-place-requires c κs = search needs
-
-number-requires : tie.Need-number-requires
-number-requires c κs = search needs
-
 cast-result : tie.Need-cast-result
 cast-result c = record { fits = omega (arith, c .number .ensures, told-small (c .before .before .args .answer)) }
 
@@ -18,4 +12,4 @@ returns : tie.Need-returns
 returns c = told-pair _ (c .number .ensures) (c .before .place .ensures)
 
 pub tell-spec : {M : Type 1} → statement M
-tell-spec = tie.close (tie.spec place-requires number-requires cast-result returns)
+tell-spec = tie.close (tie.spec (λ c κs. search needs) (λ c κs. search needs) cast-result returns)

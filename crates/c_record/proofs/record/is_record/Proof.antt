@@ -26,16 +26,10 @@ count e = h-lt (held-ok w64 (at (numbers (e .before .before .before .before .bef
 returns : tie.Need-returns
 returns c = no-room (numbers (c .before)) (c .if1 .taken)
 
-shared-slice-copy-out-if2 : tie.Need-shared-slice-copy-out-if2
-shared-slice-copy-out-if2 c = search needs
-
 returns-2 : tie.Need-returns-2
 returns-2 c =
     let o = c .before .before in
     no-width (numbers (o .before)) (o .if1 .left) (h-lt (held-ok w64 (at (numbers (o .before)) 0) (c .before .if22 .given)) (num-lit w64 0 tt .holds) (c .if2 .taken))
-
-shared-slice-copy-out-if3 : tie.Need-shared-slice-copy-out-if3
-shared-slice-copy-out-if3 c = search needs
 
 returns-3 : tie.Need-returns-3
 returns-3 c =
@@ -43,18 +37,12 @@ returns-3 c =
     let o = w .before .before in
     no-count (numbers (o .before)) (o .if1 .left) (width w) (h-lt (held-ok w64 (at (numbers (o .before)) 1) (c .before .if32 .given)) (num-lit w64 0 tt .holds) (c .if3 .taken))
 
-shared-slice-copy-out-if4 : tie.Need-shared-slice-copy-out-if4
-shared-slice-copy-out-if4 c = search needs
-
 returns-4 : tie.Need-returns-4
 returns-4 c =
     let n = c .before .before in
     let w = n .before .before in
     let o = w .before .before in
     no-flag (numbers (o .before)) (o .if1 .left) (width w) (count n) (h-lt (held-ok w64 (at (numbers (o .before)) 2) (c .before .if42 .given)) (num-lit w64 0 tt .holds) (c .if4 .taken))
-
-shared-slice-copy-out-result : tie.Need-shared-slice-copy-out-result
-shared-slice-copy-out-result c = search needs
 
 returns-5 : tie.Need-returns-5
 returns-5 c =
@@ -70,11 +58,11 @@ is-record-spec =
     tie.close
     (tie.spec
     returns
-    shared-slice-copy-out-if2
+    (λ c. search needs)
     returns-2
-    shared-slice-copy-out-if3
+    (λ c. search needs)
     returns-3
-    shared-slice-copy-out-if4
+    (λ c. search needs)
     returns-4
-    shared-slice-copy-out-result
+    (λ c. search needs)
     returns-5)

@@ -20,14 +20,8 @@ module _ (s : tie.Start) where
   held-long : length (run .held) ≡ 64
   held-long = search needs
 
-cast-numbers : tie.Need-cast-numbers
-cast-numbers c = record { sfits = c .before .before .pre .narrow }
-
 slice-set-from-numbers : tie.Need-slice-set-from-numbers
 slice-set-from-numbers c = omega (arith, c .before .before .pre .room)
-
-cast-numbers-2 : tie.Need-cast-numbers-2
-cast-numbers-2 c = record { sfits = c .before .before .before .pre .few }
 
 slice-set-from-numbers-2 : tie.Need-slice-set-from-numbers-2
 slice-set-from-numbers-2 c = simp length-set (omega (arith, c .before .before .before .pre .room))
@@ -38,17 +32,11 @@ cast-numbers-3 c = tt
 slice-set-from-numbers-3 : tie.Need-slice-set-from-numbers-3
 slice-set-from-numbers-3 c = simp length-set (omega (arith, c .before .before .before .before .pre .room))
 
-slice-aggregate-copy : tie.Need-slice-aggregate-copy
-slice-aggregate-copy c = search needs
-
 sub-copy : tie.Need-sub-copy
 sub-copy c = let s = c .before .before .before .before .before in simp length-set (omega (arith, s .pre .room))
 
 part-copy-start : tie.Need-part-copy-start
 part-copy-start c = let s = c .before .before .before .before .before in simp length-set (omega (arith, s .pre .room))
-
-part-copy-end : tie.Need-part-copy-end
-part-copy-end c = search needs
 
 copy-requires : tie.Need-copy-requires
 copy-requires c κs =
@@ -67,16 +55,16 @@ pub pack-spec : {M : Type 1} → statement M
 pack-spec =
     tie.close
     (tie.spec
-    cast-numbers
+    (λ c. search needs)
     slice-set-from-numbers
-    cast-numbers-2
+    (λ c. search needs)
     slice-set-from-numbers-2
     cast-numbers-3
     slice-set-from-numbers-3
-    slice-aggregate-copy
+    (λ c. search needs)
     sub-copy
     part-copy-start
-    part-copy-end
+    (λ c. search needs)
     copy-requires
     same-length
     returns)

@@ -22,9 +22,6 @@ module _ (e : tie.Else1) where
   few : s .args .count < 65537
   few = s .pre .0 worked
 
-number-requires : tie.Need-number-requires
-number-requires c κs = search needs
-
 returns : tie.Need-returns
 returns c =
     let s = c .before .before in
@@ -37,12 +34,6 @@ add-numbers c = record { fits = omega (arith, few c) }
 cast-numbers : tie.Need-cast-numbers
 cast-numbers c = record { sfits = omega (arith, few c) }
 
-slice-set-from-numbers : tie.Need-slice-set-from-numbers
-slice-set-from-numbers c = search needs
-
-same-length : tie.Need-same-length
-same-length c = search needs
-
 returns-2 : tie.Need-returns-2
 returns-2 c =
     let n : s c .args .count + 1 < 2 ^ 63 = omega (arith, few c) in
@@ -52,10 +43,10 @@ pub store-count-spec : {M : Type 1} → statement M
 store-count-spec =
     tie.close
     (tie.spec
-    number-requires
+    (λ c κs. search needs)
     returns
     add-numbers
     cast-numbers
-    slice-set-from-numbers
-    same-length
+    (λ c. search needs)
+    (λ c. search needs)
     returns-2)

@@ -26,12 +26,6 @@ module _ (e : tie.Else1) where
   long : 3 ≤ length (numbers from)
   long = omega (arith, has-room (numbers from) is-record)
 
-nothing-held-requires : tie.Need-nothing-held-requires
-nothing-held-requires c κs = search needs
-
-is-record-requires : tie.Need-is-record-requires
-is-record-requires c κs = search needs
-
 returns : tie.Need-returns
 returns c =
     let t = c .before in
@@ -42,12 +36,6 @@ sub-copy c = omega (arith, long c)
 
 part-copy-start : tie.Need-part-copy-start
 part-copy-start c = omega (arith, long c)
-
-part-copy-end : tie.Need-part-copy-end
-part-copy-end c = search needs
-
-slice-aggregate-copy : tie.Need-slice-aggregate-copy
-slice-aggregate-copy c = search needs
 
 copy-requires : tie.Need-copy-requires
 copy-requires c κs =
@@ -69,14 +57,14 @@ pub unpack-spec : {M : Type 1} → statement M
 unpack-spec =
     tie.close
     (tie.spec
-    nothing-held-requires
-    is-record-requires
+    (λ c κs. search needs)
+    (λ c κs. search needs)
     (λ c κs. search needs)
     returns
     sub-copy
     part-copy-start
-    part-copy-end
-    slice-aggregate-copy
+    (λ c. search needs)
+    (λ c. search needs)
     copy-requires
     front-requires
     (λ c κs. search needs)

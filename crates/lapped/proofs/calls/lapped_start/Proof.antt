@@ -14,31 +14,16 @@ use Rattle.lapped.proofs.calls.lapped_start.Tie as tie
 abbrev numbers : tie.Start → List ℤ
 numbers s = s .args .run .now
 
-start-requires : tie.Need-start-requires
-start-requires c κs = search needs
-
-pack-requires : tie.Need-pack-requires
-pack-requires c κs =
-    let f = c .before .before .before in
-    subst (λ (r : Run). Packable r (numbers (f .before))) (sym (ap (λ (g : (ℕ × ℕ) × Run). g .1) (f .start .ensures))) (start-fits (f .before .args .width) (numbers (f .before)) (c .before .before .if1 .taken))
-
-tell-requires : tie.Need-tell-requires
-tell-requires c κs = search needs
-
-same-length : tie.Need-same-length
-same-length c = search needs
-
 returns : tie.Need-returns
 returns c =
     let p = c .before .before .before in
     let f = p .before .before .before .before in
     start-packed (f .before .args .width) (numbers (f .before)) _ _ _ (f .start .ensures) _ (p .before .before .before .if1 .taken) (c .tell .ensures) (p .pack .ensures)
 
-number-requires : tie.Need-number-requires
-number-requires c κs = search needs
-
-tell-requires-2 : tie.Need-tell-requires-2
-tell-requires-2 c κs = search needs
+pack-requires : tie.Need-pack-requires
+pack-requires c κs =
+    let f = c .before .before .before in
+    subst (λ (r : Run). Packable r (numbers (f .before))) (sym (ap (λ (g : (ℕ × ℕ) × Run). g .1) (f .start .ensures))) (start-fits (f .before .args .width) (numbers (f .before)) (c .before .before .if1 .taken))
 
 returns-2 : tie.Need-returns-2
 unfolding told
@@ -46,9 +31,6 @@ returns-2 c =
     let n = c .before .before .before in
     let f = n .before .before in
     start-no-room (f .before .args .width) (numbers (f .before)) _ _ _ (f .start .ensures) (n .before .if1 .left) (sym (n .number .ensures) ∙ c .before .before .if2 .taken) (c .tell2 .ensures)
-
-tell-requires-3 : tie.Need-tell-requires-3
-tell-requires-3 c κs = search needs
 
 returns-3 : tie.Need-returns-3
 returns-3 c =
@@ -60,13 +42,13 @@ pub lapped-start-spec : {M : Type 1} → statement M
 lapped-start-spec =
     tie.close
     (tie.spec
-    start-requires
+    (λ c κs. search needs)
     pack-requires
-    tell-requires
-    same-length
+    (λ c κs. search needs)
+    (λ c. search needs)
     returns
-    number-requires
-    tell-requires-2
+    (λ c κs. search needs)
+    (λ c κs. search needs)
     returns-2
-    tell-requires-3
+    (λ c κs. search needs)
     returns-3)
