@@ -4,11 +4,11 @@ ghost use Prim.Native.Nat.{ℕ, _+_, _*_, _≤_};
 ghost use lib.IntN.{ℤ, _+ℤ_, _*ℤ_};
 ghost use lib.ListN.{length};
 ghost use Rattle.integers.specs.Places.{places, at};
-ghost use Rattle.products.specs.Products.{Lists, Laid, product, products, nine};
-ghost use Rattle.products.specs.Fours.{listed};
-ghost use Rattle.products.specs.Leaf.{listedNine, Fit, Leaf, Leaves};
-use crate::fours;
-use crate::fours::Four;
+ghost use Rattle.products.specs.Own.Products.{Lists, Laid, product, products, nine};
+ghost use Rattle.slices.specs.Own.Fours.{listed};
+ghost use Rattle.products.specs.Own.Leaf.{listedNine, Fit, Leaf, Leaves};
+use slices::fours;
+use slices::fours::Four;
 
 pub struct Nine {
     pub a: i64,

@@ -5,7 +5,7 @@ use Prim.Native.Nat.{_+_}
 use mir.Syntax.{w64}
 use Rattle.integers.specs.Places.{at}
 use Rattle.integers.proofs.Held.{held-ok}
-use Rattle.products.proofs.FourLaws.{nine-places}
+use Rattle.products.proofs.LeafLaws.{nine-places}
 use Rattle.products.proofs.leaf.nine_at.Statement.{statement}
 use Rattle.products.proofs.leaf.nine_at.Tie as tie
 
