@@ -22,10 +22,14 @@ use Rattle.slices.proofs.FourLaws.{length-stored, stored-out, stored-is}
 use Rattle.products.proofs.RoomLaws.{next-one}
 use Rattle.products.proofs.LevelLaws.{first-term, second-term, doubled-size, differing-size, product-size}
 
-pub nine-places : (t : ℕ → ℤ) {a b c d e f g h i : ℤ} → a ≡ t 0 → b ≡ t 1 → c ≡ t 2 → d ≡ t 3 → e ≡ t 4 → f ≡ t 5 → g ≡ t 6 → h ≡ t 7 → i ≡ t 8
+-- ---- nine numbers read: four, four and one
+pub nine-read : (t : ℕ → ℤ) (x y : Four) → listed x ≡ places 4 t → listed y ≡ places 4 (λ j. t (4 + j)) → {a b c d e f g h i : ℤ}
+    → a ≡ x .a → b ≡ x .b → c ≡ x .c → d ≡ x .d → e ≡ y .a → f ≡ y .b → g ≡ y .c → h ≡ y .d → i ≡ t 8
     → (a ∷ b ∷ c ∷ d ∷ e ∷ f ∷ g ∷ h ∷ i ∷ []) ≡ places 9 t
 unfolding tab
-nine-places t a b c d e f g h i = ap₂ _∷_ a (ap₂ _∷_ b (ap₂ _∷_ c (ap₂ _∷_ d (ap₂ _∷_ e (ap₂ _∷_ f (ap₂ _∷_ g (ap₂ _∷_ h (ap (λ z. z ∷ []) i))))))))
+nine-read t x y p q a b c d e f g h i =
+    ap₂ _∷_ (a ∙ ap (λ l. at l 0) p) (ap₂ _∷_ (b ∙ ap (λ l. at l 1) p) (ap₂ _∷_ (c ∙ ap (λ l. at l 2) p) (ap₂ _∷_ (d ∙ ap (λ l. at l 3) p)
+    (ap₂ _∷_ (e ∙ ap (λ l. at l 0) q) (ap₂ _∷_ (f ∙ ap (λ l. at l 1) q) (ap₂ _∷_ (g ∙ ap (λ l. at l 2) q) (ap₂ _∷_ (h ∙ ap (λ l. at l 3) q) (ap (λ z. z ∷ []) i))))))))
 
 -- ---- the four places
 shuffled : (a b c d : ℤ) → (a +ℤ b) +ℤ (c +ℤ d) ≡ a +ℤ c +ℤ b +ℤ d

@@ -32,15 +32,17 @@ fn nine_at(x: &[i64], p: usize) -> Nine
     requires { ⌜ p + 9 ≤ length (now x) ⌝ }
     ensures { λ r. ⌜ listedNine r ≡ places 9 (λ j. at (now (x .entry)) (p + j)) ⌝ }
 {
+    let low = fours::taken(x, p);
+    let high = fours::taken(x, p + 4);
     Nine {
-        a: x[p],
-        b: x[p + 1],
-        c: x[p + 2],
-        d: x[p + 3],
-        e: x[p + 4],
-        f: x[p + 5],
-        g: x[p + 6],
-        h: x[p + 7],
+        a: low.a,
+        b: low.b,
+        c: low.c,
+        d: low.d,
+        e: high.a,
+        f: high.b,
+        g: high.c,
+        h: high.d,
         i: x[p + 8],
     }
 }
