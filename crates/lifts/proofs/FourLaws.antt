@@ -12,11 +12,12 @@ use mir.Val.{toZ, ofZ}
 use Rattle.integers.specs.Places.{tab, places, at, Within}
 use Rattle.integers.proofs.PlaceLaws.{within-all}
 use Rattle.integers.proofs.Fills.{Filling, filling-none, filling-four, filling-all}
-use Rattle.products.specs.declared.fours.Four.{Four}
-use Rattle.products.specs.Fours.{listed, stored}
-use Rattle.products.proofs.FourLaws.{stored-out}
-use Rattle.stages.specs.Moves.{moved, movedFour}
-use Rattle.stages.proofs.NumLaws.{call-is}
+use Rattle.slices.specs.declared.fours.Four.{Four}
+use Rattle.slices.specs.Own.Fours.{listed, stored}
+use Rattle.slices.proofs.FourLaws.{stored-out}
+use Rattle.slices.specs.Own.Moves.{moved}
+use Rattle.lifts.specs.Own.Moves.{movedFour}
+use Rattle.lifts.proofs.NumLaws.{call-is}
 
 -- F n j z is what takes the place of z at j, in a list of n numbers
 abbrev Rule : Type 0

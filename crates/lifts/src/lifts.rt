@@ -6,14 +6,14 @@ ghost use lib.IntN.{natAbs, _+ℤ_, _*ℤ_};
 ghost use lib.ListN.{length};
 ghost use Rattle.integers.specs.Floor.{round};
 ghost use Rattle.integers.specs.Places.{places, at, Within};
-ghost use Rattle.products.specs.Fours.{listed, stored};
+ghost use Rattle.slices.specs.Own.Fours.{listed, stored};
+ghost use Rattle.slices.specs.Own.Moves.{moved};
 ghost use Rattle.rows.specs.Orders.{Order, rowAt, secantOut};
-ghost use Rattle.stages.specs.Moves;
-ghost use Rattle.stages.specs.Moves.{Scaled, Thirds, movedFour};
-use crate::vectors;
-use products::fours;
-use products::fours::Four;
+ghost use Rattle.lifts.specs.Own.Moves;
+ghost use Rattle.lifts.specs.Own.Moves.{Scaled, Thirds, movedFour};
 use rows::order;
+use slices::fours;
+use slices::fours::Four;
 
 // The four numbers from place i on take these amounts, or give them back.
 fn move_four(undo: bool, y: &mut [i64], i: usize, amounts: Four)
@@ -45,7 +45,7 @@ pub fn first(undo: bool, back: &[i64], flips: &[i64], y: &[i64], top: &[i64], bo
     requires { ⌜ Scaled (now back) (now flips) (now y) ⌝ }
     requires { ⌜ Within (2 ^ 60) (now top) ⌝ }
     requires { ⌜ Within (2 ^ 60) (now bottom) ⌝ }
-    ensures { λ _. ⌜ now (bottom .exit) ≡ places (length (now (bottom .entry))) (λ i. Moves.moved undo (at (now (bottom .entry)) i) (at (now (top .entry)) i +ℤ round 30 (rowAt (now (back .entry)) (now (flips .entry)) (now (y .entry)) i))) ⌝ }
+    ensures { λ _. ⌜ now (bottom .exit) ≡ places (length (now (bottom .entry))) (λ i. moved undo (at (now (bottom .entry)) i) (at (now (top .entry)) i +ℤ round 30 (rowAt (now (back .entry)) (now (flips .entry)) (now (y .entry)) i))) ⌝ }
 {
     let mut i = 0;
     while i < bottom.len() {
@@ -60,6 +60,23 @@ pub fn first(undo: bool, back: &[i64], flips: &[i64], y: &[i64], top: &[i64], bo
     }
 }
 
+// −d(i)·x, or else d(i)·x.
+fn flipped(even: bool, i: usize, x: i64) -> i64
+    requires { ⌜ natAbs x ≤ 2 ^ 61 ⌝ }
+    ensures { λ r. ⌜ r ≡ Moves.flipped even i x ⌝ }
+{
+    if i % 2 == 1 {
+        if even {
+            return x;
+        }
+        return 0 - x;
+    }
+    if even {
+        return 0 - x;
+    }
+    x
+}
+
 // Stage 2 at a place: −d·top, and the rounded sum added; or the sum taken off, and then the sign.
 fn second_at(undo: bool, back: &[i64], flips: &[i64], y: &[i64], top: &[i64], i: usize) -> i64
     requires { ⌜ i < length (now top) ⌝ }
@@ -71,9 +88,9 @@ fn second_at(undo: bool, back: &[i64], flips: &[i64], y: &[i64], top: &[i64], i:
 {
     let amount = integers::rounded(order::row(back, flips, y, i), 31);
     if undo {
-        return vectors::flipped(true, i, top[i] - amount);
+        return flipped(true, i, top[i] - amount);
     }
-    vectors::flipped(true, i, top[i]) + amount
+    flipped(true, i, top[i]) + amount
 }
 
 pub fn second(undo: bool, back: &[i64], flips: &[i64], y: &[i64], top: &mut [i64])
@@ -150,7 +167,7 @@ pub fn third(
     requires { ⌜ Within (2 ^ 28) (now tangents) ⌝ }
     requires { ⌜ Within 6000000 (now top) ⌝ }
     requires { ⌜ Within (2 ^ 60) (now bottom) ⌝ }
-    ensures { λ _. ⌜ now (bottom .exit) ≡ places (length (now (bottom .entry))) (λ i. Moves.moved undo (at (now (bottom .entry)) i) (round 34 (Moves.third (secantOut (length (now (bottom .entry))) (at (now (z .entry))) i) (rowAt (now (back .entry)) (now (flips .entry)) (now (y .entry)) i) (at (now (tangents .entry)) (length (now (bottom .entry)) - 1 - i) *ℤ at (now (top .entry)) (length (now (bottom .entry)) - 1 - i))))) ⌝ }
+    ensures { λ _. ⌜ now (bottom .exit) ≡ places (length (now (bottom .entry))) (λ i. moved undo (at (now (bottom .entry)) i) (round 34 (Moves.third (secantOut (length (now (bottom .entry))) (at (now (z .entry))) i) (rowAt (now (back .entry)) (now (flips .entry)) (now (y .entry)) i) (at (now (tangents .entry)) (length (now (bottom .entry)) - 1 - i) *ℤ at (now (top .entry)) (length (now (bottom .entry)) - 1 - i))))) ⌝ }
 {
     let mut i = 0;
     while i < bottom.len() {
@@ -183,7 +200,7 @@ pub fn fourth(undo: bool, c: &[i64], x: &[i64], y: &mut [i64])
     requires { ⌜ Within (2 ^ 28) (now c) ⌝ }
     requires { ⌜ Within (2 ^ 34) (now x) ⌝ }
     requires { ⌜ Within (2 ^ 60) (now y) ⌝ }
-    ensures { λ _. ⌜ now (y .exit) ≡ places (length (now (y .entry))) (λ i. Moves.moved undo (at (now (y .entry)) i) (round 28 (at (now (c .entry)) i *ℤ at (now (x .entry)) (length (now (y .entry)) - 1 - i)))) ⌝ }
+    ensures { λ _. ⌜ now (y .exit) ≡ places (length (now (y .entry))) (λ i. moved undo (at (now (y .entry)) i) (round 28 (at (now (c .entry)) i *ℤ at (now (x .entry)) (length (now (y .entry)) - 1 - i)))) ⌝ }
 {
     let mut i = 0;
     while i < y.len() {
@@ -206,7 +223,7 @@ pub fn fifth(undo: bool, c: &[i64], x: &[i64], y: &mut [i64])
     requires { ⌜ Within (2 ^ 28) (now c) ⌝ }
     requires { ⌜ Within (2 ^ 34) (now x) ⌝ }
     requires { ⌜ Within (2 ^ 60) (now y) ⌝ }
-    ensures { λ _. ⌜ now (y .exit) ≡ places (length (now (y .entry))) (λ i. Moves.moved undo (at (now (y .entry)) i) (round 28 (at (now (c .entry)) (length (now (y .entry)) - 1 - i) *ℤ at (now (x .entry)) (length (now (y .entry)) - 1 - i)))) ⌝ }
+    ensures { λ _. ⌜ now (y .exit) ≡ places (length (now (y .entry))) (λ i. moved undo (at (now (y .entry)) i) (round 28 (at (now (c .entry)) (length (now (y .entry)) - 1 - i) *ℤ at (now (x .entry)) (length (now (y .entry)) - 1 - i)))) ⌝ }
 {
     let mut i = 0;
     while i < y.len() {

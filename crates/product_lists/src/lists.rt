@@ -11,10 +11,10 @@ ghost use Rattle.slices.specs.Own.Fours.{listed};
 ghost use Rattle.products.specs.Own.Leaf.{listedNine};
 ghost use Rattle.products.specs.Own.Whole.{LeafLists};
 ghost use Rattle.product_lists.specs.Own.Tables.{middles, Tabled};
-use slices::fours;
-use slices::fours::Four;
 use products::leaf::Nine;
 use products::levels;
+use slices::fours;
+use slices::fours::Four;
 
 fn copy_list(room: &mut [i64], from: usize, to: usize, h: usize)
     requires { ⌜ (h % 4 ≡ 0) × (from + h ≤ to) × (to + h ≤ length (now room)) ⌝ }

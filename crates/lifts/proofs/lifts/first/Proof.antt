@@ -1,4 +1,4 @@
--- `stages::lifts::first` meets its contract.
+-- `lifts::lifts::first` meets its contract.
 use native.Mathlib.Omega.{arith}
 use mathlib.Core.Path.{_≡_, sym, subst, _∙_}
 use mathlib.Core.List.{List}
@@ -8,10 +8,11 @@ use lib.ListN.{length}
 use Rattle.integers.specs.Floor.{round}
 use Rattle.integers.specs.Places.{at, Within}
 use Rattle.rows.specs.Orders.{Order, rowAt}
-use Rattle.stages.specs.Moves.{moved, Scaled}
-use Rattle.stages.proofs.FourLaws.{Turns, Gave, amounts-within, turns-none, turns-long, turns-left, turns-size, turns-moved, turns-all}
-use Rattle.stages.proofs.lifts.first.Statement.{statement}
-use Rattle.stages.proofs.lifts.first.Tie as tie
+use Rattle.slices.specs.Own.Moves.{moved}
+use Rattle.lifts.specs.Own.Moves.{Scaled}
+use Rattle.lifts.proofs.FourLaws.{Turns, Gave, amounts-within, turns-none, turns-long, turns-left, turns-size, turns-moved, turns-all}
+use Rattle.lifts.proofs.lifts.first.Statement.{statement}
+use Rattle.lifts.proofs.lifts.first.Tie as tie
 
 abbrev Inv-loop : tie.InvT-loop
 Inv-loop undo back flips y top bottom₀ i₀ bottom i = Turns (λ n j z. moved undo z (at top j +ℤ round 30 (rowAt back flips y j))) bottom₀ i bottom

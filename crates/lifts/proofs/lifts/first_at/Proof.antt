@@ -1,4 +1,4 @@
--- `stages::lifts::first_at` meets its contract.
+-- `lifts::lifts::first_at` meets its contract.
 use borrow.Author.Needs.{needs}
 use native.Mathlib.Omega.{arith}
 use mathlib.Core.Path.{sym, ap, subst, _∙_}
@@ -12,9 +12,9 @@ use Rattle.integers.proofs.Held.{Held, held-ok, held-eq}
 use Rattle.integers.proofs.Num.{Num, num, num-call, num-add, add-asks}
 use Rattle.integers.proofs.Rounding.{round-within}
 use Rattle.rows.specs.Orders.{rowAt}
-use Rattle.stages.proofs.NumLaws.{num-within}
-use Rattle.stages.proofs.lifts.first_at.Statement.{statement}
-use Rattle.stages.proofs.lifts.first_at.Tie as tie
+use Rattle.lifts.proofs.NumLaws.{num-within}
+use Rattle.lifts.proofs.lifts.first_at.Statement.{statement}
+use Rattle.lifts.proofs.lifts.first_at.Tie as tie
 
 row-requires : tie.Need-row-requires
 row-requires c κs = let s = c .before in (s .pre .0 .0, (s .pre .1 .0, s .pre .1 .1 .0 .small (s .args .i) (s .pre .0 .0)))

@@ -1,4 +1,4 @@
--- `stages::vectors::flipped` meets its contract.
+-- `lifts::lifts::flipped` meets its contract.
 use native.Mathlib.Omega.{arith}
 use mathlib.Core.Path.{sym, ap, _∙_}
 use Prim.Native.Nat.{_-_}
@@ -8,10 +8,10 @@ use mir.Val.{SFits, ofZ}
 use Rattle.integers.proofs.Held.{held}
 use Rattle.integers.proofs.Held.{Held, asks-minus, h-minus}
 use Rattle.integers.proofs.Words.{minus-small}
-use Rattle.stages.specs.Moves.{flipped}
-use Rattle.stages.proofs.MoveLaws.{odd-even, odd-odd, even-even, even-odd}
-use Rattle.stages.proofs.vectors.flipped.Statement.{statement}
-use Rattle.stages.proofs.vectors.flipped.Tie as tie
+use Rattle.lifts.specs.Own.Moves.{flipped}
+use Rattle.lifts.proofs.MoveLaws.{odd-even, odd-odd, even-even, even-odd}
+use Rattle.lifts.proofs.lifts.flipped.Statement.{statement}
+use Rattle.lifts.proofs.lifts.flipped.Tie as tie
 
 x : (s : tie.Start) → Held w64 (ofZ w64 (s .args .x)) (s .args .x)
 x s = held w64 _ (s .fits .x)

@@ -1,4 +1,4 @@
--- `stages::lifts::move_four` meets its contract.
+-- `lifts::lifts::move_four` meets its contract.
 use borrow.Author.Needs.{needs}
 use native.Mathlib.Omega.{arith}
 use mathlib.Core.Path.{_≡_, refl, sym, ap, _∙_}
@@ -8,13 +8,14 @@ use Prim.Native.Nat.{ℕ, _+_, _^_, _-_}
 use lib.IntN.{ℤ}
 use Rattle.integers.specs.Places.{tab, places, at}
 use Rattle.integers.proofs.PlaceLaws.{within-up}
-use Rattle.products.specs.Rooms.{signed}
-use Rattle.products.specs.Fours.{listed, stored}
-use Rattle.products.proofs.FourLaws.{four-places, listed-within}
-use Rattle.products.specs.declared.fours.Four.{Four}
-use Rattle.stages.specs.Moves.{moved, movedFour}
-use Rattle.stages.proofs.lifts.move_four.Statement.{statement}
-use Rattle.stages.proofs.lifts.move_four.Tie as tie
+use Rattle.slices.specs.Own.Fours.{signed}
+use Rattle.slices.specs.Own.Fours.{listed, stored}
+use Rattle.slices.proofs.FourLaws.{four-places, listed-within}
+use Rattle.slices.specs.declared.fours.Four.{Four}
+use Rattle.slices.specs.Own.Moves.{moved}
+use Rattle.lifts.specs.Own.Moves.{movedFour}
+use Rattle.lifts.proofs.lifts.move_four.Statement.{statement}
+use Rattle.lifts.proofs.lifts.move_four.Tie as tie
 
 signed-is : (undo : Bool) (y amount : ℤ) → signed undo y amount ≡ moved undo y amount
 unfolding moved

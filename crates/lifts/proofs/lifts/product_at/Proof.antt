@@ -1,4 +1,4 @@
--- `stages::lifts::product_at` meets its contract.
+-- `lifts::lifts::product_at` meets its contract.
 use borrow.Author.Needs.{needs}
 use native.Mathlib.Omega.{arith}
 use mathlib.Core.Path.{ap, _∙_}
@@ -10,9 +10,9 @@ use Rattle.integers.specs.Floor.{round}
 use Rattle.integers.specs.Places.{at}
 use Rattle.integers.proofs.Num.{Num, num, num-call, num-mul, mul-asks}
 use Rattle.integers.proofs.Rounding.{round-within}
-use Rattle.stages.proofs.NumLaws.{num-within}
-use Rattle.stages.proofs.lifts.product_at.Statement.{statement}
-use Rattle.stages.proofs.lifts.product_at.Tie as tie
+use Rattle.lifts.proofs.NumLaws.{num-within}
+use Rattle.lifts.proofs.lifts.product_at.Statement.{statement}
+use Rattle.lifts.proofs.lifts.product_at.Tie as tie
 
 module _ (s : tie.Start) where
   hc : Num w64 (2 ^ 28) (ofZ w64 (at (s .args .c .now) (s .args .i))) (at (s .args .c .now) (s .args .i))

@@ -1,4 +1,4 @@
--- `stages::lifts::second` meets its contract.
+-- `lifts::lifts::second` meets its contract.
 use native.Mathlib.Omega.{arith}
 use mathlib.Core.Path.{_≡_, sym, subst, _∙_}
 use Prim.Native.Nat.{ℕ, _+_, _-_, _^_, _≤_, _<_}
@@ -7,10 +7,10 @@ use lib.ListN.{length}
 use Rattle.integers.specs.Floor.{round}
 use Rattle.integers.specs.Places.{at}
 use Rattle.rows.specs.Orders.{Order, rowAt}
-use Rattle.stages.specs.Moves.{second, Scaled}
-use Rattle.stages.proofs.FourLaws.{Turns, turns-none, turns-long, turns-left, turns-size, turns-next, turns-all}
-use Rattle.stages.proofs.lifts.second.Statement.{statement}
-use Rattle.stages.proofs.lifts.second.Tie as tie
+use Rattle.lifts.specs.Own.Moves.{second, Scaled}
+use Rattle.lifts.proofs.FourLaws.{Turns, turns-none, turns-long, turns-left, turns-size, turns-next, turns-all}
+use Rattle.lifts.proofs.lifts.second.Statement.{statement}
+use Rattle.lifts.proofs.lifts.second.Tie as tie
 
 abbrev Inv-loop : tie.InvT-loop
 Inv-loop undo back flips y top₀ i₀ top i = Turns (λ n j z. second undo j z (round 31 (rowAt back flips y j))) top₀ i top

@@ -1,4 +1,4 @@
--- `stages::lifts::second_at` meets its contract.
+-- `lifts::lifts::second_at` meets its contract.
 use borrow.Author.Needs.{needs}
 use native.Mathlib.Omega.{arith}
 use mathlib.Core.Path.{sym, ap, subst, _∙_}
@@ -14,11 +14,11 @@ use Rattle.integers.proofs.Held.{Held, held-ok, held-eq}
 use Rattle.integers.proofs.Num.{Num, num, num-call, num-add, num-sub, add-asks, sub-asks}
 use Rattle.integers.proofs.Rounding.{round-within}
 use Rattle.rows.specs.Orders.{rowAt}
-use Rattle.stages.specs.Moves.{flipped, second}
-use Rattle.stages.proofs.NumLaws.{num-within}
-use Rattle.stages.proofs.StageSizes.{flipped-size}
-use Rattle.stages.proofs.lifts.second_at.Statement.{statement}
-use Rattle.stages.proofs.lifts.second_at.Tie as tie
+use Rattle.lifts.specs.Own.Moves.{flipped, second}
+use Rattle.lifts.proofs.NumLaws.{num-within}
+use Rattle.lifts.proofs.MoveLaws.{flipped-size}
+use Rattle.lifts.proofs.lifts.second_at.Statement.{statement}
+use Rattle.lifts.proofs.lifts.second_at.Tie as tie
 
 row-requires : tie.Need-row-requires
 row-requires c κs =

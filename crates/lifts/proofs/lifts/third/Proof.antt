@@ -1,4 +1,4 @@
--- `stages::lifts::third` meets its contract.
+-- `lifts::lifts::third` meets its contract.
 use native.Mathlib.Omega.{arith}
 use mathlib.Core.Path.{_≡_, sym, ap, subst, _∙_}
 use mathlib.Core.List.{List}
@@ -8,10 +8,11 @@ use lib.ListN.{length}
 use Rattle.integers.specs.Floor.{round}
 use Rattle.integers.specs.Places.{at, Within}
 use Rattle.rows.specs.Orders.{Order, rowAt, secantOut}
-use Rattle.stages.specs.Moves.{moved, third, Thirds}
-use Rattle.stages.proofs.FourLaws.{Turns, Gave, amounts-within, turns-none, turns-long, turns-left, turns-size, turns-moved, turns-all}
-use Rattle.stages.proofs.lifts.third.Statement.{statement}
-use Rattle.stages.proofs.lifts.third.Tie as tie
+use Rattle.slices.specs.Own.Moves.{moved}
+use Rattle.lifts.specs.Own.Moves.{third, Thirds}
+use Rattle.lifts.proofs.FourLaws.{Turns, Gave, amounts-within, turns-none, turns-long, turns-left, turns-size, turns-moved, turns-all}
+use Rattle.lifts.proofs.lifts.third.Statement.{statement}
+use Rattle.lifts.proofs.lifts.third.Tie as tie
 
 abbrev Inv-loop : tie.InvT-loop
 Inv-loop undo tangents top zs back flips y bottom₀ i₀ bottom i = Turns (λ n j z. moved undo z (round 34 (third (secantOut n (at zs) j) (rowAt back flips y j) (at tangents (n - 1 - j) *ℤ at top (n - 1 - j))))) bottom₀ i bottom

@@ -1,4 +1,4 @@
--- `stages::lifts::third_amount` meets its contract.
+-- `lifts::lifts::third_amount` meets its contract.
 use native.Mathlib.Omega.{arith}
 use mathlib.Core.Path.{ap, _∙_}
 use Prim.Native.Nat.{_^_}
@@ -7,10 +7,10 @@ use mir.Syntax.{w64}
 use mir.Val.{ofZ}
 use Rattle.integers.proofs.Words.{minus}
 use Rattle.integers.proofs.Num.{Num, num, num-lit, num-add, num-sub, num-mul, add-asks, sub-asks, mul-asks}
-use Rattle.stages.specs.Moves.{amount}
-use Rattle.stages.proofs.NumLaws.{num-within}
-use Rattle.stages.proofs.lifts.third_amount.Statement.{statement}
-use Rattle.stages.proofs.lifts.third_amount.Tie as tie
+use Rattle.lifts.specs.Own.Moves.{amount}
+use Rattle.lifts.proofs.NumLaws.{num-within}
+use Rattle.lifts.proofs.lifts.third_amount.Statement.{statement}
+use Rattle.lifts.proofs.lifts.third_amount.Tie as tie
 
 module _ (s : tie.Start) where
   times : Num w64 16 (ofZ w64 (s .args .times)) (s .args .times)

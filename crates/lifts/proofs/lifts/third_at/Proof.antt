@@ -1,4 +1,4 @@
--- `stages::lifts::third_at` meets its contract.
+-- `lifts::lifts::third_at` meets its contract.
 use borrow.Author.Needs.{needs}
 use native.Mathlib.Omega.{arith}
 use mathlib.Core.Path.{_≡_, sym, ap, ap₂, subst, _∙_}
@@ -14,10 +14,10 @@ use Rattle.integers.proofs.Held.{held-ok}
 use Rattle.integers.proofs.Num.{Num, num, num-call, num-mul, mul-asks}
 use Rattle.integers.proofs.Rounding.{round-within}
 use Rattle.rows.specs.Orders.{rowAt, secantOut}
-use Rattle.stages.specs.Moves.{third}
-use Rattle.stages.proofs.NumLaws.{num-within}
-use Rattle.stages.proofs.lifts.third_at.Statement.{statement}
-use Rattle.stages.proofs.lifts.third_at.Tie as tie
+use Rattle.lifts.specs.Own.Moves.{third}
+use Rattle.lifts.proofs.NumLaws.{num-within}
+use Rattle.lifts.proofs.lifts.third_at.Statement.{statement}
+use Rattle.lifts.proofs.lifts.third_at.Tie as tie
 
 row-requires : tie.Need-row-requires
 row-requires c κs =

@@ -1,17 +1,26 @@
--- The expanded tables: how long, and how large.
+-- The tangents and the sines of a width: how large, and as lists how long.
 use mathlib.Core.Path.{_≡_, sym, ap, subst, _∙_}
 use mathlib.Core.List.{List}
-use Prim.Native.Nat.{ℕ, _^_}
+use Prim.Native.Nat.{ℕ, _+_, _*_, _/_, _^_, _≤_}
 use native.Mathlib.Omega.{arith}
-use lib.IntN.{ℤ}
+use lib.IntN.{ℤ, natAbs}
 use lib.ListN.{length}
 use Rattle.integers.specs.Places.{Within}
 use Rattle.integers.proofs.Order.{natAbs-negℤ}
 use Rattle.integers.proofs.PlaceLaws.{length-places, within-places}
 use Rattle.tables.specs.Widths.{halfWidth}
+use Rattle.tables.specs.Numbers.{sineOf, halfTangentOf}
+use Rattle.tables.proofs.Sizes.{half-tangents-le, cosine-size}
 use Rattle.steps.specs.Steps.{sine, tangent}
-use Rattle.stages.specs.Expanded.{Sines, Tangents}
-use Rattle.stages.proofs.SecantRows.{sine-size, tangent-size}
+use Rattle.constants.specs.Own.Parts.{Sines, Tangents}
+
+pub tangent-size : (N m : ℕ) → natAbs (tangent N m) ≤ 2 ^ 27
+unfolding tangent halfTangentOf
+tangent-size = half-tangents-le
+
+pub sine-size : (N m : ℕ) → natAbs (sine N m) ≤ 2 ^ 28
+unfolding sine sineOf
+sine-size N m = cosine-size ((2 * m + 1) * (128 / N) + 768)
 
 module _ (N : ℕ) (xs : List ℤ) where
   pub sines-long : Sines N xs → length xs ≡ halfWidth N

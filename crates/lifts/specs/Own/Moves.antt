@@ -1,19 +1,14 @@
--- What the code does at one place.
-use mathlib.Core.Bool.{Bool, true, false, cond}
+-- What the lifts do at one place.
+use mathlib.Core.Bool.{Bool, true, false}
 use mathlib.Core.List.{List}
-use Prim.Native.Nat.{ℕ, _+_, _/_, _%_, _^_, _≤_, _<_}
-use lib.Dec.{eqb}
+use Prim.Native.Nat.{ℕ, _+_, _^_, _≤_, _<_}
 use lib.IntN.{ℤ, pos, negℤ, natAbs, _+ℤ_, _-ℤ_, _*ℤ_}
 use lib.ListN.{length}
 use Rattle.integers.specs.Places.{at, Within}
 use Rattle.steps.specs.Steps.{alternate}
-use Rattle.products.specs.declared.fours.Four.{Four}
+use Rattle.slices.specs.declared.fours.Four.{Four}
+use Rattle.slices.specs.Own.Moves.{moved}
 use Rattle.rows.specs.Orders.{rowAt, secantOut}
-
--- a step, or the step undone
-unfoldable pub moved : Bool → ℤ → ℤ → ℤ
-moved true y amount = y -ℤ amount
-moved false y amount = y +ℤ amount
 
 -- the four numbers from place i on, each with its amount
 abbrev pub movedFour : Bool → List ℤ → ℕ → Four → Four
@@ -23,9 +18,6 @@ movedFour undo y i f = record { a = moved undo (at y i) (f .a); b = moved undo (
 unfoldable pub flipped : Bool → ℕ → ℤ → ℤ
 flipped true i z = negℤ (alternate i z)
 flipped false i z = alternate i z
-
-unfoldable pub wovenAt : List ℤ → List ℤ → ℕ → ℤ
-wovenAt top bottom i = cond (eqb (i % 2) 0) (at top (i / 2)) (at bottom (i / 2))
 
 -- stage 2 at a place: −d(i)·x and the amount, or x less the amount, and then −d(i)
 unfoldable pub second : Bool → ℕ → ℤ → ℤ → ℤ

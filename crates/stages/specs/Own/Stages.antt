@@ -1,32 +1,10 @@
--- The tables of a width as lists, what the code computes from them, and the halves of a frame through the stages.
-use mathlib.Core.Path.{_≡_}
+-- The halves of a frame through the stages.
 use mathlib.Core.List.{List}
-use Prim.Native.Nat.{ℕ, _≤_}
-use lib.IntN.{ℤ, negℤ}
-use lib.ListN.{length}
-use Rattle.integers.specs.Places.{places}
-use Rattle.tables.specs.Widths.{halfWidth}
-use Rattle.steps.specs.Steps.{tangent, sine, stage1, stage2, stage3, stage4, stage5, unstage1, unstage2, unstage3, unstage4, unstage5}
-use Rattle.constants.specs.Filled.{productRoom}
+use Prim.Native.Nat.{ℕ}
+use lib.IntN.{ℤ}
+use Rattle.steps.specs.Steps.{stage1, stage2, stage3, stage4, stage5, unstage1, unstage2, unstage3, unstage4, unstage5}
 
--- −t(m) and s(m)
-pub record Tangents (N : ℕ) (xs : List ℤ) : Type 0 where
-  pub is : xs ≡ places (halfWidth N) (λ m. negℤ (tangent N m))
-
-pub record Sines (N : ℕ) (xs : List ℤ) : Type 0 where
-  pub is : xs ≡ places (halfWidth N) (sine N)
-
--- the halves of a frame
-pub record Halves (N : ℕ) (top bottom : List ℤ) : Type 0 where
-  pub top-long : length top ≡ halfWidth N
-  pub bottom-long : length bottom ≡ halfWidth N
-
--- room for two products
-pub record Room (N : ℕ) (y z : List ℤ) : Type 0 where
-  pub y-long : productRoom N ≤ length y
-  pub z-long : productRoom N ≤ length z
-
--- ---- the halves through all stages: after stages 1, 2 and 3, and the halves of the frame
+-- after stages 1, 2 and 3, and the halves of the frame
 unfoldable pub bottom1 : ℕ → List ℤ → List ℤ → List ℤ
 bottom1 N top bottom = stage1 N top bottom
 
