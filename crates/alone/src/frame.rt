@@ -6,12 +6,12 @@ ghost use Rattle.tables.specs.Widths.{halfWidth};
 ghost use Rattle.runs.specs.Answers.{told};
 ghost use Rattle.runs.specs.Alone.{stagesAsked, unstagesAsked, stagesAlone, unstagesAlone};
 use crate::transform;
+use cosine_lists::widths;
 use gate::questions;
 use runs::answer::Answer;
 use runs::answer::Found;
-use stages::room;
-use stages::vectors;
-use tables::widths;
+use slices::room;
+use slices::vectors;
 
 fn staged(width: usize, folded: &[i32], work: &mut [i64], frame: &mut [i32]) -> Answer
     requires { ⌜ 0 < halfWidth width ⌝ }

@@ -8,11 +8,11 @@ ghost use Rattle.integers.specs.Places.{places, at, Within};
 ghost use Rattle.tables.specs.Widths.{halfWidth};
 ghost use Rattle.constants.specs.Filled.{Filled};
 ghost use Rattle.steps.specs.Steps.{stages, unstages};
-ghost use Rattle.stages.specs.Expanded.{Halves, Room};
+ghost use Rattle.constants.specs.Own.Parts.{Halves, Room};
 use constants::fill;
 use frames::transform;
-use stages::room;
-use stages::vectors;
+use slices::room;
+use slices::vectors;
 
 // The numbers at the even places, or else at the odd ones: first is 0 or 1.
 fn every_second(x: &[i32], first: usize, out: &mut [i64])

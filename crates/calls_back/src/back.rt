@@ -6,6 +6,7 @@ ghost use Rattle.gate.specs.Own.Ready.{Ready};
 ghost use Rattle.runs.specs.Back.{takenBack, firstHeld, endedBack};
 ghost use Rattle.frames.specs.Own.Faults.{toldFault};
 use crate::in_place;
+use cosine_lists::widths;
 use frames::undo::Fault;
 use gate::questions;
 use runs::answer::Answer;
@@ -13,7 +14,6 @@ use runs::answer::Found;
 use runs::record;
 use runs::record::Outcome;
 use runs::record::Run;
-use tables::widths;
 
 pub fn answered(fault: Fault) -> Answer
     ensures { λ r. ⌜ told r ≡ toldFault fault ⌝ }

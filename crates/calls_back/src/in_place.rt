@@ -15,7 +15,7 @@ use frames::undo;
 use frames::undo::Fault;
 use gate::questions;
 use runs::answer::Answer;
-use stages::room;
+use slices::room;
 
 // Room is cleared when it is made, so there are two sizes: at width 8, room for 128 costs more than the step.
 fn in_small_room(

@@ -6,13 +6,13 @@ ghost use Rattle.runs.specs.Record.{zeros, closed};
 ghost use Rattle.gate.specs.Own.Ready.{Ready};
 ghost use Rattle.runs.specs.Forward.{started, frameOn, taken, ended};
 use crate::in_place;
+use cosine_lists::widths;
 use frames::step;
 use gate::questions;
 use runs::answer::Answer;
 use runs::record;
 use runs::record::Outcome;
 use runs::record::Run;
-use tables::widths;
 
 // A fresh run of a width.
 pub fn start(width: usize) -> Outcome

@@ -14,7 +14,7 @@ use frames::step;
 use gate::questions;
 use gate::questions::Fault;
 use runs::answer::Answer;
-use stages::room;
+use slices::room;
 
 // Room is cleared when it is made, so there are two sizes: at width 8, room for 128 costs more than the step.
 fn in_small_room(width: usize, block: &[i32], held: &mut [i64], frame: &mut [i32])

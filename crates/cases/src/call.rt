@@ -1,8 +1,8 @@
 // The calls of the library by kind: 0 start, 1 take a block, 2 finish, 3 take a frame back, 4 finish back, 5 whole run, 6 whole run back, 7 stages
 // alone, 8 stages alone back. Of the record 0 and those from 5 on take the width, and these hand it back as it was.
 use alone::frame;
-use calls_forward::forward;
 use calls_back::back;
+use calls_forward::forward;
 use runs::answer::Answer;
 use runs::record::Outcome;
 use runs::record::Run;

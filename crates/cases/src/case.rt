@@ -9,7 +9,7 @@ use runs::answer::Answer;
 use runs::record;
 use runs::record::Outcome;
 use runs::record::Run;
-use stages::vectors;
+use slices::vectors;
 
 fn held_in(x: &[i32]) -> [i64; 64]
     requires { ⌜ length (now x) ≡ 64 ⌝ }

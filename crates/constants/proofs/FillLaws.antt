@@ -16,8 +16,9 @@ use Rattle.tables.specs.Numbers.{sines, cosineOf, sineOf, halfTangentOf, secant
 use Rattle.tables.proofs.ByWidth.{at-each, at-other, half-width-le}
 use Rattle.tables.proofs.Sizes.{secant-size}
 use Rattle.steps.specs.Steps.{tangent, sine, alternate}
-use Rattle.products.specs.Products.{Power}
-use Rattle.products.specs.Whole.{LeafLists, Tabled}
+use Rattle.products.specs.Own.Products.{Power}
+use Rattle.products.specs.Own.Whole.{LeafLists}
+use Rattle.product_lists.specs.Own.Tables.{Tabled}
 use Rattle.products.proofs.WholeLaws.{power-same}
 use Rattle.constants.specs.Orders.{angleAt, placeIn, signIn, placeOut, Ordered}
 use Rattle.constants.specs.Filled.{part, leavesLong, tablesLong, listRoom, cosineList, secantList, Filled, Lifts, Lists}

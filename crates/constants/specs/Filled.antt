@@ -7,7 +7,7 @@ use lib.ListN.{length, take, drop}
 use Rattle.integers.specs.Places.{places, at}
 use Rattle.tables.specs.Widths.{byWidth, halfWidth, scale}
 use Rattle.steps.specs.Steps.{tangent, sine, alternate}
-use Rattle.products.specs.Whole.{LeafLists}
+use Rattle.products.specs.Own.Whole.{LeafLists}
 use Rattle.constants.specs.Orders.{angleAt, placeIn, signIn, placeOut}
 use Rattle.tables.specs.Numbers.{cosineOf, secantOf}
 

@@ -11,11 +11,11 @@ ghost use Rattle.tables.specs.Widths.{halfWidth};
 ghost use Rattle.tables.specs.Numbers.{sines};
 ghost use Rattle.constants.specs.Filled.{tablesLong, listRoom, Filled, Lifts, Lists};
 use crate::order;
-use products::lists;
-use tables::secants;
-use tables::sines;
-use tables::tangents;
-use tables::widths;
+use cosine_lists::sines;
+use cosine_lists::widths;
+use product_lists::lists;
+use table_lists::secants;
+use table_lists::tangents;
 
 // How many numbers that is.
 pub fn tables_long(width: usize) -> usize

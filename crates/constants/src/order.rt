@@ -5,7 +5,7 @@ ghost use lib.IntN.{pos, natAbs};
 ghost use lib.ListN.{length};
 ghost use Rattle.tables.specs.Widths.{halfWidth};
 ghost use Rattle.constants.specs.Orders.{Ordered};
-use tables::angles;
+use cosine_lists::angles;
 
 // The place of a power of 3, its sign, and its sign times d(place), at e; and e and its sign, times 8/√M, at the place.
 fn put(t: &mut [i64], half: usize, scale: i64, e: usize, place: usize, minus: bool)

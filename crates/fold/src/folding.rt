@@ -9,9 +9,9 @@ ghost use Rattle.integers.specs.Places.{at, Within};
 ghost use Rattle.tables.specs.Widths.{halfWidth};
 ghost use Rattle.steps.specs.Steps;
 ghost use Rattle.steps.specs.Steps.{lower, topOf, bottomOf, rotatedA, rotatedB};
-ghost use Rattle.stages.specs.Moves.{moved};
-ghost use Rattle.stages.specs.Expanded.{Tangents, Sines, Halves};
-use stages::vectors;
+ghost use Rattle.slices.specs.Own.Moves.{moved};
+ghost use Rattle.constants.specs.Own.Parts.{Tangents, Sines, Halves};
+use slices::vectors;
 
 struct Pair {
     a: i64,

@@ -9,8 +9,8 @@ use Rattle.tables.specs.Widths.{halfWidth}
 use Rattle.tables.proofs.ByWidth.{half-width-le}
 use Rattle.tables.proofs.Reading.{half-is}
 use Rattle.constants.specs.Filled.{tablesLong, listRoom, productRoom}
-use Rattle.stages.specs.Expanded.{Halves, Room}
-use Rattle.stages.proofs.Parts.{part-long}
+use Rattle.constants.specs.Own.Parts.{Halves, Room}
+use Rattle.slices.proofs.Parts.{part-long}
 use Rattle.frames.proofs.RoomLaws.{half-small, tables-small, tables-le, lists-small, lists-le, product-small, product-le, halves-lent}
 
 -- arrays of these lengths have room for all that a width takes, for half of it, and for a list or a product

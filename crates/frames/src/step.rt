@@ -7,10 +7,10 @@ ghost use Rattle.integers.specs.Places.{Within};
 ghost use Rattle.tables.specs.Widths.{halfWidth};
 ghost use Rattle.constants.specs.Filled.{Filled};
 ghost use Rattle.steps.specs.Limits.{readingLimit, foldedLimit};
-ghost use Rattle.stages.specs.Expanded.{Halves, Room};
+ghost use Rattle.constants.specs.Own.Parts.{Halves, Room};
 ghost use Rattle.steps.specs.Steps.{held, frame};
 use fold::folding;
-use stages::vectors;
+use slices::vectors;
 
 // t has what the width takes; what follows frame is room to work in.
 pub fn step(

@@ -8,8 +8,8 @@ ghost use Rattle.integers.specs.Places.{places, at, Within};
 ghost use Rattle.tables.specs.Widths.{halfWidth};
 ghost use Rattle.constants.specs.Filled.{Filled};
 ghost use Rattle.steps.specs.Steps.{stages, unstages};
-ghost use Rattle.stages.specs.Expanded.{Halves, Room};
-use stages::vectors;
+ghost use Rattle.constants.specs.Own.Parts.{Halves, Room};
+use slices::vectors;
 
 // A frame to its folded values.
 pub fn unstages(

@@ -7,7 +7,7 @@ ghost use Rattle.integers.specs.Places.{Within};
 ghost use Rattle.tables.specs.Widths.{halfWidth};
 ghost use Rattle.steps.specs.Limits.{foldedLimit, coefficientLimit};
 ghost use Rattle.constants.specs.Filled.{Filled};
-ghost use Rattle.stages.specs.Expanded.{Halves, Room};
+ghost use Rattle.constants.specs.Own.Parts.{Halves, Room};
 ghost use Rattle.runs.specs.Answers.{firstBeyond};
 ghost use Rattle.runs.specs.Record.{opened};
 ghost use Rattle.runs.specs.Back.{unfoldedIn, undoneIn};
@@ -16,7 +16,7 @@ use crate::transform;
 use fold::folding;
 use gate::questions;
 use runs::answer::Found;
-use stages::vectors;
+use slices::vectors;
 
 // What questions 9 to 12 refuse.
 pub enum Fault {

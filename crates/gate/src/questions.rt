@@ -9,12 +9,12 @@ ghost use Rattle.runs.specs.Answers.{told, beyond, firstBeyond};
 ghost use Rattle.runs.specs.Record.{recordOf, nextCount};
 ghost use Rattle.runs.specs.Gate.{firstDead};
 ghost use Rattle.gate.specs.Own.Faults.{faultOf};
+use cosine_lists::widths;
 use runs::answer::Answer;
 use runs::answer::Found;
 use runs::record::Run;
-use stages::room;
-use stages::vectors;
-use tables::widths;
+use slices::room;
+use slices::vectors;
 
 // The first reading that questions 8 and 9 refuse.
 pub enum Fault {

@@ -11,9 +11,9 @@ ghost use Rattle.c_record.specs.Calls.{lappedStart, lappedTake, lappedFinish, l
 use c_record::answer;
 use c_record::record;
 use c_record::record::Head;
+use calls_back::back;
 use calls_forward::forward;
 use calls_forward::in_place;
-use calls_back::back;
 use runs::answer::Answer;
 
 // A fresh run of a width, either way.

@@ -3,8 +3,8 @@ ghost use mathlib.Core.Path.{_≡_};
 ghost use Rattle.runs.specs.Alone.{stagesAlone, unstagesAlone};
 ghost use Rattle.runs.specs.Whole.{wholeForward, WholeRun};
 ghost use Rattle.runs.specs.WholeBack.{wholeBack};
-use c_record::answer;
 use alone::frame;
+use c_record::answer;
 
 // The whole run forward: every block's frame, and the finish's.
 #[no_mangle]

@@ -1,6 +1,6 @@
 -- A leaf's nine products come to the product of four numbers with its list, and everything on the way fits.
 use mathlib.Core.Path.{_≡_, refl, sym, ap, ap₂, subst, _∙_}
-use mathlib.Core.List.{List}
+use mathlib.Core.List.{List, [], _∷_}
 use Prim.Native.Nat.{ℕ, _+_, _*_, _^_, _≤_, _<_}
 use native.Mathlib.Nat.{mul-le-mul-right}
 use native.Mathlib.Omega.{arith}
@@ -8,19 +8,28 @@ use lib.IntN.{ℤ, natAbs, _+ℤ_, _-ℤ_, _*ℤ_, +ℤ-idl, +ℤ-assoc}
 use lib.ListN.{length}
 use mir.Syntax.{w64}
 use mir.Val.{toZ}
-use Rattle.integers.specs.Places.{places, at, sum, Within}
+use Rattle.integers.specs.Places.{tab, places, at, sum, Within}
 use Rattle.integers.proofs.Order.{natAbs-*ℤ-le}
 use Rattle.integers.proofs.Ring.{+ℤ-swap}
 use Rattle.integers.proofs.Held.{Held}
 use Rattle.integers.proofs.PlaceLaws.{within-places, at-places, places-ext, places-is, sum-ext}
-use Rattle.products.specs.declared.fours.Four.{Four}
+use Rattle.slices.specs.declared.fours.Four.{Four}
 use Rattle.products.specs.declared.leaf.Nine.{Nine}
-use Rattle.products.specs.Fours.{listed, stored}
-use Rattle.products.specs.Products.{Lists, Laid, product, products, Sized, nine}
-use Rattle.products.specs.Leaf.{listedNine, Fit, Leaf, Leaves, Leafed}
-use Rattle.products.proofs.FourLaws.{length-stored, stored-out, stored-is}
+use Rattle.slices.specs.Own.Fours.{listed, stored}
+use Rattle.products.specs.Own.Products.{Lists, Laid, product, products, Sized, nine}
+use Rattle.products.specs.Own.Leaf.{listedNine, Fit, Leaf, Leaves, Leafed}
+use Rattle.slices.proofs.FourLaws.{length-stored, stored-out, stored-is}
 use Rattle.products.proofs.RoomLaws.{next-one}
 use Rattle.products.proofs.LevelLaws.{first-term, second-term, doubled-size, differing-size, product-size}
+
+-- ---- nine numbers read: four, four and one
+pub nine-read : (t : ℕ → ℤ) (x y : Four) → listed x ≡ places 4 t → listed y ≡ places 4 (λ j. t (4 + j)) → {a b c d e f g h i : ℤ}
+    → a ≡ x .a → b ≡ x .b → c ≡ x .c → d ≡ x .d → e ≡ y .a → f ≡ y .b → g ≡ y .c → h ≡ y .d → i ≡ t 8
+    → (a ∷ b ∷ c ∷ d ∷ e ∷ f ∷ g ∷ h ∷ i ∷ []) ≡ places 9 t
+unfolding tab
+nine-read t x y p q a b c d e f g h i =
+    ap₂ _∷_ (a ∙ ap (λ l. at l 0) p) (ap₂ _∷_ (b ∙ ap (λ l. at l 1) p) (ap₂ _∷_ (c ∙ ap (λ l. at l 2) p) (ap₂ _∷_ (d ∙ ap (λ l. at l 3) p)
+    (ap₂ _∷_ (e ∙ ap (λ l. at l 0) q) (ap₂ _∷_ (f ∙ ap (λ l. at l 1) q) (ap₂ _∷_ (g ∙ ap (λ l. at l 2) q) (ap₂ _∷_ (h ∙ ap (λ l. at l 3) q) (ap (λ z. z ∷ []) i))))))))
 
 -- ---- the four places
 shuffled : (a b c d : ℤ) → (a +ℤ b) +ℤ (c +ℤ d) ≡ a +ℤ c +ℤ b +ℤ d

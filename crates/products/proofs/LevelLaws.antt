@@ -13,7 +13,7 @@ use Rattle.integers.proofs.Order.{natAbs-+ℤ-le, natAbs-*ℤ-le, natAbs--ℤ}
 use Rattle.integers.proofs.PlaceLaws.{sum-ext}
 use Rattle.integers.proofs.Permutations.{sum-plus}
 use Rattle.integers.proofs.Differences.{dif, zs}
-use Rattle.products.specs.Products.{Lists, product, products, down, downL, up, wide, numbers, tables, raised, Power, Sized, Sizes}
+use Rattle.products.specs.Own.Products.{Lists, product, products, down, downL, up, wide, numbers, tables, raised, Power, Sized, Sizes}
 
 -- a sum in two parts
 pub sum-split : (m n : ℕ) (f : ℕ → ℤ) → sum (m + n) f ≡ sum m f +ℤ sum n (λ j. f (m + j))

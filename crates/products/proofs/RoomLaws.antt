@@ -1,21 +1,21 @@
 -- The steps of a level, turn by turn, and what they come to.
-use mathlib.Core.Path.{_≡_, refl, ap, ap₂, subst, _∙_}
+use mathlib.Core.Path.{_≡_, refl, sym, ap, ap₂, subst, subst₂, _∙_}
 use mathlib.Core.Bool.{Bool, true, false}
 use mathlib.Core.List.{List}
-use Prim.Native.Nat.{ℕ, _+_, _-_, _*_, _/_, _%_, _≤_, _<_}
+use Prim.Native.Nat.{ℕ, _+_, _-_, _*_, _/_, _%_, _^_, _≤_, _<_}
 use native.Mathlib.Nat.{mul-le-mul-right}
 use native.Mathlib.Omega.{arith}
 use borrow.Author.Tests.{ltb-true, ltb-false}
 use lib.Dec.{ltb}
-use lib.IntN.{ℤ, _+ℤ_}
+use lib.IntN.{ℤ, natAbs, _+ℤ_}
 use lib.ListN.{length}
 use Rattle.integers.specs.Places.{places, at}
 use Rattle.integers.proofs.PlaceLaws.{at-places, places-ext}
-use Rattle.products.specs.declared.fours.Four.{Four}
-use Rattle.products.specs.Fours.{listed, stored}
-use Rattle.products.specs.Products.{Lists, Laid, down, up}
-use Rattle.products.specs.Rooms.{Written, AllWritten, halfSums, Spread, AllSpread}
-use Rattle.products.proofs.FourLaws.{next-four, length-stored, stored-out, stored-is}
+use Rattle.slices.specs.declared.fours.Four.{Four}
+use Rattle.slices.specs.Own.Fours.{listed, stored}
+use Rattle.products.specs.Own.Products.{Lists, Laid, down, up}
+use Rattle.products.specs.Own.Rooms.{Small, Written, AllWritten, halfSums, Spread, AllSpread}
+use Rattle.slices.proofs.FourLaws.{next-four, length-stored, stored-out, stored-is}
 
 -- the sum or difference of two fours, by what these are
 pub op-is : (op : ℤ → ℤ → ℤ) (x y z : Four) (f g : ℕ → ℤ) → listed x ≡ places 4 f → listed y ≡ places 4 g → listed z ≡ places 4 (λ j. op (at (listed x) j) (at (listed y) j)) → listed z ≡ places 4 (λ j. op (f j) (g j))
@@ -108,6 +108,46 @@ all-spread-next {op = op} {h = h} {k = k} {v = v} {r₀ = r₀} {r = r} {r′ = 
           (λ w n. let before : (w + 1) * (h + h) ≤ v * (h + h) = mul-le-mul-right (h + h) (omega arith) in t .rest (w * (h + h) + h + j) (λ q. absurd (omega arith)) (λ q. absurd (omega arith)) ∙ s .second w j n m)
           (t .second j m ∙ ap₂ op (s .rest (v * (h + h) + h + j) (omega arith)) (middle j)) w q;
       rest = λ p q. t .rest p (λ a. omega arith) (λ a. omega arith) ∙ s .rest p (omega arith);
+    }
+
+-- the loop over the lists: v of k are done, and the next one is at `to`, what it takes at `from`
+pub record Spreading (op : ℤ → ℤ → ℤ) (h k : ℕ) (r₀ r : List ℤ) (to from v : ℕ) : Type 0 where
+  upto : v ≤ k
+  to-is : to ≡ v * (h + h)
+  from-is : from ≡ k * (h + h) + v * h
+  spread : AllSpread op h k v r₀ r
+
+pub spreading-none : (op : ℤ → ℤ → ℤ) (h k : ℕ) (r : List ℤ) → Spreading op h k r r 0 (k * (h + h)) 0
+spreading-none op h k r = record { upto = omega arith; to-is = omega arith; from-is = omega arith; spread = all-spread-none op h k r }
+
+-- the first list is in the room
+pub one-in-room : (h : ℕ) {k n : ℕ} → 1 ≤ k → k * (h + h) + k * h ≤ n → h + h ≤ n
+one-in-room h {k} l n = let one : 1 * (h + h) ≤ k * (h + h) = mul-le-mul-right (h + h) l in omega arith
+
+module _ {op : ℤ → ℤ → ℤ} {h k : ℕ} {r₀ r : List ℤ} {to from v : ℕ} (s : Spreading op h k r₀ r to from v) where
+  pub spreading-long : length r ≡ length r₀
+  spreading-long = s .spread .long
+
+  pub spreading-all : k ≤ v → AllSpread op h k k r₀ r
+  spreading-all n = let e : v ≡ k = omega (arith, n, s .upto) in subst (λ w. AllSpread op h k w r₀ r) e (s .spread)
+
+  module _ (n : k * (h + h) + k * h ≤ length r₀) (l : v < k) where
+    -- the next list, and what it takes
+    pub spreading-inside : (to + (h + h) ≤ from) × (from + h ≤ length r)
+    spreading-inside =
+        let lists : (v + 1) * (h + h) ≤ k * (h + h) = mul-le-mul-right (h + h) (omega arith) in
+        let sums : (v + 1) * h ≤ k * h = mul-le-mul-right h (omega arith) in
+        (omega (arith, s .to-is, s .from-is), omega (arith, s .from-is, spreading-long))
+
+    pub spreading-small : Small 0 (k * (h + h) + k * h) r₀ → Small to (from + h) r
+    spreading-small z = record { small = λ p b q. subst (λ x. natAbs x ≤ 2 ^ 62 - 1) (sym (s .spread .rest p (omega (arith, s .to-is)))) (z .small p (omega arith) (let sums : (v + 1) * h ≤ k * h = mul-le-mul-right h (omega arith) in omega (arith, s .from-is))) }
+
+    pub spreading-next : {r′ : List ℤ} → Spread op to h from h r r′ → Spreading op h k r₀ r′ (to + (h + h)) (from + h) (v + 1)
+    spreading-next {r′} t = record {
+      upto = omega arith;
+      to-is = omega (arith, s .to-is);
+      from-is = omega (arith, s .from-is);
+      spread = all-spread-next (s .spread) l (subst₂ (λ p q. Spread op p h q h r r′) (s .to-is) (s .from-is) t);
     }
 
 -- what a whole turn comes to

@@ -13,10 +13,10 @@ use lib.ListN.{length, take, length-take, List·getD-eq-default}
 use lib.Seq.{length-take-le, getD-take}
 use Rattle.integers.specs.Places.{at, places, Within}
 use Rattle.integers.proofs.PlaceLaws.{by-places}
-use Rattle.products.specs.Products.{Lists, Laid, Power, Sizes, product, products, down, up, wide, tables, numbers, nine}
-use Rattle.products.specs.Rooms.{Small}
-use Rattle.products.specs.Leaf.{Leaves}
-use Rattle.products.specs.Whole.{LeafLists, Roomy, Given, Multiplied, Rising, Level, Descended, Ascended}
+use Rattle.products.specs.Own.Products.{Lists, Laid, Power, Sizes, product, products, down, up, wide, tables, numbers, nine}
+use Rattle.products.specs.Own.Rooms.{Small}
+use Rattle.products.specs.Own.Leaf.{Leaves}
+use Rattle.products.specs.Own.Whole.{LeafLists, Roomy, Given, Multiplied, Rising, Level, Descended, Ascended}
 use Rattle.products.proofs.LevelLaws.{wide-times, wide-is, wide-next, wide-top, wide-leaf, level-up, level-sized, level-fits, products-small}
 
 -- m has one number of levels

@@ -4,11 +4,11 @@ ghost use Prim.Native.Nat.{ℕ, _+_, _*_, _≤_};
 ghost use lib.IntN.{ℤ, _+ℤ_, _*ℤ_};
 ghost use lib.ListN.{length};
 ghost use Rattle.integers.specs.Places.{places, at};
-ghost use Rattle.products.specs.Products.{Lists, Laid, product, products, nine};
-ghost use Rattle.products.specs.Fours.{listed};
-ghost use Rattle.products.specs.Leaf.{listedNine, Fit, Leaf, Leaves};
-use crate::fours;
-use crate::fours::Four;
+ghost use Rattle.products.specs.Own.Products.{Lists, Laid, product, products, nine};
+ghost use Rattle.slices.specs.Own.Fours.{listed};
+ghost use Rattle.products.specs.Own.Leaf.{listedNine, Fit, Leaf, Leaves};
+use slices::fours;
+use slices::fours::Four;
 
 pub struct Nine {
     pub a: i64,
@@ -32,15 +32,17 @@ fn nine_at(x: &[i64], p: usize) -> Nine
     requires { ⌜ p + 9 ≤ length (now x) ⌝ }
     ensures { λ r. ⌜ listedNine r ≡ places 9 (λ j. at (now (x .entry)) (p + j)) ⌝ }
 {
+    let low = fours::taken(x, p);
+    let high = fours::taken(x, p + 4);
     Nine {
-        a: x[p],
-        b: x[p + 1],
-        c: x[p + 2],
-        d: x[p + 3],
-        e: x[p + 4],
-        f: x[p + 5],
-        g: x[p + 6],
-        h: x[p + 7],
+        a: low.a,
+        b: low.b,
+        c: low.c,
+        d: low.d,
+        e: high.a,
+        f: high.b,
+        g: high.c,
+        h: high.d,
         i: x[p + 8],
     }
 }

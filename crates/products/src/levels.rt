@@ -4,9 +4,10 @@ ghost use Prim.Native.Nat.{_+_, _*_, _%_, _≤_};
 ghost use lib.IntN.{_+ℤ_};
 ghost use lib.ListN.{length};
 ghost use Rattle.integers.specs.Places.{at};
-ghost use Rattle.products.specs.Products.{Lists, Laid, down, up};
-ghost use Rattle.products.specs.Rooms.{Small, Written, Spread, signed};
-use crate::fours;
+ghost use Rattle.products.specs.Own.Products.{Lists, Laid, down, up};
+ghost use Rattle.products.specs.Own.Rooms.{Small, Written, Spread};
+ghost use Rattle.slices.specs.Own.Fours.{signed};
+use slices::fours;
 
 // The sums of the halves of one list.
 fn append_list(room: &mut [i64], from: usize, to: usize, h: usize)

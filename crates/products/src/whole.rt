@@ -5,8 +5,8 @@ ghost use Prim.Native.Nat.{_+_, _*_, _^_, _≤_};
 ghost use lib.IntN.{ℤ};
 ghost use lib.ListN.{length, take};
 ghost use Rattle.integers.specs.Places.{places, at};
-ghost use Rattle.products.specs.Products.{Power, Laid, products, numbers};
-ghost use Rattle.products.specs.Whole.{Roomy, Given, LeafLists, Multiplied, Rising};
+ghost use Rattle.products.specs.Own.Products.{Power, Laid, products, numbers};
+ghost use Rattle.products.specs.Own.Whole.{Roomy, Given, LeafLists, Multiplied, Rising};
 use crate::leaf;
 use crate::levels;
 
@@ -28,7 +28,7 @@ fn descend(room: &mut [i64], m: usize) -> usize
 // The products of k leaves up to the product of the m numbers.
 fn ascend(room: &mut [i64], m: usize, leaves: usize)
     requires { ⌜ Rising m leaves (now room) ⌝ }
-    ensures { λ _. ⌜ ((L a : List ℤ) → Multiplied m L a (now (room .entry)) → Laid m 1 (products m (Rattle.products.specs.Products.tables m L 0) (numbers m a 0)) (now (room .exit))) ⌝ }
+    ensures { λ _. ⌜ ((L a : List ℤ) → Multiplied m L a (now (room .entry)) → Laid m 1 (products m (Rattle.products.specs.Own.Products.tables m L 0) (numbers m a 0)) (now (room .exit))) ⌝ }
 {
     let mut k = leaves;
     let mut n = 4;
@@ -42,7 +42,7 @@ fn ascend(room: &mut [i64], m: usize, leaves: usize)
 // The first m numbers of the room become their product with the table L, of which `lists` has the leaf lists.
 pub fn product(lists: &[i64], room: &mut [i64], m: usize)
     requires { ⌜ Given m (now lists) (now room) ⌝ }
-    ensures { λ _. ⌜ ((L : List ℤ) → LeafLists m L (now (lists .entry)) → take m (now (room .exit)) ≡ places m (Rattle.products.specs.Products.product m (at L) (at (take m (now (room .entry)))))) ⌝ }
+    ensures { λ _. ⌜ ((L : List ℤ) → LeafLists m L (now (lists .entry)) → take m (now (room .exit)) ≡ places m (Rattle.products.specs.Own.Products.product m (at L) (at (take m (now (room .entry)))))) ⌝ }
 {
     let k = descend(room, m);
     leaf::leaves(lists, room, k);

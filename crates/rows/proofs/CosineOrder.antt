@@ -20,8 +20,8 @@ use Rattle.tables.proofs.Sizes.{cosine-size}
 use Rattle.tables.proofs.Quadrants.{signed-size}
 use Rattle.steps.specs.Steps.{cosine, alternate}
 use Rattle.steps.proofs.Undo.{width-half}
-use Rattle.products.specs.Products.{product, Sizes}
-use Rattle.products.specs.Whole.{LeafLists, Given}
+use Rattle.products.specs.Own.Products.{product, Sizes}
+use Rattle.products.specs.Own.Whole.{LeafLists, Given}
 use Rattle.constants.specs.Orders.{angleAt, placeIn, signIn, placesOut, placeOut}
 use Rattle.constants.specs.Filled.{cosineList, productRoom}
 use Rattle.rows.specs.Orders.{Order, rowAt}

@@ -12,8 +12,8 @@ use Rattle.integers.specs.Places.{places, at}
 use Rattle.integers.proofs.PlaceLaws.{at-places}
 use Rattle.tables.specs.Widths.{byWidth, halfWidth}
 use Rattle.tables.proofs.ByWidth.{at-each}
-use Rattle.products.specs.Products.{product, Power, Sizes}
-use Rattle.products.specs.Whole.{LeafLists, Given}
+use Rattle.products.specs.Own.Products.{product, Power, Sizes}
+use Rattle.products.specs.Own.Whole.{LeafLists, Given}
 use Rattle.products.proofs.LevelLaws.{product-size}
 use Rattle.products.proofs.WholeLaws.{power-same}
 use Rattle.constants.specs.Filled.{productRoom}

@@ -23,8 +23,8 @@ use Rattle.tables.proofs.Quadrants.{signed-size}
 use Rattle.steps.specs.Steps.{secant, oddOf}
 use Rattle.steps.proofs.Undo.{width-half}
 use Rattle.constants.specs.Filled.{secantList, productRoom}
-use Rattle.products.specs.Products.{product, Sizes}
-use Rattle.products.specs.Whole.{LeafLists, Given}
+use Rattle.products.specs.Own.Products.{product, Sizes}
+use Rattle.products.specs.Own.Whole.{LeafLists, Given}
 use Rattle.rows.specs.Orders.{secantIn, secantOut}
 use Rattle.rows.specs.Sums.{secantSums, SecantRows}
 use Rattle.integers.proofs.Permutations.{back, back-at}

@@ -9,7 +9,7 @@ use Rattle.integers.specs.Places.{tab, places, at, sum}
 use Rattle.integers.proofs.Ring.{*ℤ-assoc, *ℤ-distribl}
 use Rattle.integers.proofs.PlaceLaws.{at-tab, at-places, sum-ext}
 use Rattle.integers.proofs.Permutations.{sum-permuted}
-use Rattle.products.specs.Products.{product}
+use Rattle.products.specs.Own.Products.{product}
 
 -- ---- tests, computed at each width
 abbrev pub matrix : ℕ → (ℕ → ℕ → ℤ) → List (List ℤ)

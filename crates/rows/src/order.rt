@@ -6,8 +6,8 @@ ghost use lib.ListN.{length};
 ghost use Rattle.integers.specs.Places;
 ghost use Rattle.integers.specs.Places.{at, Within};
 ghost use Rattle.rows.specs.Orders.{Order, rowAt, secantIn, secantOut};
-use products::fours;
-use products::fours::Four;
+use slices::fours;
+use slices::fours::Four;
 
 // The number at a place of an order, with its sign.
 pub fn row(places: &[i64], signs: &[i64], x: &[i64], m: usize) -> i64

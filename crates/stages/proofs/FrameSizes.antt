@@ -7,7 +7,7 @@ use lib.IntN.{ℤ}
 use lib.ListN.{length}
 use Rattle.integers.specs.Places.{Within}
 use Rattle.tables.specs.Widths.{halfWidth}
-use Rattle.stages.specs.Expanded.{bottom1, top2, bottom3, top4, bottom5, unbottom5, untop4, unbottom3, untop2, unbottom1}
+use Rattle.stages.specs.Own.Stages.{bottom1, top2, bottom3, top4, bottom5, unbottom5, untop4, unbottom3, untop2, unbottom1}
 use Rattle.stages.proofs.StageSizes.{size1, size2, size3, size4, size5}
 use Rattle.steps.proofs.Undo.{length-stage1, length-stage2, length-stage3, length-stage4, length-stage5, length-unstage1, length-unstage2, length-unstage3, length-unstage4, length-unstage5}
 

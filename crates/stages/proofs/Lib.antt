@@ -1,11 +1,6 @@
-pub mod NumLaws
-pub mod FourLaws
-pub mod RowLaws
-pub mod MoveLaws
 pub mod SecantRows
 pub mod StageSizes
-pub mod TableSizes
+pub mod RowLaws
 pub mod FrameSizes
 pub mod StageLaws
 pub mod PartLaws
-pub mod Parts

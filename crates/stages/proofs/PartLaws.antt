@@ -15,7 +15,7 @@ use Rattle.constants.specs.Orders.{signIn, placeOut}
 use Rattle.constants.specs.Filled.{Filled, tablesLong, productRoom}
 use Rattle.rows.specs.Orders.{Order, rowAt}
 use Rattle.rows.specs.Sums.{cosineSums, CosineRows, SecantRows}
-use Rattle.stages.specs.Moves.{Scaled, Thirds}
+use Rattle.lifts.specs.Own.Moves.{Scaled, Thirds}
 use Rattle.stages.proofs.RowLaws.{room-for-half, order-is, row-is, cosine-part, secant-part, scaled-is, thirds-are}
 
 pub half-in-fours : (N : ℕ) → halfWidth N % 4 ≡ 0

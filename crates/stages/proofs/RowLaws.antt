@@ -23,8 +23,9 @@ use Rattle.constants.specs.Orders.{signIn, placesOut, placeOut}
 use Rattle.constants.specs.Filled.{productRoom}
 use Rattle.rows.specs.Orders.{Order, rowAt, secantOut}
 use Rattle.rows.specs.Sums.{cosineSums, secantSums, alternated, CosineRows, SecantRows}
-use Rattle.stages.specs.Moves.{Scaled, Thirds}
-use Rattle.stages.proofs.StageSizes.{alternate-size, cosine-sum-size, secant-sum-size}
+use Rattle.lifts.specs.Own.Moves.{Scaled, Thirds}
+use Rattle.lifts.proofs.MoveLaws.{alternate-size}
+use Rattle.stages.proofs.StageSizes.{cosine-sum-size, secant-sum-size}
 
 -- ---- the order of a width
 out-below : (N : ℕ) → T (below (halfWidth N) (λ m. ltb (placeOut N m) (halfWidth N)))

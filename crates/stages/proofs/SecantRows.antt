@@ -1,26 +1,16 @@
--- The sizes of the table numbers that the stages use. The way back at width 128 fits a word only by the sums of a row of secants and of cosines.
+-- The sums of a row of secants and of a row of cosines: only by them does the way back at width 128 fit a word.
 use mathlib.Core.Bool.{Bool}
-use Prim.Native.Nat.{ℕ, _+_, _*_, _/_, _^_, _≤_, _<_}
+use Prim.Native.Nat.{ℕ, _*_, _^_, _≤_, _<_}
 use lib.Dec.{T, leb, leb→le}
-use lib.IntN.{natAbs}
 use Rattle.integers.specs.Vectors.{sumAbs}
 use Rattle.tables.specs.Widths.{byWidth, halfWidth}
 use Rattle.tables.specs.Angles.{halfTurn, reflected, minus, signed}
-use Rattle.tables.specs.Numbers.{sines, secants, secants8, secants32, secants128, cosineOf, sineOf, halfTangentOf, secantOf}
+use Rattle.tables.specs.Numbers.{sines, secants, secants8, secants32, secants128, cosineOf, secantOf}
 use Rattle.tables.proofs.ByWidth.{at-each}
-use Rattle.tables.proofs.Sizes.{half-tangents-le, cosine-size}
 use Rattle.steps.specs.Places.{tab}
-use Rattle.steps.specs.Steps.{tangent, sine, cosine, oddOf, secant}
+use Rattle.steps.specs.Steps.{cosine, oddOf, secant}
 use Rattle.integers.specs.Tests.{below}
 use Rattle.integers.proofs.Tested.{below-at}
-
-pub tangent-size : (N m : ℕ) → natAbs (tangent N m) ≤ 2 ^ 27
-unfolding tangent halfTangentOf
-tangent-size = half-tangents-le
-
-pub sine-size : (N m : ℕ) → natAbs (sine N m) ≤ 2 ^ 28
-unfolding sine sineOf
-sine-size N m = cosine-size ((2 * m + 1) * (128 / N) + 768)
 
 abbrev fits : ℕ → ℕ → ℕ → Bool
 fits N M m = leb (sumAbs (tab (secant N m) M 0)) (4 * M * 2 ^ 28)

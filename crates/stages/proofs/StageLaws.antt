@@ -16,9 +16,9 @@ use Rattle.tables.specs.Widths.{byWidth, halfWidth, scale}
 use Rattle.tables.proofs.ByWidth.{at-each, no-other}
 use Rattle.steps.specs.Steps.{rootLog, cosine, secant, alternate, amount1, amount2, amount3, tangent, sine, tangentAmount, sineAmount, stage1, stage2, stage3, stage4, stage5, unstage1, unstage2, unstage3, unstage4, unstage5}
 use Rattle.rows.specs.Sums.{cosineSums, secantSums, alternated}
-use Rattle.stages.specs.Moves.{moved, flipped, second, amount, third}
-use Rattle.stages.specs.Expanded.{Halves}
-use Rattle.stages.proofs.MoveLaws.{mirror-in}
+use Rattle.slices.specs.Own.Moves.{moved}
+use Rattle.lifts.specs.Own.Moves.{flipped, second, amount, third}
+use Rattle.constants.specs.Own.Parts.{Halves}
 
 -- ---- one scale for all widths
 round-first : (N : ℕ) → 0 < halfWidth N → (v : ℤ) → round 30 (pos (scale N) *ℤ v) ≡ round (27 + rootLog N) v
@@ -142,34 +142,34 @@ module _ (N : ℕ) (z : 0 < halfWidth N) (top bottom : List ℤ) (h : Halves N t
     pub stage3-is : (undo : Bool) {out : List ℤ} → out ≡ lifted3 undo → out ≡ cond undo (unstage3 N top bottom) (stage3 N top bottom)
     stage3-is undo e = e ∙ same3 undo
 
--- ---- lifts that read a list from its end
+-- ---- lifts that read a list from its end: at place i of n numbers c is read at `place n i`
 module _ (N : ℕ) (top bottom : List ℤ) (h : Halves N top bottom) (c : List ℤ) where
-  lifted-by : (undo back : Bool) (x y : List ℤ) (f : ℕ → ℤ) → length y ≡ halfWidth N → c ≡ places (halfWidth N) f
-      → places (length y) (λ i. moved undo (at y i) (round 28 (at c (cond back (length y - 1 - i) i) *ℤ at x (length y - 1 - i))))
-      ≡ places (halfWidth N) (λ i. moved undo (at y i) (round 28 (f (cond back (halfWidth N - 1 - i) i) *ℤ at x (halfWidth N - 1 - i))))
-  lifted-by undo back x y f l t =
+  lifted-by : (undo : Bool) (place : ℕ → ℕ → ℕ) (x y : List ℤ) (f : ℕ → ℤ) → ((i : ℕ) → i < halfWidth N → place (halfWidth N) i < halfWidth N) → length y ≡ halfWidth N → c ≡ places (halfWidth N) f
+      → places (length y) (λ i. moved undo (at y i) (round 28 (at c (place (length y) i) *ℤ at x (length y - 1 - i))))
+      ≡ places (halfWidth N) (λ i. moved undo (at y i) (round 28 (f (place (halfWidth N) i) *ℤ at x (halfWidth N - 1 - i))))
+  lifted-by undo place x y f inside l t =
       let M = halfWidth N in
-      ap (λ n. places n (λ i. moved undo (at y i) (round 28 (at c (cond back (n - 1 - i) i) *ℤ at x (n - 1 - i))))) l
-      ∙ places-ext M _ _ (λ i k. ap (λ z. moved undo (at y i) (round 28 (z *ℤ at x (M - 1 - i)))) (ap (λ xs. at xs (cond back (M - 1 - i) i)) t ∙ at-places M f _ (mirror-in back M i k)))
+      ap (λ n. places n (λ i. moved undo (at y i) (round 28 (at c (place n i) *ℤ at x (n - 1 - i))))) l
+      ∙ places-ext M _ _ (λ i k. ap (λ z. moved undo (at y i) (round 28 (z *ℤ at x (M - 1 - i)))) (ap (λ xs. at xs (place M i)) t ∙ at-places M f _ (inside i k)))
 
   abbrev lifted4 : Bool → List ℤ
-  lifted4 undo = places (length top) (λ i. moved undo (at top i) (round 28 (at c (cond false (length top - 1 - i) i) *ℤ at bottom (length top - 1 - i))))
+  lifted4 undo = places (length top) (λ i. moved undo (at top i) (round 28 (at c i *ℤ at bottom (length top - 1 - i))))
 
   same4 : c ≡ places (halfWidth N) (sine N) → (undo : Bool) → lifted4 undo ≡ cond undo (unstage4 N top bottom) (stage4 N top bottom)
   unfolding stage4 unstage4 sineAmount moved
-  same4 t true = lifted-by true false bottom top (sine N) (h .top-long) t
-  same4 t false = lifted-by false false bottom top (sine N) (h .top-long) t
+  same4 t true = lifted-by true (λ n i. i) bottom top (sine N) (λ i k. k) (h .top-long) t
+  same4 t false = lifted-by false (λ n i. i) bottom top (sine N) (λ i k. k) (h .top-long) t
 
   pub stage4-is : c ≡ places (halfWidth N) (sine N) → (undo : Bool) {out : List ℤ} → out ≡ lifted4 undo → out ≡ cond undo (unstage4 N top bottom) (stage4 N top bottom)
   stage4-is t undo e = e ∙ same4 t undo
 
   abbrev lifted5 : Bool → List ℤ
-  lifted5 undo = places (length bottom) (λ i. moved undo (at bottom i) (round 28 (at c (cond true (length bottom - 1 - i) i) *ℤ at top (length bottom - 1 - i))))
+  lifted5 undo = places (length bottom) (λ i. moved undo (at bottom i) (round 28 (at c (length bottom - 1 - i) *ℤ at top (length bottom - 1 - i))))
 
   same5 : c ≡ places (halfWidth N) (λ m. negℤ (tangent N m)) → (undo : Bool) → lifted5 undo ≡ cond undo (unstage5 N top bottom) (stage5 N top bottom)
   unfolding stage5 unstage5 tangentAmount moved
-  same5 t true = lifted-by true true top bottom (λ m. negℤ (tangent N m)) (h .bottom-long) t
-  same5 t false = lifted-by false true top bottom (λ m. negℤ (tangent N m)) (h .bottom-long) t
+  same5 t true = lifted-by true (λ n i. n - 1 - i) top bottom (λ m. negℤ (tangent N m)) (λ i k. omega arith) (h .bottom-long) t
+  same5 t false = lifted-by false (λ n i. n - 1 - i) top bottom (λ m. negℤ (tangent N m)) (λ i k. omega arith) (h .bottom-long) t
 
   pub stage5-is : c ≡ places (halfWidth N) (λ m. negℤ (tangent N m)) → (undo : Bool) {out : List ℤ} → out ≡ lifted5 undo → out ≡ cond undo (unstage5 N top bottom) (stage5 N top bottom)
   stage5-is t undo e = e ∙ same5 t undo

@@ -14,25 +14,10 @@ use Rattle.integers.proofs.Rounding.{round-within}
 use Rattle.integers.proofs.PlaceLaws.{at-places, within-places, sum-ext, row-sum, dot-size, products-le}
 use Rattle.tables.specs.Widths.{byWidth, halfWidth}
 use Rattle.tables.proofs.ByWidth.{at-each}
-use Rattle.tables.proofs.Quadrants.{signed-size}
 use Rattle.steps.specs.Steps.{rootLog, cosine, secant, alternate, amount1, amount2, amount3, sineAmount, tangentAmount, sine, tangent, stage1, stage2, stage3, stage4, stage5, unstage1, unstage2, unstage3, unstage4, unstage5}
-use Rattle.stages.specs.Moves.{moved, flipped}
-use Rattle.stages.proofs.SecantRows.{cosine-row, secant-row, tangent-size, sine-size}
-
--- ---- what the work on vectors keeps
-pub alternate-size : (n : ℕ) (z : ℤ) → natAbs (alternate n z) ≡ natAbs z
-unfolding alternate
-alternate-size n z = signed-size _ z
-
-pub flipped-size : (even : Bool) (n : ℕ) (z : ℤ) → natAbs (flipped even n z) ≡ natAbs z
-unfolding flipped
-flipped-size true n z = natAbs-negℤ (alternate n z) ∙ alternate-size n z
-flipped-size false n z = alternate-size n z
-
-pub moved-size : (undo : Bool) (y a : ℤ) {B A : ℕ} → natAbs y ≤ B → natAbs a ≤ A → natAbs (moved undo y a) ≤ B + A
-unfolding moved
-moved-size true y a h k = omega (arith, natAbs--ℤ y a)
-moved-size false y a h k = omega (arith, natAbs-+ℤ y a)
+use Rattle.constants.proofs.TableSizes.{tangent-size, sine-size}
+use Rattle.lifts.proofs.MoveLaws.{alternate-size}
+use Rattle.stages.proofs.SecantRows.{cosine-row, secant-row}
 
 -- ---- sums
 module _ (N B : ℕ) (x : List ℤ) (h : Within B x) where

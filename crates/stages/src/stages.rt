@@ -7,8 +7,8 @@ ghost use Rattle.integers.specs.Places.{Within};
 ghost use Rattle.tables.specs.Widths.{halfWidth};
 ghost use Rattle.constants.specs.Filled.{Filled, productRoom};
 ghost use Rattle.steps.specs.Steps.{stage1, stage2, stage3, stage4, stage5, unstage1, unstage2, unstage3, unstage4, unstage5};
-ghost use Rattle.stages.specs.Expanded.{Halves, Room, top4, bottom5, untop2, unbottom1};
-use crate::lifts;
+ghost use Rattle.constants.specs.Own.Parts.{Halves, Room};
+ghost use Rattle.stages.specs.Own.Stages.{top4, bottom5, untop2, unbottom1};
 use rows::sums;
 
 // Stage 1: bottom gains top and the rounded sums of C·d·top.
@@ -26,7 +26,7 @@ fn first(undo: bool, width: usize, t: &[i64], top: &[i64], bottom: &mut [i64], y
     let flips = 6 * half;
     let lists = 7 * half;
     sums::cosine_sums(true, width, t, top, y);
-    lifts::first(
+    lifts::lifts::first(
         undo,
         &t[back..flips],
         &t[flips..lists],
@@ -51,7 +51,7 @@ fn second(undo: bool, width: usize, t: &[i64], top: &mut [i64], bottom: &[i64], 
     let flips = 6 * half;
     let lists = 7 * half;
     sums::cosine_sums(false, width, t, bottom, y);
-    lifts::second(undo, &t[back..flips], &t[flips..lists], &y[..half], top);
+    lifts::lifts::second(undo, &t[back..flips], &t[flips..lists], &y[..half], top);
 }
 
 // Stage 3: bottom loses the secant and the cosine sums and gains −t·top, rounded together.
@@ -78,7 +78,7 @@ fn third(
     let lists = 7 * half;
     sums::secant_sums(width, t, top, z);
     sums::cosine_sums(false, width, t, top, y);
-    lifts::third(
+    lifts::lifts::third(
         undo,
         &t[..half],
         top,
@@ -100,7 +100,7 @@ fn fourth(undo: bool, width: usize, t: &[i64], top: &mut [i64], bottom: &[i64])
     ensures { λ _. ⌜ now (top .exit) ≡ cond undo (unstage4 width (now (top .entry)) (now (bottom .entry))) (stage4 width (now (top .entry)) (now (bottom .entry))) ⌝ }
 {
     let half = width / 2;
-    lifts::fourth(undo, &t[half..width], bottom, top);
+    lifts::lifts::fourth(undo, &t[half..width], bottom, top);
 }
 
 // Stage 5: bottom, from its end, gains the rounded −t·top.
@@ -113,7 +113,7 @@ fn fifth(undo: bool, width: usize, t: &[i64], top: &[i64], bottom: &mut [i64])
     ensures { λ _. ⌜ now (bottom .exit) ≡ cond undo (unstage5 width (now (top .entry)) (now (bottom .entry))) (stage5 width (now (top .entry)) (now (bottom .entry))) ⌝ }
 {
     let half = width / 2;
-    lifts::fifth(undo, &t[..half], top, bottom);
+    lifts::lifts::fifth(undo, &t[..half], top, bottom);
 }
 
 // All five stages.

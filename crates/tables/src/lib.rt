@@ -1,6 +1,1 @@
-// The constant tables: sines, half tangents and secants times 2^28, read at any angle.
-pub mod angles;
-pub mod secants;
-pub mod sines;
-pub mod tangents;
-pub mod widths;
+// The constant tables and their boxed true values: definitions and proofs, and no code.

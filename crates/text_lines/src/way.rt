@@ -2,8 +2,8 @@
 ghost use mathlib.Core.Path.{_≡_};
 ghost use Rattle.runs.specs.Answers.{told};
 ghost use Rattle.text_runs.specs.Way.{takenBy, endedBy};
-use calls_forward::forward;
 use calls_back::back;
+use calls_forward::forward;
 use runs::record::Outcome;
 use runs::record::Run;
 use text_runs::state::Way;

@@ -7,7 +7,7 @@ ghost use Rattle.integers.specs.Places.{Within};
 ghost use Rattle.tables.specs.Widths.{halfWidth};
 ghost use Rattle.steps.specs.Limits.{foldedLimit};
 ghost use Rattle.constants.specs.Filled.{Filled};
-ghost use Rattle.stages.specs.Expanded.{Halves, Room};
+ghost use Rattle.constants.specs.Own.Parts.{Halves, Room};
 ghost use Rattle.runs.specs.Answers.{told, firstBeyond};
 ghost use Rattle.runs.specs.Record.{zeros, opened};
 ghost use Rattle.runs.specs.Forward.{started};
@@ -19,13 +19,13 @@ ghost use Rattle.runs.specs.WholeBack.{answerFrom, outputsFrom, firstAnswer, al
 ghost use Rattle.whole_back.specs.Own.Ready.{Frames};
 use calls_back::back;
 use constants::fill;
+use cosine_lists::widths;
 use frames::undo;
 use gate::questions;
 use runs::answer::Answer;
 use runs::answer::Found;
 use runs::record;
-use stages::room;
-use tables::widths;
+use slices::room;
 
 // An answer with its place counted through the run; 12 counts by blocks.
 fn placed(width: usize, offset: usize, answer: Answer) -> Answer

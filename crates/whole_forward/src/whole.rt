@@ -11,13 +11,13 @@ ghost use Rattle.runs.specs.Calls.{made};
 ghost use Rattle.runs.specs.Whole.{callsOf, outputs, wholeForward, WholeRun};
 ghost use Rattle.gate.specs.Own.Ready.{Blocks};
 use constants::fill;
+use cosine_lists::widths;
 use frames::step;
 use gate::questions;
 use gate::questions::Fault;
 use runs::answer::Answer;
 use runs::record;
-use stages::room;
-use tables::widths;
+use slices::room;
 
 // The search through the blocks of a run that has a fault.
 fn searched(width: usize, readings: &[i32]) -> Fault

@@ -10,7 +10,7 @@ use Rattle.tables.specs.Widths.{halfWidth}
 use Rattle.tables.proofs.ByWidth.{half-width-le}
 use Rattle.tables.proofs.Reading.{half-is}
 use Rattle.constants.specs.Filled.{Filled}
-use Rattle.stages.proofs.Parts.{part-long, front, front-long, front-le}
+use Rattle.slices.proofs.Parts.{part-long, front, front-long, front-le}
 use Rattle.frames.proofs.RoomLaws.{tables-le, lists-le, product-le}
 use Rattle.alone.proofs.transform.alone.Statement.{statement}
 use Rattle.alone.proofs.transform.alone.Tie as tie

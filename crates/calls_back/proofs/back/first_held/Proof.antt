@@ -7,7 +7,7 @@ use lib.IntN.{pos}
 use lib.ListN.{length, take}
 use Rattle.tables.proofs.ByWidth.{half-width-le}
 use Rattle.runs.specs.Answers.{firstBeyond}
-use Rattle.stages.proofs.Parts.{part-long}
+use Rattle.slices.proofs.Parts.{part-long}
 use Rattle.runs.specs.Back.{firstHeld}
 use Rattle.calls_back.proofs.back.first_held.Statement.{statement}
 use Rattle.calls_back.proofs.back.first_held.Tie as tie

@@ -6,7 +6,7 @@ use mathlib.Core.List.{List}
 use Prim.Native.Nat.{ℕ, _/_, _≤_}
 use lib.IntN.{ℤ}
 use lib.ListN.{length}
-use Rattle.stages.proofs.Parts.{part-long}
+use Rattle.slices.proofs.Parts.{part-long}
 use Rattle.frames.proofs.RoomLaws.{tables-small, lists-small, product-small, filled-le, filled-long, filled-lent, halves-lent}
 use Rattle.calls_back.proofs.in_place.in_small_room.Statement.{statement}
 use Rattle.calls_back.proofs.in_place.in_small_room.Tie as tie

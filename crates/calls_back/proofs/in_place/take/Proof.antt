@@ -12,7 +12,7 @@ use Rattle.tables.specs.Widths.{halfWidth}
 use Rattle.tables.proofs.Reading.{half-is}
 use Rattle.steps.specs.Limits.{foldedLimit}
 use Rattle.runs.specs.Answers.{told}
-use Rattle.stages.proofs.Parts.{part-long}
+use Rattle.slices.proofs.Parts.{part-long}
 use Rattle.frames.proofs.FrameLaws.{take-within}
 use Rattle.runs.specs.declared.record.Run.{Run}
 use Rattle.runs.specs.Record.{frameLimit, recordOf, nextCount}

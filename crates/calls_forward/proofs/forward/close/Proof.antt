@@ -9,7 +9,7 @@ use lib.ListN.{length, take, length-replicate}
 use Rattle.integers.specs.Places.{Within}
 use Rattle.steps.specs.Limits.{readingLimit, foldedLimit}
 use Rattle.steps.specs.Steps.{frame}
-use Rattle.stages.proofs.Parts.{part-long}
+use Rattle.slices.proofs.Parts.{part-long}
 use Rattle.frames.proofs.FrameLaws.{take-within}
 use Rattle.runs.specs.Record.{zeros, closed}
 use Rattle.gate.proofs.FaultLaws.{width-room, half-room}

@@ -13,7 +13,7 @@ use Rattle.tables.proofs.Reading.{half-is}
 use Rattle.steps.specs.Limits.{foldedLimit}
 use Rattle.runs.specs.Answers.{told}
 use Rattle.runs.specs.declared.answer.Answer.the-variants.{Done}
-use Rattle.stages.proofs.Parts.{part-long}
+use Rattle.slices.proofs.Parts.{part-long}
 use Rattle.frames.proofs.FrameLaws.{width-in-fours, take-within}
 use Rattle.runs.specs.declared.record.Run.{Run}
 use Rattle.gate.specs.declared.questions.Fault.the-variants.{Clear}

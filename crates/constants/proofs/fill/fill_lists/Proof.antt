@@ -16,7 +16,7 @@ use Rattle.integers.proofs.Num.{Num, num, mul-asks, num-mul}
 use Rattle.tables.specs.Widths.{halfWidth, scale}
 use Rattle.tables.specs.Numbers.{cosineOf, secantOf}
 use Rattle.tables.proofs.Sizes.{cosine-size, secant-size}
-use Rattle.products.specs.Whole.{LeafLists}
+use Rattle.products.specs.Own.Whole.{LeafLists}
 use Rattle.constants.specs.Filled.{leavesLong, listRoom, cosineList, secantList}
 use Rattle.constants.proofs.OrderLaws.{scale-le}
 use Rattle.constants.proofs.FillLaws.{Measured, measured, leaves-are, room-same, table-now, tabled, leaves-of, cosine-list, cosines-fit, square-le, scaled-size, scaled-is, secant-list, secants-fit, lists-made}

@@ -10,7 +10,7 @@ use Rattle.integers.specs.Floor.{round}
 use Rattle.integers.proofs.Held.{held-ok}
 use Rattle.integers.proofs.Num.{Num, num, num-mul, num-call, mul-asks}
 use Rattle.integers.proofs.Rounding.{round-within}
-use Rattle.stages.specs.Moves.{moved}
+use Rattle.slices.specs.Own.Moves.{moved}
 use Rattle.fold.proofs.FoldLaws.{bits-size}
 use Rattle.fold.proofs.folding.lift.Statement.{statement}
 use Rattle.fold.proofs.folding.lift.Tie as tie

@@ -10,13 +10,14 @@ use Rattle.integers.specs.Places.{Within}
 use Rattle.integers.proofs.PlaceLaws.{within-up}
 use Rattle.tables.specs.Widths.{halfWidth}
 use Rattle.tables.proofs.Reading.{half-is}
-use Rattle.stages.specs.Expanded.{Halves, top4, bottom5}
+use Rattle.constants.specs.Own.Parts.{Halves}
+use Rattle.stages.specs.Own.Stages.{top4, bottom5}
 use Rattle.stages.proofs.PartLaws.{half-in-fours}
 use Rattle.stages.proofs.FrameSizes.{long4, long5, within4, within5}
 use Rattle.steps.specs.Limits.{foldedLimit}
 use Rattle.steps.specs.Steps.{lower, topOf, bottomOf}
 use Rattle.steps.proofs.Undo.{width-half, length-top, length-bottom}
-use Rattle.stages.proofs.Parts.{part-long, front-le, rest-long, rest-put}
+use Rattle.slices.proofs.Parts.{part-long, front-le, rest-long, rest-put}
 use Rattle.frames.proofs.FrameLaws.{stages-halves, top-within, bottom-within}
 use Rattle.runs.proofs.RecordLaws.{width-le}
 use Rattle.frames.proofs.RoomLaws.{lifts-in, tangents-lent, sines-lent}

@@ -10,12 +10,12 @@ use lib.ListN.{length, take, drop, length-drop}
 use Rattle.integers.specs.Places.{places, Within}
 use Rattle.tables.specs.Widths.{halfWidth}
 use Rattle.tables.proofs.Reading.{half-is}
-use Rattle.stages.specs.Moves.{wovenAt}
-use Rattle.stages.specs.Expanded.{untop2, unbottom1}
+use Rattle.slices.specs.Own.Moves.{wovenAt}
+use Rattle.stages.specs.Own.Stages.{untop2, unbottom1}
 use Rattle.steps.proofs.Undo.{width-half}
 use Rattle.stages.proofs.PartLaws.{half-in-fours}
 use Rattle.stages.proofs.FrameSizes.{unlong2, unlong1}
-use Rattle.stages.proofs.Parts.{part-long}
+use Rattle.slices.proofs.Parts.{part-long}
 use Rattle.frames.proofs.FrameLaws.{unstages-halves, take-within, drop-within}
 use Rattle.frames.proofs.transform.unstages.Statement.{statement}
 use Rattle.frames.proofs.transform.unstages.Tie as tie

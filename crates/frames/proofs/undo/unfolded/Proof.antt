@@ -16,7 +16,7 @@ use Rattle.steps.specs.Steps.{unfolded}
 use Rattle.steps.proofs.Undo.{width-half}
 use Rattle.runs.specs.Answers.{firstBeyond}
 use Rattle.runs.specs.declared.answer.Found.the-variants.{Nothing}
-use Rattle.stages.proofs.Parts.{part-long}
+use Rattle.slices.proofs.Parts.{part-long}
 use Rattle.frames.proofs.FrameLaws.{width-in-fours, drop-within}
 use Rattle.runs.proofs.Searches.{none-within, beyond-at}
 use Rattle.runs.specs.Record.{opened}

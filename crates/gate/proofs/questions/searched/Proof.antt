@@ -5,7 +5,7 @@ use mathlib.Core.Path.{_≡_, sym, ap, _∙_}
 use mathlib.Core.List.{List, _++_}
 use lib.IntN.{ℤ}
 use lib.ListN.{length, take, drop}
-use Rattle.stages.proofs.Parts.{part-long, front, front-le}
+use Rattle.slices.proofs.Parts.{part-long, front, front-le}
 use Rattle.gate.specs.Own.Faults.{faultOf}
 use Rattle.gate.proofs.questions.searched.Statement.{statement}
 use Rattle.gate.proofs.questions.searched.Tie as tie

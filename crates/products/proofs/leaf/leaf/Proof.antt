@@ -9,10 +9,10 @@ use Rattle.integers.specs.Places.{at}
 use Rattle.integers.proofs.Held.{Held, held-ok, asks-add, h-add}
 use Rattle.integers.proofs.Words.{small}
 use Rattle.products.specs.declared.leaf.Pair.{Pair}
-use Rattle.products.specs.Products.{product, nine}
-use Rattle.products.specs.Fours.{listed}
-use Rattle.products.specs.Leaf.{listedNine, Fit}
-use Rattle.products.proofs.FourLaws.{four-places}
+use Rattle.products.specs.Own.Products.{product, nine}
+use Rattle.slices.specs.Own.Fours.{listed}
+use Rattle.products.specs.Own.Leaf.{listedNine, Fit}
+use Rattle.slices.proofs.FourLaws.{four-places}
 use Rattle.products.proofs.LeafLaws.{fit-first, fit-second, fit-middle, fit-sum, fit-product, fit-held, two-held, leaf-first, leaf-second, leaf-third, leaf-fourth}
 use Rattle.products.proofs.leaf.leaf.Statement.{statement}
 use Rattle.products.proofs.leaf.leaf.Tie as tie

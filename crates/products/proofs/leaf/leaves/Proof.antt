@@ -3,7 +3,7 @@ use native.Mathlib.Omega.{arith}
 use mathlib.Core.Path.{_≡_, sym, subst}
 use Prim.Native.Nat.{_+_, _-_, _*_, _≤_}
 use lib.ListN.{length}
-use Rattle.products.specs.Leaf.{Leafed}
+use Rattle.products.specs.Own.Leaf.{Leafed}
 use Rattle.products.proofs.LeafLaws.{leafed-none, leafed-leaf, leafed-next}
 use Rattle.products.proofs.leaf.leaves.Statement.{statement}
 use Rattle.products.proofs.leaf.leaves.Tie as tie

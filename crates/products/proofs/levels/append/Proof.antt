@@ -6,7 +6,7 @@ use Prim.Native.Nat.{ℕ, _+_, _-_, _*_, _^_, _≤_, _<_}
 use lib.IntN.{natAbs, _+ℤ_}
 use lib.ListN.{length}
 use Rattle.integers.specs.Places.{at}
-use Rattle.products.specs.Rooms.{Written, AllWritten, halfSums}
+use Rattle.products.specs.Own.Rooms.{Written, AllWritten, halfSums}
 use Rattle.products.proofs.RoomLaws.{all-written-none, all-written-next, summed-laid}
 use Rattle.products.proofs.levels.append.Statement.{statement}
 use Rattle.products.proofs.levels.append.Tie as tie

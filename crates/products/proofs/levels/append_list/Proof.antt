@@ -5,8 +5,8 @@ use lib.IntN.{ℤ, natAbs, _+ℤ_}
 use Rattle.integers.proofs.PlaceLaws.{places-ext}
 use Rattle.integers.specs.Places.{at}
 use lib.ListN.{length}
-use Rattle.products.specs.Rooms.{Written}
-use Rattle.products.proofs.FourLaws.{listed-within}
+use Rattle.products.specs.Own.Rooms.{Written}
+use Rattle.slices.proofs.FourLaws.{listed-within}
 use Rattle.products.proofs.RoomLaws.{op-is, written-none, written-next}
 use Rattle.products.proofs.levels.append_list.Statement.{statement}
 use Rattle.products.proofs.levels.append_list.Tie as tie

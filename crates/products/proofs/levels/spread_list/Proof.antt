@@ -4,9 +4,9 @@ use Prim.Native.Nat.{ℕ, _+_, _-_, _%_, _^_, _≤_, _<_}
 use lib.IntN.{natAbs}
 use Rattle.integers.specs.Places.{at}
 use lib.ListN.{length}
-use Rattle.products.specs.Fours.{stored}
-use Rattle.products.specs.Rooms.{Spread, signed}
-use Rattle.products.proofs.FourLaws.{listed-within, length-stored}
+use Rattle.slices.specs.Own.Fours.{stored, signed}
+use Rattle.products.specs.Own.Rooms.{Spread}
+use Rattle.slices.proofs.FourLaws.{listed-within, length-stored}
 use Rattle.products.proofs.RoomLaws.{op-is, spread-none, spread-read-first, spread-read-second, spread-read-middle, spread-next}
 use Rattle.products.proofs.levels.spread_list.Statement.{statement}
 use Rattle.products.proofs.levels.spread_list.Tie as tie

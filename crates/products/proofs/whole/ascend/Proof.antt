@@ -1,7 +1,7 @@
 -- `products::whole::ascend` meets its contract.
 use native.Mathlib.Omega.{arith}
 use Prim.Native.Nat.{_-_}
-use Rattle.products.specs.Whole.{Ascended}
+use Rattle.products.specs.Own.Whole.{Ascended}
 use Rattle.products.proofs.WholeLaws.{ascended-leaves, double-le, ascend-fours, third-some, ascend-room, ascend-small, positive, ascended-next, ascended-end}
 use Rattle.products.proofs.whole.ascend.Statement.{statement}
 use Rattle.products.proofs.whole.ascend.Tie as tie

@@ -9,7 +9,7 @@ use mir.Syntax.{w64}
 use mir.Val.{toZ, ofZ}
 use Rattle.integers.proofs.Held.{held-ok}
 use Rattle.integers.proofs.Fills.{Filling, filling-none, filling-four, filling-all}
-use Rattle.products.specs.Fours.{stored}
+use Rattle.slices.specs.Own.Fours.{stored}
 use Rattle.rows.specs.Orders.{rowAt}
 use Rattle.rows.proofs.order.gather.Statement.{statement}
 use Rattle.rows.proofs.order.gather.Tie as tie

@@ -9,7 +9,7 @@ use lib.ListN.{length}
 use Rattle.integers.specs.Places.{Within}
 use Rattle.integers.proofs.PlaceLaws.{within-up}
 use Rattle.steps.specs.Steps.{unstage1, unstage2, unstage3, unstage4}
-use Rattle.stages.specs.Expanded.{unbottom5, untop4, unbottom3, untop2, unbottom1}
+use Rattle.stages.specs.Own.Stages.{unbottom5, untop4, unbottom3, untop2, unbottom1}
 use Rattle.stages.proofs.FrameSizes.{unwithin5, unwithin4, unwithin3, unwithin2, unlong5, unlong4, unlong3, unlong2}
 use Rattle.stages.proofs.stages.backward.Statement.{statement}
 use Rattle.stages.proofs.stages.backward.Tie as tie

@@ -9,7 +9,7 @@ use lib.ListN.{length}
 use Rattle.integers.specs.Places.{Within}
 use Rattle.integers.proofs.PlaceLaws.{within-up}
 use Rattle.steps.specs.Steps.{stage2, stage3, stage4, stage5}
-use Rattle.stages.specs.Expanded.{bottom1, top2, bottom3, top4, bottom5}
+use Rattle.stages.specs.Own.Stages.{bottom1, top2, bottom3, top4, bottom5}
 use Rattle.stages.proofs.FrameSizes.{within1, within2, within3, within4, long1, long2, long3, long4}
 use Rattle.stages.proofs.stages.forward.Statement.{statement}
 use Rattle.stages.proofs.stages.forward.Tie as tie

@@ -15,8 +15,8 @@ use Rattle.tables.proofs.Reading.{half-is}
 use Rattle.constants.specs.Filled.{productRoom}
 use Rattle.rows.specs.Orders.{secantOut}
 use Rattle.rows.specs.Sums.{CosineRows, SecantRows}
-use Rattle.stages.specs.Expanded.{Tangents}
-use Rattle.stages.proofs.TableSizes.{tangents-long, tangents-within}
+use Rattle.constants.specs.Own.Parts.{Tangents}
+use Rattle.constants.proofs.TableSizes.{tangents-long, tangents-within}
 use Rattle.stages.proofs.PartLaws.{half-in-fours, half-small, tables-room, tangents-part, room-long, secants-in, rows-are, in-order, rows-thirds}
 use Rattle.stages.proofs.RowLaws.{room-for-half}
 use Rattle.stages.proofs.StageLaws.{stage3-is}

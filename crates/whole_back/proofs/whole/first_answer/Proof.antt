@@ -8,7 +8,7 @@ use lib.IntN.{ℤ, pos}
 use lib.ListN.{length, length-replicate}
 use Rattle.tables.specs.Widths.{halfWidth}
 use Rattle.tables.proofs.Reading.{half-is}
-use Rattle.stages.proofs.Parts.{part-long}
+use Rattle.slices.proofs.Parts.{part-long}
 use Rattle.gate.proofs.FaultLaws.{width-room, half-room}
 use Rattle.gate.proofs.ReadyLaws.{none-held}
 use Rattle.frames.proofs.RoomLaws.{product-le, halves-lent}

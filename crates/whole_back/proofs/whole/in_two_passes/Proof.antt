@@ -8,7 +8,7 @@ use lib.IntN.{ℤ, pos}
 use lib.ListN.{length, take, drop, length-replicate}
 use Rattle.constants.specs.Filled.{Filled}
 use Rattle.runs.specs.Answers.{told}
-use Rattle.stages.proofs.Parts.{part-long}
+use Rattle.slices.proofs.Parts.{part-long}
 use Rattle.runs.specs.WholeBack.{firstAnswer}
 use Rattle.frames.proofs.RoomLaws.{tables-le, lists-le, filled-le, filled-long, filled-lent}
 use Rattle.runs.proofs.WholeBackLaws.{first-alike, ones-refused, ones-done}

@@ -10,7 +10,7 @@ use Rattle.integers.specs.Places.{Within}
 use Rattle.tables.specs.Widths.{halfWidth}
 use Rattle.tables.proofs.Reading.{half-is}
 use Rattle.steps.specs.Limits.{foldedLimit}
-use Rattle.stages.proofs.Parts.{part-long, front, front-long, front-le}
+use Rattle.slices.proofs.Parts.{part-long, front, front-long, front-le}
 use Rattle.runs.specs.Record.{zeros, opened}
 use Rattle.gate.specs.Own.Ready.{Blocks}
 use Rattle.runs.specs.Forward.{started}

@@ -3,7 +3,7 @@ use borrow.Author.Needs.{needs}
 use mathlib.Core.List.{List}
 use lib.IntN.{ℤ}
 use Rattle.constants.specs.Filled.{Filled}
-use Rattle.stages.proofs.Parts.{part-long}
+use Rattle.slices.proofs.Parts.{part-long}
 use Rattle.frames.proofs.RoomLaws.{filled-le, filled-long, filled-lent}
 use Rattle.frames.proofs.RoomSizes.{Wide, large-room, tables-in, fill-asks}
 use Rattle.whole_forward.proofs.whole.frames_of.Statement.{statement}

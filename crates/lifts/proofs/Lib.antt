@@ -1,0 +1,3 @@
+pub mod NumLaws
+pub mod FourLaws
+pub mod MoveLaws

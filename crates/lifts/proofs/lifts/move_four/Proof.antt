@@ -1,0 +1,54 @@
+-- `lifts::lifts::move_four` meets its contract.
+use borrow.Author.Needs.{needs}
+use native.Mathlib.Omega.{arith}
+use mathlib.Core.Path.{_≡_, refl, sym, ap, _∙_}
+use mathlib.Core.Bool.{Bool, true, false}
+use mathlib.Core.List.{List}
+use Prim.Native.Nat.{ℕ, _+_, _^_, _-_}
+use lib.IntN.{ℤ}
+use Rattle.integers.specs.Places.{tab, places, at}
+use Rattle.integers.proofs.PlaceLaws.{within-up}
+use Rattle.slices.specs.Own.Fours.{signed}
+use Rattle.slices.specs.Own.Fours.{listed, stored}
+use Rattle.slices.proofs.FourLaws.{four-places, listed-within}
+use Rattle.slices.specs.declared.fours.Four.{Four}
+use Rattle.slices.specs.Own.Moves.{moved}
+use Rattle.lifts.specs.Own.Moves.{movedFour}
+use Rattle.lifts.proofs.lifts.move_four.Statement.{statement}
+use Rattle.lifts.proofs.lifts.move_four.Tie as tie
+
+signed-is : (undo : Bool) (y amount : ℤ) → signed undo y amount ≡ moved undo y amount
+unfolding moved
+signed-is true y amount = refl
+signed-is false y amount = refl
+
+joined-requires : tie.Need-joined-requires
+joined-requires c κs =
+    let s = c .before .before in
+    (listed-within _ _ (2 ^ 62 - 1) (c .taken .ensures) (λ j l. omega (arith, s .pre .1 .0 j)), within-up (s .pre .1 .1) (omega arith))
+
+-- four numbers that are listed alike are stored alike
+stored-same : (l : List ℤ) (p : ℕ) (f g : Four) → listed f ≡ listed g → stored l p f ≡ stored l p g
+unfolding stored
+stored-same l p f g e = rw (ap (λ x. at x 0) e, ap (λ x. at x 1) e, ap (λ x. at x 2) e, ap (λ x. at x 3) e)
+
+-- sums or differences of four numbers from place i on
+joined-is : (undo : Bool) (y : List ℤ) (i : ℕ) (f x : Four) → listed x ≡ places 4 (λ j. at y (i + j)) → places 4 (λ j. signed undo (at (listed x) j) (at (listed f) j)) ≡ listed (movedFour undo y i f)
+unfolding tab
+joined-is undo y i f x e =
+    let zero : i ≡ i + 0 = omega arith in
+    sym
+    (four-places (λ j. signed undo (at (listed x) j) (at (listed f) j))
+    (sym (signed-is undo (at y i) (f .a)) ∙ ap (λ z. signed undo z (f .a)) (ap (at y) zero ∙ sym (ap (λ l. at l 0) e)))
+    (sym (signed-is undo (at y (i + 1)) (f .b)) ∙ ap (λ z. signed undo z (f .b)) (sym (ap (λ l. at l 1) e)))
+    (sym (signed-is undo (at y (i + 2)) (f .c)) ∙ ap (λ z. signed undo z (f .c)) (sym (ap (λ l. at l 2) e)))
+    (sym (signed-is undo (at y (i + 3)) (f .d)) ∙ ap (λ z. signed undo z (f .d)) (sym (ap (λ l. at l 3) e))))
+
+returns : tie.Need-returns
+returns c =
+    let s = c .before .before .before .before .before .before in
+    let j = c .before .before .before in
+    c .before .put .ensures ∙ stored-same _ _ _ _ (j .joined .ensures ∙ joined-is (s .args .undo) (s .args .y .now) (s .args .i) (s .args .amounts) _ (j .before .taken .ensures))
+
+pub move-four-spec : {M : Type 1} → statement M
+move-four-spec = tie.close (tie.spec (λ c κs. search needs) joined-requires (λ c κs. search needs) (λ c. search needs) returns)

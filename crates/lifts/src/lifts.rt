@@ -1,0 +1,240 @@
+// The lifts of the stages: one half of a frame moves by rounded amounts, four places at a time, all read before one is written.
+ghost use mathlib.Core.Bool.{cond};
+ghost use mathlib.Core.Path.{_≡_};
+ghost use Prim.Native.Nat.{ℕ, _+_, _-_, _%_, _^_, _<_, _≤_};
+ghost use lib.IntN.{natAbs, _+ℤ_, _*ℤ_};
+ghost use lib.ListN.{length};
+ghost use Rattle.integers.specs.Floor.{round};
+ghost use Rattle.integers.specs.Places.{places, at, Within};
+ghost use Rattle.slices.specs.Own.Fours.{listed, stored};
+ghost use Rattle.slices.specs.Own.Moves.{moved};
+ghost use Rattle.rows.specs.Orders.{Order, rowAt, secantOut};
+ghost use Rattle.lifts.specs.Own.Moves;
+ghost use Rattle.lifts.specs.Own.Moves.{Scaled, Thirds, movedFour};
+use rows::order;
+use slices::fours;
+use slices::fours::Four;
+
+// The four numbers from place i on take these amounts, or give them back.
+fn move_four(undo: bool, y: &mut [i64], i: usize, amounts: Four)
+    requires { ⌜ i + 4 ≤ length (now y) ⌝ }
+    requires { ⌜ ((j : ℕ) → natAbs (at (now y) (i + j)) ≤ 2 ^ 60) ⌝ }
+    requires { ⌜ Within (2 ^ 61) (listed amounts) ⌝ }
+    ensures { λ _. ⌜ now (y .exit) ≡ stored (now (y .entry)) i (movedFour undo (now (y .entry)) i amounts) ⌝ }
+{
+    let made = fours::joined(undo, fours::taken(y, i), amounts);
+    fours::put(y, i, made);
+}
+
+// What stage 1 adds at a place: top and the rounded sum. Row m of the cosine sums is y at back(m), with the sign flips(m).
+fn first_at(back: &[i64], flips: &[i64], y: &[i64], top: &[i64], i: usize) -> i64
+    requires { ⌜ (i < length (now y)) × (length (now top) ≡ length (now y)) ⌝ }
+    requires { ⌜ Order (length (now y)) (now back) (now flips) ⌝ }
+    requires { ⌜ Scaled (now back) (now flips) (now y) ⌝ }
+    requires { ⌜ Within (2 ^ 60) (now top) ⌝ }
+    ensures { λ r. ⌜ (r ≡ at (now (top .entry)) i +ℤ round 30 (rowAt (now (back .entry)) (now (flips .entry)) (now (y .entry)) i)) × (natAbs r ≤ 2 ^ 61) ⌝ }
+{
+    top[i] + integers::rounded(order::row(back, flips, y, i), 30)
+}
+
+// Bottom takes top and the rounded sums, or gives them back.
+pub fn first(undo: bool, back: &[i64], flips: &[i64], y: &[i64], top: &[i64], bottom: &mut [i64])
+    requires { ⌜ length (now bottom) % 4 ≡ 0 ⌝ }
+    requires { ⌜ (length (now y) ≡ length (now bottom)) × (length (now top) ≡ length (now bottom)) ⌝ }
+    requires { ⌜ Order (length (now y)) (now back) (now flips) ⌝ }
+    requires { ⌜ Scaled (now back) (now flips) (now y) ⌝ }
+    requires { ⌜ Within (2 ^ 60) (now top) ⌝ }
+    requires { ⌜ Within (2 ^ 60) (now bottom) ⌝ }
+    ensures { λ _. ⌜ now (bottom .exit) ≡ places (length (now (bottom .entry))) (λ i. moved undo (at (now (bottom .entry)) i) (at (now (top .entry)) i +ℤ round 30 (rowAt (now (back .entry)) (now (flips .entry)) (now (y .entry)) i))) ⌝ }
+{
+    let mut i = 0;
+    while i < bottom.len() {
+        let amounts = Four {
+            a: first_at(back, flips, y, top, i),
+            b: first_at(back, flips, y, top, i + 1),
+            c: first_at(back, flips, y, top, i + 2),
+            d: first_at(back, flips, y, top, i + 3),
+        };
+        move_four(undo, bottom, i, amounts);
+        i += 4;
+    }
+}
+
+// −d(i)·x, or else d(i)·x.
+fn flipped(even: bool, i: usize, x: i64) -> i64
+    requires { ⌜ natAbs x ≤ 2 ^ 61 ⌝ }
+    ensures { λ r. ⌜ r ≡ Moves.flipped even i x ⌝ }
+{
+    if i % 2 == 1 {
+        if even {
+            return x;
+        }
+        return 0 - x;
+    }
+    if even {
+        return 0 - x;
+    }
+    x
+}
+
+// Stage 2 at a place: −d·top, and the rounded sum added; or the sum taken off, and then the sign.
+fn second_at(undo: bool, back: &[i64], flips: &[i64], y: &[i64], top: &[i64], i: usize) -> i64
+    requires { ⌜ i < length (now top) ⌝ }
+    requires { ⌜ length (now y) ≡ length (now top) ⌝ }
+    requires { ⌜ Order (length (now y)) (now back) (now flips) ⌝ }
+    requires { ⌜ Scaled (now back) (now flips) (now y) ⌝ }
+    requires { ⌜ natAbs (at (now top) i) ≤ 2 ^ 60 ⌝ }
+    ensures { λ r. ⌜ r ≡ Moves.second undo i (at (now (top .entry)) i) (round 31 (rowAt (now (back .entry)) (now (flips .entry)) (now (y .entry)) i)) ⌝ }
+{
+    let amount = integers::rounded(order::row(back, flips, y, i), 31);
+    if undo {
+        return flipped(true, i, top[i] - amount);
+    }
+    flipped(true, i, top[i]) + amount
+}
+
+pub fn second(undo: bool, back: &[i64], flips: &[i64], y: &[i64], top: &mut [i64])
+    requires { ⌜ length (now top) % 4 ≡ 0 ⌝ }
+    requires { ⌜ length (now y) ≡ length (now top) ⌝ }
+    requires { ⌜ Order (length (now y)) (now back) (now flips) ⌝ }
+    requires { ⌜ Scaled (now back) (now flips) (now y) ⌝ }
+    requires { ⌜ Within (2 ^ 60) (now top) ⌝ }
+    ensures { λ _. ⌜ now (top .exit) ≡ places (length (now (top .entry))) (λ i. Moves.second undo i (at (now (top .entry)) i) (round 31 (rowAt (now (back .entry)) (now (flips .entry)) (now (y .entry)) i))) ⌝ }
+{
+    let mut i = 0;
+    while i < top.len() {
+        let made = Four {
+            a: second_at(undo, back, flips, y, top, i),
+            b: second_at(undo, back, flips, y, top, i + 1),
+            c: second_at(undo, back, flips, y, top, i + 2),
+            d: second_at(undo, back, flips, y, top, i + 3),
+        };
+        fours::put(top, i, made);
+        i += 4;
+    }
+}
+
+// What stage 3 adds at a place, in parts of 2^34, from the secant sum, the cosine sum so many times, and −t·top.
+fn third_amount(times: i64, secants: i64, cosines: i64, tangent: i64) -> i64
+    requires { ⌜ (natAbs times ≤ 16) × (natAbs secants ≤ 2 ^ 60) × (natAbs cosines ≤ 2 ^ 56) × (natAbs tangent ≤ 2 ^ 54) ⌝ }
+    ensures { λ r. ⌜ (r ≡ Moves.amount times secants cosines tangent) × (natAbs r ≤ 2 ^ 62) ⌝ }
+{
+    0 - secants - times * cosines + 64 * tangent
+}
+
+// What stage 3 adds at a place, j from the end: the three amounts rounded together.
+fn third_at(
+    tangents: &[i64],
+    top: &[i64],
+    z: &[i64],
+    back: &[i64],
+    flips: &[i64],
+    y: &[i64],
+    i: usize,
+    j: usize,
+) -> i64
+    requires { ⌜ (i < length (now y)) × (j < length (now y)) ⌝ }
+    requires { ⌜ (length (now tangents) ≡ length (now y)) × (length (now top) ≡ length (now y)) × (length (now z) ≡ length (now y)) × (length (now y) ≤ 64) ⌝ }
+    requires { ⌜ Order (length (now y)) (now back) (now flips) ⌝ }
+    requires { ⌜ Thirds (now z) (now back) (now flips) (now y) ⌝ }
+    requires { ⌜ Within (2 ^ 28) (now tangents) ⌝ }
+    requires { ⌜ Within 6000000 (now top) ⌝ }
+    ensures { λ r. ⌜ (r ≡ round 34 (Moves.third (secantOut (length (now (y .entry))) (at (now (z .entry))) i) (rowAt (now (back .entry)) (now (flips .entry)) (now (y .entry)) i) (at (now (tangents .entry)) j *ℤ at (now (top .entry)) j))) × (natAbs r ≤ 2 ^ 61) ⌝ }
+{
+    let sum = third_amount(
+        16,
+        order::secant_row(z, i),
+        order::row(back, flips, y, i),
+        tangents[j] * top[j],
+    );
+    integers::rounded(sum, 34)
+}
+
+pub fn third(
+    undo: bool,
+    tangents: &[i64],
+    top: &[i64],
+    z: &[i64],
+    back: &[i64],
+    flips: &[i64],
+    y: &[i64],
+    bottom: &mut [i64],
+)
+    requires { ⌜ length (now bottom) % 4 ≡ 0 ⌝ }
+    requires { ⌜ (length (now tangents) ≡ length (now bottom)) × (length (now top) ≡ length (now bottom)) × (length (now z) ≡ length (now bottom)) × (length (now y) ≡ length (now bottom)) × (length (now bottom) ≤ 64) ⌝ }
+    requires { ⌜ Order (length (now y)) (now back) (now flips) ⌝ }
+    requires { ⌜ Thirds (now z) (now back) (now flips) (now y) ⌝ }
+    requires { ⌜ Within (2 ^ 28) (now tangents) ⌝ }
+    requires { ⌜ Within 6000000 (now top) ⌝ }
+    requires { ⌜ Within (2 ^ 60) (now bottom) ⌝ }
+    ensures { λ _. ⌜ now (bottom .exit) ≡ places (length (now (bottom .entry))) (λ i. moved undo (at (now (bottom .entry)) i) (round 34 (Moves.third (secantOut (length (now (bottom .entry))) (at (now (z .entry))) i) (rowAt (now (back .entry)) (now (flips .entry)) (now (y .entry)) i) (at (now (tangents .entry)) (length (now (bottom .entry)) - 1 - i) *ℤ at (now (top .entry)) (length (now (bottom .entry)) - 1 - i))))) ⌝ }
+{
+    let mut i = 0;
+    while i < bottom.len() {
+        let far = bottom.len() - 4 - i;
+        let amounts = Four {
+            a: third_at(tangents, top, z, back, flips, y, i, far + 3),
+            b: third_at(tangents, top, z, back, flips, y, i + 1, far + 2),
+            c: third_at(tangents, top, z, back, flips, y, i + 2, far + 1),
+            d: third_at(tangents, top, z, back, flips, y, i + 3, far),
+        };
+        move_four(undo, bottom, i, amounts);
+        i += 4;
+    }
+}
+
+// A rounded product.
+fn product_at(c: &[i64], x: &[i64], i: usize, j: usize) -> i64
+    requires { ⌜ (i < length (now c)) × (j < length (now x)) ⌝ }
+    requires { ⌜ Within (2 ^ 28) (now c) ⌝ }
+    requires { ⌜ Within (2 ^ 34) (now x) ⌝ }
+    ensures { λ r. ⌜ (r ≡ round 28 (at (now (c .entry)) i *ℤ at (now (x .entry)) j)) × (natAbs r ≤ 2 ^ 61) ⌝ }
+{
+    integers::rounded(c[i] * x[j], 28)
+}
+
+// Stage 4: y takes the rounded products of c and x, x from its end; or y gives them back.
+pub fn fourth(undo: bool, c: &[i64], x: &[i64], y: &mut [i64])
+    requires { ⌜ length (now y) % 4 ≡ 0 ⌝ }
+    requires { ⌜ (length (now c) ≡ length (now y)) × (length (now x) ≡ length (now y)) ⌝ }
+    requires { ⌜ Within (2 ^ 28) (now c) ⌝ }
+    requires { ⌜ Within (2 ^ 34) (now x) ⌝ }
+    requires { ⌜ Within (2 ^ 60) (now y) ⌝ }
+    ensures { λ _. ⌜ now (y .exit) ≡ places (length (now (y .entry))) (λ i. moved undo (at (now (y .entry)) i) (round 28 (at (now (c .entry)) i *ℤ at (now (x .entry)) (length (now (y .entry)) - 1 - i)))) ⌝ }
+{
+    let mut i = 0;
+    while i < y.len() {
+        let far = y.len() - 4 - i;
+        let amounts = Four {
+            a: product_at(c, x, i, far + 3),
+            b: product_at(c, x, i + 1, far + 2),
+            c: product_at(c, x, i + 2, far + 1),
+            d: product_at(c, x, i + 3, far),
+        };
+        move_four(undo, y, i, amounts);
+        i += 4;
+    }
+}
+
+// Stage 5: the same with c from its end too.
+pub fn fifth(undo: bool, c: &[i64], x: &[i64], y: &mut [i64])
+    requires { ⌜ length (now y) % 4 ≡ 0 ⌝ }
+    requires { ⌜ (length (now c) ≡ length (now y)) × (length (now x) ≡ length (now y)) ⌝ }
+    requires { ⌜ Within (2 ^ 28) (now c) ⌝ }
+    requires { ⌜ Within (2 ^ 34) (now x) ⌝ }
+    requires { ⌜ Within (2 ^ 60) (now y) ⌝ }
+    ensures { λ _. ⌜ now (y .exit) ≡ places (length (now (y .entry))) (λ i. moved undo (at (now (y .entry)) i) (round 28 (at (now (c .entry)) (length (now (y .entry)) - 1 - i) *ℤ at (now (x .entry)) (length (now (y .entry)) - 1 - i)))) ⌝ }
+{
+    let mut i = 0;
+    while i < y.len() {
+        let far = y.len() - 4 - i;
+        let amounts = Four {
+            a: product_at(c, x, far + 3, far + 3),
+            b: product_at(c, x, far + 2, far + 2),
+            c: product_at(c, x, far + 1, far + 1),
+            d: product_at(c, x, far, far),
+        };
+        move_four(undo, y, i, amounts);
+        i += 4;
+    }
+}

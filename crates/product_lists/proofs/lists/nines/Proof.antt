@@ -1,0 +1,89 @@
+-- `product_lists::lists::nines` meets its contract.
+use native.Mathlib.Omega.{arith}
+use mathlib.Core.Path.{_≡_, subst}
+use Prim.Native.Nat.{_-_, _^_, _≤_}
+use Rattle.products.specs.Own.Rooms.{AllWritten}
+use Rattle.slices.proofs.FourLaws.{listed-within}
+use Rattle.products.proofs.RoomLaws.{all-written-none}
+use Rattle.product_lists.proofs.TableLaws.{ninesOf, nines-next, nines-laid}
+use Rattle.product_lists.proofs.lists.nines.Statement.{statement}
+use Rattle.product_lists.proofs.lists.nines.Tie as tie
+
+abbrev Inv-loop : tie.InvT-loop
+Inv-loop lists out₀ k v₀ out v = (v ≤ k) × AllWritten (ninesOf lists) 0 9 v out₀ out
+
+abbrev μ-loop : tie.MeasureT-loop
+μ-loop lists out₀ k v₀ out v = k - v
+
+loop-holds : tie.Need-loop-holds Inv-loop μ-loop
+loop-holds c = (omega arith, all-written-none _ _ _ _)
+
+mul-taken : tie.Need-mul-taken Inv-loop μ-loop
+mul-taken c = omega (arith, c .before .before .pre .0, c .loop-test .taken, c .before .loop .inv .1 .long)
+
+taken-requires : tie.Need-taken-requires Inv-loop μ-loop
+taken-requires c κs = omega (arith, c .before .before .pre .0, c .loop-test .taken, c .before .loop .inv .1 .long)
+
+mul-taken-2 : tie.Need-mul-taken-2 Inv-loop μ-loop
+mul-taken-2 c = omega (arith, c .before .before .before .pre .0, c .before .loop-test .taken, c .before .before .loop .inv .1 .long)
+
+add-taken : tie.Need-add-taken Inv-loop μ-loop
+add-taken c = omega (arith, c .before .before .before .pre .0, c .before .loop-test .taken, c .before .before .loop .inv .1 .long)
+
+taken-requires-2 : tie.Need-taken-requires-2 Inv-loop μ-loop
+taken-requires-2 c κs = omega (arith, c .before .before .before .pre .0, c .before .loop-test .taken, c .before .before .loop .inv .1 .long)
+
+mul-put-nine : tie.Need-mul-put-nine Inv-loop μ-loop
+mul-put-nine c = omega (arith, c .before .before .before .before .before .pre .0, c .before .before .before .loop-test .taken, c .before .before .before .before .loop .inv .1 .long)
+
+nine-of-requires : tie.Need-nine-of-requires Inv-loop μ-loop
+nine-of-requires c κs =
+    let k = c .before .before .before .before in
+    let l = c .before .before .before .loop-test .taken in
+    (listed-within (c .before .before .taken .result) _ (2 ^ 60) (c .before .before .taken .ensures) (λ j q. k .before .pre .1 _ (omega arith)), listed-within (c .before .taken2 .result) _ (2 ^ 60) (c .before .taken2 .ensures) (λ j q. k .before .pre .1 _ (omega arith)))
+
+put-nine-requires : tie.Need-put-nine-requires Inv-loop μ-loop
+put-nine-requires c κs = omega (arith, c .before .before .before .before .before .before .pre .0, c .before .before .before .before .loop-test .taken, c .before .before .before .before .before .loop .inv .1 .long)
+
+add-v : tie.Need-add-v Inv-loop μ-loop
+add-v c = omega (arith, c .before .before .before .before .before .before .before .before .pre .0, c .before .before .before .before .before .before .loop-test .taken, c .before .before .before .before .before .before .before .loop .inv .1 .long)
+
+loop-less : tie.Need-loop-less Inv-loop μ-loop
+loop-less c = omega arith
+
+loop-again : tie.Need-loop-again Inv-loop μ-loop
+loop-again c =
+    let k = c .before .before .before .before .before .before .before in
+    let l = c .before .before .before .before .before .before .loop-test .taken in
+    let a = k .before .args in
+    (omega arith, nines-next (a .lists .now) (k .loop .inv .1) (c .before .before .before .before .before .taken .result) (c .before .before .before .before .taken2 .result) (c .before .before .nine-of .result) (c .before .before .before .before .before .taken .ensures) (c .before .before .before .before .taken2 .ensures) (c .before .before .nine-of .ensures) (c .before .put-nine .ensures))
+
+same-length : tie.Need-same-length Inv-loop μ-loop
+same-length c = c .before .loop .inv .1 .long
+
+returns : tie.Need-returns Inv-loop μ-loop
+returns c L d =
+    let k = c .before in
+    let e : k .loop .v ≡ k .before .args .k = omega arith in
+    nines-laid (k .before .args .k) (k .before .args .lists .now) (k .before .args .out .now) (k .loop .out) (subst (λ n. AllWritten (ninesOf (k .before .args .lists .now)) 0 9 n (k .before .args .out .now) (k .loop .out)) e (k .loop .inv .1)) (k .before .pre .0 .1) L d
+
+pub nines-spec : {M : Type 1} → statement M
+nines-spec =
+    tie.close
+    (tie.spec
+    Inv-loop
+    μ-loop
+    loop-holds
+    mul-taken
+    taken-requires
+    mul-taken-2
+    add-taken
+    taken-requires-2
+    mul-put-nine
+    nine-of-requires
+    put-nine-requires
+    add-v
+    loop-less
+    loop-again
+    same-length
+    returns)

@@ -1,0 +1,3 @@
+pub mod FourLaws
+pub mod MoveLaws
+pub mod Parts
