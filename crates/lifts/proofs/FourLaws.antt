@@ -1,15 +1,16 @@
 -- A loop that stores at four places a turn what stands there, moved by a rule: the invariant, and what it comes to.
-use mathlib.Core.Path.{_≡_, refl, sym, ap, subst, _∙_}
+use mathlib.Core.Path.{_≡_, refl, sym, ap, ap₂, subst, _∙_}
 use mathlib.Core.Bool.{Bool}
 use mathlib.Core.List.{List}
-use Prim.Native.Nat.{ℕ, _+_, _%_, _^_, _≤_, _<_}
+use Prim.Native.Nat.{ℕ, _+_, _-_, _%_, _^_, _≤_, _<_}
 use native.Mathlib.Omega.{arith}
-use lib.IntN.{ℤ, natAbs}
+use lib.IntN.{ℤ, natAbs, _*ℤ_}
 use lib.ListN.{length}
 use lib.Signed.{mag}
 use mir.Syntax.{w64}
 use mir.Val.{toZ, ofZ}
-use Rattle.integers.specs.Places.{tab, places, at, Within}
+use Rattle.integers.specs.Floor.{round}
+use Rattle.integers.specs.Places.{places, at, Within}
 use Rattle.integers.proofs.PlaceLaws.{within-all}
 use Rattle.integers.proofs.Fills.{Filling, filling-none, filling-four, filling-all}
 use Rattle.slices.specs.declared.fours.Four.{Four}
@@ -87,16 +88,41 @@ gave-is g = call-is w64 (g .ok) (g .is)
 gave-size : {r a : ℤ} → Gave r a → natAbs (toZ w64 (ofZ w64 r)) ≤ 2 ^ 61
 gave-size {r} g = subst (λ z. natAbs z ≤ 2 ^ 61) (sym (call-is w64 {r = r} (g .ok) refl)) (g .small)
 
-pub amounts-within : {p q r s a b c d : ℤ} → Gave p a → Gave q b → Gave r c → Gave s d → Within (2 ^ 61) (listed (called p q r s))
-amounts-within a b c d = within-all (2 ^ 61) _ (gave-size a, (gave-size b, (gave-size c, (gave-size d, tt))))
+-- four calls gave the amounts of a turn
+pub record Gaves (A : ℕ → ℤ) (i : ℕ) (p q r s : ℤ) : Type 0 where
+  pub first : Gave p (A i)
+  pub second : Gave q (A (i + 1))
+  pub third : Gave r (A (i + 2))
+  pub fourth : Gave s (A (i + 3))
 
 -- four amounts are taken or given back, A n j at place j of n numbers
-pub turns-moved : (undo : Bool) (A : ℕ → ℕ → ℤ) {d₀ : List ℤ} {i : ℕ} (d : List ℤ) → Turns (λ n j z. moved undo z (A n j)) d₀ i d → length d₀ % 4 ≡ 0 → i < length d → {p q r s : ℤ}
-    → Gave p (A (length d) i) → Gave q (A (length d) (i + 1)) → Gave r (A (length d) (i + 2)) → Gave s (A (length d) (i + 3))
-    → Turns (λ n j z. moved undo z (A n j)) d₀ (i + 4) (stored d i (movedFour undo d i (called p q r s)))
-turns-moved undo A {i = i} d h e l {p} {q} {r} {s} a b c f =
-    turns-four h e l (movedFour undo d i (called p q r s))
-    (ap (moved undo (at d i)) (gave-is a))
-    (ap (moved undo (at d (i + 1))) (gave-is b))
-    (ap (moved undo (at d (i + 2))) (gave-is c))
-    (ap (moved undo (at d (i + 3))) (gave-is f))
+module _ (undo : Bool) (A : ℕ → ℕ → ℤ) {d₀ : List ℤ} {i : ℕ} (d : List ℤ) (h : Turns (λ n j z. moved undo z (A n j)) d₀ i d) (e : length d₀ % 4 ≡ 0) (l : i < length d) {p q r s : ℤ} (g : Gaves (A (length d)) i p q r s) where
+  -- what is asked before they are stored
+  pub moved-asked : Within (2 ^ 60) d₀ → (i + 4 ≤ length d) × (((j : ℕ) → natAbs (at d (i + j)) ≤ 2 ^ 60) × Within (2 ^ 61) (listed (called p q r s)))
+  moved-asked w = (
+    turns-left h e l,
+    (λ j. turns-size h w (i + j) (omega arith), within-all (2 ^ 61) _ (gave-size (g .first), (gave-size (g .second), (gave-size (g .third), (gave-size (g .fourth), tt))))),
+  )
+
+  pub turns-moved : {d′ : List ℤ} → d′ ≡ stored d i (movedFour undo d i (called p q r s)) → Turns (λ n j z. moved undo z (A n j)) d₀ (i + 4) d′
+  turns-moved same =
+      subst (Turns _ d₀ (i + 4)) (sym same)
+      (turns-four h e l (movedFour undo d i (called p q r s))
+      (ap (moved undo (at d i)) (gave-is (g .first)))
+      (ap (moved undo (at d (i + 1))) (gave-is (g .second)))
+      (ap (moved undo (at d (i + 2))) (gave-is (g .third)))
+      (ap (moved undo (at d (i + 3))) (gave-is (g .fourth))))
+
+-- ---- rounded products of c and x for the numbers y: at place j of n x is read from its end, and c at `place n j`
+abbrev pub Factors : List ℤ → List ℤ → List ℤ → Type 0
+Factors c x y = ((length c ≡ length y) × (length x ≡ length y)) × (Within (2 ^ 28) c × (Within (2 ^ 34) x × Within (2 ^ 60) y))
+
+abbrev pub products : (ℕ → ℕ → ℕ) → List ℤ → List ℤ → ℕ → ℕ → ℤ
+products place c x n j = round 28 (at c (place n j) *ℤ at x (n - 1 - j))
+
+-- what a call is asked, and what it gave
+pub product-asked : (c x y : List ℤ) → Factors c x y → {n : ℕ} → n ≡ length y → {p q : ℕ} → p < n → q < n → ((p < length c) × (q < length x)) × (Within (2 ^ 28) c × Within (2 ^ 34) x)
+product-asked c x y f l a b = ((omega (arith, f .0), omega (arith, f .0)), (f .1 .0, f .1 .1 .0))
+
+pub product-gave : (place : ℕ → ℕ → ℕ) (c x : List ℤ) (n j p q : ℕ) {r : ℤ} → p ≡ place n j → q ≡ n - 1 - j → mag r < 2 ^ 63 → (r ≡ round 28 (at c p *ℤ at x q)) × (natAbs r ≤ 2 ^ 61) → Gave r (products place c x n j)
+product-gave place c x n j p q a b ok e = record { ok = ok; is = e .0 ∙ ap₂ (λ p q. round 28 (at c p *ℤ at x q)) a b; small = e .1 }

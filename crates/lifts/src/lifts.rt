@@ -1,5 +1,4 @@
 // The lifts of the stages: one half of a frame moves by rounded amounts, four places at a time, all read before one is written.
-ghost use mathlib.Core.Bool.{cond};
 ghost use mathlib.Core.Path.{_≡_};
 ghost use Prim.Native.Nat.{ℕ, _+_, _-_, _%_, _^_, _<_, _≤_};
 ghost use lib.IntN.{natAbs, _+ℤ_, _*ℤ_};

@@ -1,9 +1,9 @@
 // The product of a list of 2m numbers with one of m, in one room for all levels.
 ghost use mathlib.Core.Path.{_≡_};
 ghost use mathlib.Core.List.{List, []};
-ghost use Prim.Native.Nat.{_+_, _*_, _^_, _≤_};
+ghost use Prim.Native.Nat.{_^_};
 ghost use lib.IntN.{ℤ};
-ghost use lib.ListN.{length, take};
+ghost use lib.ListN.{take};
 ghost use Rattle.integers.specs.Places.{places, at};
 ghost use Rattle.products.specs.Own.Products.{Power, Laid, products, numbers};
 ghost use Rattle.products.specs.Own.Whole.{Roomy, Given, LeafLists, Multiplied, Rising};

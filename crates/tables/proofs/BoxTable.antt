@@ -1,13 +1,12 @@
 -- The boxes as numbers are those of the definition, and have the square property: one test over all angles, and a lemma.
 use mathlib.Core.Path.{_≡_, refl, sym, ap, ap₂, subst, subst₂, _∙_}
-use mathlib.Core.Bool.{Bool, true, false, _&&_, cond}
-use mathlib.Core.List.{List, [], _∷_}
+use mathlib.Core.Bool.{Bool, true, false, _&&_}
 use Prim.Native.Nat.{ℕ, zero, suc, _+_, _-_, _*_, _^_, _≤_, _<_}
 use native.Mathlib.Nat.{pow-suc}
 use native.Mathlib.Omega.{arith}
-use borrow.Author.Tests.{leb-true, leb-false, le-leb, lt-leb, eq-eqb, ne-eqb, eqb-true, eqb-false}
-use lib.Dec.{T, leb, ltb, eqb, leb→le, ltb→lt, lit≤, lit<}
-use lib.IntN.{ℤ, pos, negsuc, negℤ, natAbs, _+ℤ_, _*ℤ_}
+use borrow.Author.Tests.{leb-true, leb-false, ne-eqb, eqb-true, eqb-false}
+use lib.Dec.{T, leb, ltb, eqb, leb→le, ltb→lt}
+use lib.IntN.{ℤ, pos, negsuc, natAbs, _+ℤ_, _*ℤ_}
 use lib.ListN.{length, getD}
 use lib.Signed.{_≤ℤ_}
 use Rattle.integers.specs.Tests.{every}
@@ -15,7 +14,7 @@ use Rattle.integers.specs.Floor.{above}
 use Rattle.integers.proofs.Differences.{dif, zb}
 use Rattle.integers.proofs.Order.{above-pos, pos-≤-iff, natAbs-negℤ}
 use Rattle.integers.proofs.Tested.{every-at, every-le, and-left, and-right}
-use Rattle.tables.specs.Boxes.{Box, only, negated, root, rootUp, under, halved, atDouble, boxBy, cosineBox, sineBox, Squares}
+use Rattle.tables.specs.Boxes.{Box, only, negated, under, halved, atDouble, boxBy, cosineBox, Squares}
 use Rattle.tables.specs.BoxEnds.{lows, highs}
 use Rattle.tables.proofs.Roots.{square-lt, root-is, rootUp-is}
 

@@ -1,5 +1,5 @@
 -- Every table number is nearest to 2^28 times its true value, for all values between the boxed ends: sines over 1, tangents and secants as fractions.
-use mathlib.Core.Path.{_≡_, refl, sym, ap, subst, subst₂, _∙_}
+use mathlib.Core.Path.{_≡_, refl, sym, subst, subst₂}
 use mathlib.Core.Bool.{Bool, _&&_}
 use mathlib.Core.List.{List, []}
 use Prim.Native.Nat.{ℕ, zero, suc, _+_, _-_, _*_, _/_, _^_, _≤_, _<_}
@@ -14,7 +14,7 @@ use Rattle.integers.proofs.Differences.{zs}
 use Rattle.integers.proofs.Order.{pos-≤-iff}
 use Rattle.integers.proofs.Tested.{every-at, and-left, and-right}
 use Rattle.tables.specs.Numbers.{sines, halfTangents, halfTangents8, halfTangents32, halfTangents128, secants, secants8, secants32, secants128}
-use Rattle.tables.specs.Boxes.{Box, only, cosineBox, sineBox, boxBy, Nearest}
+use Rattle.tables.specs.Boxes.{only, cosineBox, sineBox, boxBy, Nearest}
 use Rattle.tables.specs.BoxEnds.{lows, highs}
 use Rattle.tables.proofs.ByWidth.{at-each}
 use Rattle.tables.proofs.BoxTable.{boxAt, cosine-box-is}

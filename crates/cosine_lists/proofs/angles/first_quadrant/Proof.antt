@@ -1,7 +1,7 @@
 -- `cosine_lists::angles::first_quadrant` meets its contract.
 use borrow.Author.Needs.{needs}
 use mathlib.Core.Path.{_≡_, sym, ap, _∙_}
-use Prim.Native.Nat.{ℕ, _-_, _*_, _≤_, _<_}
+use Prim.Native.Nat.{_-_, _*_}
 use native.Mathlib.Omega.{arith}
 use Rattle.tables.specs.Angles.{halfTurn}
 use Rattle.tables.proofs.Quadrants.{half-le, quadrant-near, quadrant-past}

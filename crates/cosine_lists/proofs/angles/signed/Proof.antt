@@ -1,10 +1,8 @@
 -- `cosine_lists::angles::signed` meets its contract.
-use mathlib.Core.Path.{_≡_, sym, ap, _∙_}
-use lib.IntN.{ℤ, pos, _-ℤ_}
+use mathlib.Core.Path.{sym, ap, _∙_}
 use mir.Syntax.{w64}
-use mir.Val.{SFits, ofZ}
 use Rattle.integers.proofs.Words.{minus-small}
-use Rattle.integers.proofs.Held.{Held, held, asks-minus, h-minus}
+use Rattle.integers.proofs.Held.{held, asks-minus, h-minus}
 use Rattle.tables.specs.Angles.{signed}
 use Rattle.cosine_lists.proofs.angles.signed.Statement.{statement}
 use Rattle.cosine_lists.proofs.angles.signed.Tie as tie

@@ -5,7 +5,6 @@ use mathlib.Core.Path.{ap, _∙_}
 use Prim.Native.Nat.{_^_}
 use mir.Syntax.{w64}
 use mir.Val.{ofZ}
-use lib.IntN.{_*ℤ_}
 use Rattle.integers.specs.Floor.{round}
 use Rattle.integers.specs.Places.{at}
 use Rattle.integers.proofs.Num.{Num, num, num-call, num-mul, mul-asks}

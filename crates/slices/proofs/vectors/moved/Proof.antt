@@ -1,6 +1,6 @@
 -- `slices::vectors::moved` meets its contract.
 use mathlib.Core.Path.{sym, ap, _∙_}
-use Prim.Native.Nat.{_-_, _^_}
+use Prim.Native.Nat.{_^_}
 use mir.Syntax.{w64}
 use mir.Val.{ofZ}
 use Rattle.integers.proofs.Num.{Num, num, num-add, num-sub, add-asks, sub-asks}

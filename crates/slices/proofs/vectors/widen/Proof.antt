@@ -1,7 +1,7 @@
 -- `slices::vectors::widen` meets its contract.
 use native.Mathlib.Omega.{arith}
 use mathlib.Core.Path.{_≡_, refl, sym, subst, _∙_}
-use Prim.Native.Nat.{ℕ, _+_, _-_, _%_, _≤_, _<_}
+use Prim.Native.Nat.{_+_, _-_, _%_, _≤_, _<_}
 use lib.ListN.{length}
 use Rattle.integers.specs.Places.{at}
 use Rattle.integers.proofs.PlaceLaws.{places-at}

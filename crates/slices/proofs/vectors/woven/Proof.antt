@@ -1,7 +1,6 @@
 -- `slices::vectors::woven` meets its contract.
 use borrow.Author.Needs.{needs}
 use mathlib.Core.Path.{sym, _∙_}
-use Prim.Native.Nat.{_-_}
 use mir.Syntax.{w64}
 use Rattle.integers.proofs.Held.{held-ok}
 use Rattle.slices.proofs.MoveLaws.{woven-top, woven-bottom}
