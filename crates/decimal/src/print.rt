@@ -1,10 +1,11 @@
 // Text gathered at the start of a buffer: each function puts its bytes behind the `at` bytes that are there, and answers how many there
 // are then.
 ghost use mathlib.Core.Path.{_≡_};
+ghost use mathlib.Core.List.{_∷_};
 ghost use Prim.Native.Nat.{_+_, _*_, _≤_};
 ghost use lib.ListN.{length, drop};
 ghost use Rattle.text_runs.specs.Decimal.{decimal, printed};
-ghost use Rattle.text_runs.specs.Lines.{row, endLine, refusal};
+ghost use Rattle.text_runs.specs.Lines.{comma, row, endLine, refusal};
 ghost use Rattle.decimal.specs.Own.Put.{Put};
 
 pub fn bytes(out: &mut [u8], at: usize, text: &[u8]) -> usize
@@ -57,6 +58,15 @@ pub fn number(out: &mut [u8], at: usize, x: i32) -> usize
     natural(out, at, wide as u64)
 }
 
+// A number behind a comma.
+fn next_number(out: &mut [u8], at: usize, x: i32) -> usize
+    requires { ⌜ at + 12 ≤ length (now out) ⌝ }
+    ensures { λ r. ⌜ Put at (now (out .entry)) (comma ∷ printed x) r (now (out .exit)) × (r ≤ at + 12) ⌝ }
+{
+    let n = bytes(out, at, b",");
+    number(out, n, x)
+}
+
 // Numbers parted by commas.
 pub fn numbers(out: &mut [u8], at: usize, x: &[i32]) -> usize
     requires { ⌜ at + 12 * length (now x) ≤ length (now out) ⌝ }
@@ -68,8 +78,7 @@ pub fn numbers(out: &mut [u8], at: usize, x: &[i32]) -> usize
     let mut n = number(out, at, x[0]);
     let mut i = 1;
     while i < x.len() {
-        n = bytes(out, n, b",");
-        n = number(out, n, x[i]);
+        n = next_number(out, n, x[i]);
         i += 1;
     }
     n
@@ -83,14 +92,21 @@ pub fn end_line(out: &mut [u8], at: usize, count: usize) -> usize
     natural(out, n, count as u64)
 }
 
+// The digits of n behind a comma.
+fn next_natural(out: &mut [u8], at: usize, n: u64) -> usize
+    requires { ⌜ at + 21 ≤ length (now out) ⌝ }
+    ensures { λ r. ⌜ Put at (now (out .entry)) (comma ∷ decimal n) r (now (out .exit)) × (r ≤ at + 21) ⌝ }
+{
+    let m = bytes(out, at, b",");
+    natural(out, m, n)
+}
+
 pub fn refused(out: &mut [u8], at: usize, number: usize, line: usize, place: usize) -> usize
     requires { ⌜ at + 70 ≤ length (now out) ⌝ }
     ensures { λ r. ⌜ Put at (now (out .entry)) (refusal number line place) r (now (out .exit)) × (r ≤ at + 70) ⌝ }
 {
     let a = bytes(out, at, b"refused,");
     let b = natural(out, a, number as u64);
-    let c = bytes(out, b, b",");
-    let d = natural(out, c, line as u64);
-    let e = bytes(out, d, b",");
-    natural(out, e, place as u64)
+    let c = next_natural(out, b, line as u64);
+    next_natural(out, c, place as u64)
 }

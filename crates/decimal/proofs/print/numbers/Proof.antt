@@ -2,22 +2,23 @@
 use borrow.Author.Needs.{needs}
 use native.Mathlib.Omega.{arith}
 use mathlib.Core.Path.{_≡_, refl, sym, ap, _∙_}
+use mathlib.Core.List.{_∷_}
 use Prim.Native.Nat.{suc, _+_, _-_, _*_, _≤_, _<_}
 use lib.ListN.{length, drop}
 use mir.Syntax.{w32}
 use Rattle.integers.proofs.Held.{held-ok}
 use Rattle.text_runs.specs.Decimal.{printed}
-use Rattle.text_runs.specs.Lines.{behindCommas}
+use Rattle.text_runs.specs.Lines.{comma, behindCommas}
 use Rattle.decimal.proofs.PutLaws.{Left, left-all, left-as, left-put, left-none, put-none, put-then, put-as}
 use Rattle.text_runs.proofs.TextLaws.{row-none, row-first, commas-next, commas-none}
 use Rattle.decimal.proofs.print.numbers.Statement.{statement}
 use Rattle.decimal.proofs.print.numbers.Tie as tie
 
 abbrev Inv-loop : tie.InvT-loop
-Inv-loop out₀ at x n₀ i₀ t6 out n i = (0 < i) × (i ≤ length x) × (length out ≡ length out₀) × (n + 12 ≤ n₀ + 12 * i) × Left n₀ out₀ (behindCommas (drop 1 x)) n out (behindCommas (drop i x))
+Inv-loop out₀ at x n₀ i₀ out n i = (0 < i) × (i ≤ length x) × (length out ≡ length out₀) × (n + 12 ≤ n₀ + 12 * i) × Left n₀ out₀ (behindCommas (drop 1 x)) n out (behindCommas (drop i x))
 
 abbrev μ-loop : tie.MeasureT-loop
-μ-loop out₀ at x n₀ i₀ t6 out n i = length x - i
+μ-loop out₀ at x n₀ i₀ out n i = length x - i
 
 module _ (k : tie.At-loop Inv-loop μ-loop) where
   long : length (k .loop .out) ≡ length (k .before .before .before .before .before .before .before .before .args .out .now)
@@ -38,20 +39,14 @@ number-requires c κs = omega arith
 loop-holds : tie.Need-loop-holds Inv-loop μ-loop
 loop-holds c = (omega arith, omega arith, refl, omega arith, left-all _ _ _)
 
-slice-aggregate-bytes : tie.Need-slice-aggregate-bytes Inv-loop μ-loop
-slice-aggregate-bytes c = refl
+mul-next-number : tie.Need-mul-next-number Inv-loop μ-loop
+mul-next-number c = search needs
 
-bytes-requires : tie.Need-bytes-requires Inv-loop μ-loop
-bytes-requires c κs = let k = c .before .before .before in omega (arith, long k, first k)
+shared-slice-copy-out-next-number : tie.Need-shared-slice-copy-out-next-number Inv-loop μ-loop
+shared-slice-copy-out-next-number c = omega arith
 
-mul-number : tie.Need-mul-number Inv-loop μ-loop
-mul-number c = search needs
-
-shared-slice-copy-out-number-2 : tie.Need-shared-slice-copy-out-number-2 Inv-loop μ-loop
-shared-slice-copy-out-number-2 c = omega arith
-
-number-requires-2 : tie.Need-number-requires-2 Inv-loop μ-loop
-number-requires-2 c κs = let k = c .before .before .before .before .before .before .before .before in omega (arith, long k, first k, c .before .before .before .before .bytes .ensures .count, c .before .before .before .out2 .given)
+next-number-requires : tie.Need-next-number-requires Inv-loop μ-loop
+next-number-requires c κs = let k = c .before .before .before in omega (arith, long k, first k)
 
 add-i : tie.Need-add-i Inv-loop μ-loop
 add-i c = omega arith
@@ -61,13 +56,13 @@ loop-less c = omega arith
 
 loop-again : tie.Need-loop-again Inv-loop μ-loop
 loop-again c =
-    let k = c .before .before .before .before .before .before .before .before .before .before .before .loop in
-    let x = c .before .before .before .before .before .before .before .before .before .before .before .before .before .before .before .before .before .before .before .args .x .now in
-    let p = c .before .before .before .before .before .before .before .bytes .ensures in
-    let q = c .before .before .number2 .ensures in
+    let k = c .before .before .before .before .before .before .loop in
+    let x = c .before .before .before .before .before .before .before .before .before .before .before .before .before .before .args .x .now in
+    let q = c .before .before .next-number .ensures in
     let s : k .i + 1 ≡ suc (k .i) = omega arith in
-    let next = left-put (left-put (left-as (commas-next x (k .i) (omega arith)) (k .inv .4)) p) (put-as _ _ _ _ (ap printed (held-ok w32 _ (c .before .before .before .number-arg4 .given) .is)) (q .0)) in
-    (omega arith, omega arith, c .before .out3 .given ∙ c .before .before .before .before .before .before .out2 .given ∙ k .inv .2, omega (arith, p .count, q .1), left-as (ap (λ n. behindCommas (drop n x)) (sym s)) next)
+    let put = put-as _ _ _ _ (ap (λ z. comma ∷ printed z) (held-ok w32 _ (c .before .before .before .next-number-arg2 .given) .is)) (q .0) in
+    let next = left-put (left-as (commas-next x (k .i) (omega arith)) (k .inv .4)) put in
+    (omega arith, omega arith, c .before .out2 .given ∙ k .inv .2, omega (arith, q .1), left-as (ap (λ n. behindCommas (drop n x)) (sym s)) next)
 
 same-length : tie.Need-same-length Inv-loop μ-loop
 same-length c = long (c .before)
@@ -90,11 +85,9 @@ numbers-spec =
     shared-slice-copy-out-number
     number-requires
     loop-holds
-    slice-aggregate-bytes
-    bytes-requires
-    mul-number
-    shared-slice-copy-out-number-2
-    number-requires-2
+    mul-next-number
+    shared-slice-copy-out-next-number
+    next-number-requires
     add-i
     loop-less
     loop-again

@@ -2,8 +2,8 @@
 use borrow.Author.Needs.{needs}
 use native.Mathlib.Omega.{arith}
 use Rattle.text_runs.proofs.DecimalLaws.{decimal-within}
-use Rattle.decimal.proofs.PutLaws.{put-then, put-as}
 use Rattle.text_runs.proofs.TextLaws.{refusal-is}
+use Rattle.decimal.proofs.PutLaws.{put-then, put-as}
 use Rattle.decimal.proofs.print.refused.Statement.{statement}
 use Rattle.decimal.proofs.print.refused.Tie as tie
 
@@ -16,44 +16,24 @@ bytes-requires c κs = search needs
 natural-requires : tie.Need-natural-requires
 natural-requires c κs = omega (arith, c .before .before .before .bytes .ensures .count, decimal-within (c .before .before .before .before .before .before .before .args .number))
 
-slice-aggregate-bytes-2 : tie.Need-slice-aggregate-bytes-2
-slice-aggregate-bytes-2 c = search needs
+next-natural-requires : tie.Need-next-natural-requires
+next-natural-requires c κs = omega (arith, c .before .before .before .natural .ensures .count, c .before .before .before .before .before .before .before .bytes .ensures .count, decimal-within (c .before .before .before .before .before .before .before .before .before .before .before .args .number))
 
-bytes-requires-2 : tie.Need-bytes-requires-2
-bytes-requires-2 c κs = omega (arith, c .before .before .before .before .natural .ensures .count, c .before .before .before .before .before .before .before .before .bytes .ensures .count, decimal-within (c .before .before .before .before .before .before .before .before .before .before .before .before .args .number))
-
-natural-requires-2 : tie.Need-natural-requires-2
-natural-requires-2 c κs =
-    let s = c .before .before .before .before .before .before .before .before .before .before .before .before .before .before .before .before .args in
-    omega (arith, c .before .before .before .bytes2 .ensures .count, c .before .before .before .before .before .before .before .before .natural .ensures .count, c .before .before .before .before .before .before .before .before .before .before .before .before .bytes .ensures .count, decimal-within (s .number), decimal-within (s .line))
-
-slice-aggregate-bytes-3 : tie.Need-slice-aggregate-bytes-3
-slice-aggregate-bytes-3 c = search needs
-
-bytes-requires-3 : tie.Need-bytes-requires-3
-bytes-requires-3 c κs =
-    let s = c .before .before .before .before .before .before .before .before .before .before .before .before .before .before .before .before .before .before .before .before .before .args in
-    omega (arith, c .before .before .before .before .natural2 .ensures .count, c .before .before .before .before .before .before .before .before .bytes2 .ensures .count, c .before .before .before .before .before .before .before .before .before .before .before .before .before .natural .ensures .count, c .before .before .before .before .before .before .before .before .before .before .before .before .before .before .before .before .before .bytes .ensures .count, decimal-within (s .number), decimal-within (s .line))
-
-natural-requires-3 : tie.Need-natural-requires-3
-natural-requires-3 c κs =
-    let s = c .before .before .before .before .before .before .before .before .before .before .before .before .before .before .before .before .before .before .before .before .before .before .before .before .before .args in
-    omega (arith, c .before .before .before .bytes3 .ensures .count, c .before .before .before .before .before .before .before .before .natural2 .ensures .count, c .before .before .before .before .before .before .before .before .before .before .before .before .bytes2 .ensures .count, c .before .before .before .before .before .before .before .before .before .before .before .before .before .before .before .before .before .natural .ensures .count, c .before .before .before .before .before .before .before .before .before .before .before .before .before .before .before .before .before .before .before .before .before .bytes .ensures .count, decimal-within (s .number), decimal-within (s .line), decimal-within (s .place))
+next-natural-requires-2 : tie.Need-next-natural-requires-2
+next-natural-requires-2 c κs = omega (arith, c .before .before .before .next-natural .ensures .1, c .before .before .before .before .before .before .before .natural .ensures .count, c .before .before .before .before .before .before .before .before .before .before .before .bytes .ensures .count, decimal-within (c .before .before .before .before .before .before .before .before .before .before .before .before .before .before .before .args .number))
 
 same-length : tie.Need-same-length
 same-length c = search needs
 
 returns : tie.Need-returns
 returns c =
-    let s = c .before .before .before .before .before .before .before .before .before .before .before .before .before .before .before .before .before .before .before .before .before .before .before .before .before .before .before .before .args in
-    let a = c .before .before .before .before .before .before .before .before .before .before .before .before .before .before .before .before .before .before .before .before .before .before .before .before .bytes .ensures in
-    let b = c .before .before .before .before .before .before .before .before .before .before .before .before .before .before .before .before .before .before .before .before .natural .ensures in
-    let d = c .before .before .before .before .before .before .before .before .before .before .before .before .before .before .before .bytes2 .ensures in
-    let e = c .before .before .before .before .before .before .before .before .before .before .before .natural2 .ensures in
-    let f = c .before .before .before .before .before .before .bytes3 .ensures in
-    let g = c .before .before .natural3 .ensures in (
-      put-as _ _ _ _ (refusal-is _ _ _) (put-then a (put-then b (put-then d (put-then e (put-then f g))))),
-      omega (arith, a .count, b .count, d .count, e .count, f .count, g .count, decimal-within (s .number), decimal-within (s .line), decimal-within (s .place)),
+    let s = c .before .before .before .before .before .before .before .before .before .before .before .before .before .before .before .before .before .before .args in
+    let tag = c .before .before .before .before .before .before .before .before .before .before .before .before .before .before .bytes .ensures in
+    let number = c .before .before .before .before .before .before .before .before .before .before .natural .ensures in
+    let line = c .before .before .before .before .before .before .next-natural .ensures in
+    let place = c .before .before .next-natural2 .ensures in (
+      put-as _ _ _ _ (refusal-is (s .number) (s .line) (s .place)) (put-then tag (put-then number (put-then (line .0) (place .0)))),
+      omega (arith, tag .count, number .count, line .1, place .1, decimal-within (s .number)),
     )
 
 pub refused-spec : {M : Type 1} → statement M
@@ -63,11 +43,7 @@ refused-spec =
     slice-aggregate-bytes
     bytes-requires
     natural-requires
-    slice-aggregate-bytes-2
-    bytes-requires-2
-    natural-requires-2
-    slice-aggregate-bytes-3
-    bytes-requires-3
-    natural-requires-3
+    next-natural-requires
+    next-natural-requires-2
     same-length
     returns)

@@ -1,0 +1,29 @@
+-- `decimal::print::next_natural` meets its contract.
+use borrow.Author.Needs.{needs}
+use native.Mathlib.Omega.{arith}
+use Rattle.text_runs.proofs.DecimalLaws.{decimal-within}
+use Rattle.decimal.proofs.PutLaws.{put-then}
+use Rattle.decimal.proofs.print.next_natural.Statement.{statement}
+use Rattle.decimal.proofs.print.next_natural.Tie as tie
+
+slice-aggregate-bytes : tie.Need-slice-aggregate-bytes
+slice-aggregate-bytes c = search needs
+
+bytes-requires : tie.Need-bytes-requires
+bytes-requires c κs = search needs
+
+natural-requires : tie.Need-natural-requires
+natural-requires c κs = omega (arith, c .before .before .before .bytes .ensures .count, decimal-within (c .before .before .before .before .before .before .before .args .n))
+
+same-length : tie.Need-same-length
+same-length c = search needs
+
+returns : tie.Need-returns
+returns c =
+    let p = c .before .before .before .before .before .before .bytes .ensures in
+    let q = c .before .before .natural .ensures in
+    (put-then p q, omega (arith, p .count, q .count, decimal-within (c .before .before .before .before .before .before .before .before .before .before .args .n)))
+
+pub next-natural-spec : {M : Type 1} → statement M
+next-natural-spec =
+    tie.close (tie.spec slice-aggregate-bytes bytes-requires natural-requires same-length returns)
