@@ -6,7 +6,7 @@ ghost use Rattle.tables.specs.Widths.{halfWidth};
 ghost use Rattle.runs.specs.Answers.{told};
 ghost use Rattle.runs.specs.Alone.{stagesAsked, unstagesAsked, stagesAlone, unstagesAlone};
 use crate::transform;
-use cosine_lists::widths;
+use constants::widths;
 use gate::questions;
 use runs::answer::Answer;
 use runs::answer::Found;

@@ -6,7 +6,7 @@ ghost use Rattle.gate.specs.Own.Ready.{Ready};
 ghost use Rattle.runs.specs.Back.{takenBack, firstHeld, endedBack};
 ghost use Rattle.frames.specs.Own.Faults.{toldFault};
 use crate::in_place;
-use cosine_lists::widths;
+use constants::widths;
 use frames::undo::Fault;
 use gate::questions;
 use runs::answer::Answer;

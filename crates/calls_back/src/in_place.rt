@@ -10,7 +10,7 @@ ghost use Rattle.runs.specs.Record.{recordOf, nextCount, opened};
 ghost use Rattle.runs.specs.Back.{undoneIn, takenBack};
 ghost use Rattle.frames.specs.Own.Faults.{toldFault, countAfter};
 use crate::back;
-use constants::fill;
+use width_tables::fill;
 use frames::undo;
 use frames::undo::Fault;
 use gate::questions;

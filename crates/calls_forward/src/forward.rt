@@ -6,7 +6,7 @@ ghost use Rattle.runs.specs.Record.{zeros, closed};
 ghost use Rattle.gate.specs.Own.Ready.{Ready};
 ghost use Rattle.runs.specs.Forward.{started, frameOn, taken, ended};
 use crate::in_place;
-use cosine_lists::widths;
+use constants::widths;
 use frames::step;
 use gate::questions;
 use runs::answer::Answer;

@@ -9,7 +9,7 @@ ghost use Rattle.steps.specs.Steps.{held, frame};
 ghost use Rattle.runs.specs.Answers.{told};
 ghost use Rattle.runs.specs.Record.{recordOf, nextCount};
 ghost use Rattle.runs.specs.Forward.{taken};
-use constants::fill;
+use width_tables::fill;
 use frames::step;
 use gate::questions;
 use gate::questions::Fault;

@@ -1,3 +1,1 @@
-pub mod OrderLaws
-pub mod FillLaws
-pub mod TableSizes
+pub mod TableLaws

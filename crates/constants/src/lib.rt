@@ -1,3 +1,6 @@
-// What the steps of a width take, filled from the tables.
-pub mod fill;
-mod order;
+// The constant tables and the angle reduction, and lists filled from them.
+pub mod angles;
+pub mod secants;
+pub mod sines;
+pub mod tangents;
+pub mod widths;

@@ -24,9 +24,9 @@ use Rattle.tables.proofs.ByWidth.{at-each}
 use Rattle.steps.specs.Steps.{tangent, sine, tangentAmount, sineAmount, rotatedA, rotatedB, unrotatedA, unrotatedB, lower}
 use Rattle.steps.proofs.Undo.{length-lower}
 use Rattle.slices.specs.Own.Moves.{moved}
-use Rattle.constants.specs.Own.Parts.{Tangents, Sines}
+use Rattle.width_tables.specs.Own.Parts.{Tangents, Sines}
 use Rattle.slices.proofs.MoveLaws.{moved-size}
-use Rattle.constants.proofs.TableSizes.{tangents-within, sines-within}
+use Rattle.width_tables.proofs.TableSizes.{tangents-within, sines-within}
 
 -- ---- one lift
 abbrev pub lifted : Bool → ℤ → ℤ → ℤ → ℤ

@@ -10,7 +10,7 @@ ghost use Rattle.tables.specs.Widths.{halfWidth};
 ghost use Rattle.steps.specs.Steps;
 ghost use Rattle.steps.specs.Steps.{lower, topOf, bottomOf, rotatedA, rotatedB};
 ghost use Rattle.slices.specs.Own.Moves.{moved};
-ghost use Rattle.constants.specs.Own.Parts.{Tangents, Sines, Halves};
+ghost use Rattle.width_tables.specs.Own.Parts.{Tangents, Sines, Halves};
 use slices::vectors;
 
 struct Pair {

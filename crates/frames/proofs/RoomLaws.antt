@@ -10,8 +10,8 @@ use Rattle.tables.specs.Widths.{halfWidth}
 use Rattle.tables.proofs.ByWidth.{at-each, half-width-le}
 use Rattle.tables.proofs.Reading.{half-is}
 use Rattle.steps.proofs.Undo.{width-half}
-use Rattle.constants.specs.Filled.{leavesLong, tablesLong, listRoom, productRoom, Filled}
-use Rattle.constants.specs.Own.Parts.{Tangents, Sines, Halves}
+use Rattle.width_tables.specs.Filled.{leavesLong, tablesLong, listRoom, productRoom, Filled}
+use Rattle.width_tables.specs.Own.Parts.{Tangents, Sines, Halves}
 use Rattle.slices.proofs.Parts.{part-long, front, front-long, front-le}
 
 module _ (N : ℕ) (wide : 0 < halfWidth N) (t : List ℤ) (filled : Filled N t) where

@@ -8,8 +8,8 @@ use lib.ListN.{length, take}
 use Rattle.tables.specs.Widths.{halfWidth}
 use Rattle.tables.proofs.ByWidth.{half-width-le}
 use Rattle.tables.proofs.Reading.{half-is}
-use Rattle.constants.specs.Filled.{tablesLong, listRoom, productRoom}
-use Rattle.constants.specs.Own.Parts.{Halves, Room}
+use Rattle.width_tables.specs.Filled.{tablesLong, listRoom, productRoom}
+use Rattle.width_tables.specs.Own.Parts.{Halves, Room}
 use Rattle.slices.proofs.Parts.{part-long}
 use Rattle.frames.proofs.RoomLaws.{half-small, tables-small, tables-le, lists-small, lists-le, product-small, product-le, halves-lent}
 

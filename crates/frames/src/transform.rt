@@ -6,9 +6,9 @@ ghost use Prim.Native.Nat.{_+_, _*_, _<_};
 ghost use lib.ListN.{length};
 ghost use Rattle.integers.specs.Places.{places, at, Within};
 ghost use Rattle.tables.specs.Widths.{halfWidth};
-ghost use Rattle.constants.specs.Filled.{Filled};
+ghost use Rattle.width_tables.specs.Filled.{Filled};
 ghost use Rattle.steps.specs.Steps.{stages, unstages};
-ghost use Rattle.constants.specs.Own.Parts.{Halves, Room};
+ghost use Rattle.width_tables.specs.Own.Parts.{Halves, Room};
 use slices::vectors;
 
 // A frame to its folded values.

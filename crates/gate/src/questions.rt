@@ -9,7 +9,7 @@ ghost use Rattle.runs.specs.Answers.{told, beyond, firstBeyond};
 ghost use Rattle.runs.specs.Record.{recordOf, nextCount};
 ghost use Rattle.runs.specs.Gate.{firstDead};
 ghost use Rattle.gate.specs.Own.Faults.{faultOf};
-use cosine_lists::widths;
+use constants::widths;
 use runs::answer::Answer;
 use runs::answer::Found;
 use runs::record::Run;

@@ -22,12 +22,12 @@ use Rattle.steps.specs.Steps.{cosine, alternate}
 use Rattle.steps.proofs.Undo.{width-half}
 use Rattle.products.specs.Own.Products.{product, Sizes}
 use Rattle.products.specs.Own.Whole.{LeafLists, Given}
-use Rattle.constants.specs.Orders.{angleAt, placeIn, signIn, placesOut, placeOut}
-use Rattle.constants.specs.Filled.{cosineList, productRoom}
+use Rattle.width_tables.specs.Orders.{angleAt, placeIn, signIn, placesOut, placeOut}
+use Rattle.width_tables.specs.Filled.{cosineList, productRoom}
 use Rattle.rows.specs.Orders.{Order, rowAt}
 use Rattle.rows.specs.Sums.{cosineSums, alternated, CosineRows}
 use Rattle.rows.proofs.Turned.{matrix, same-at, Turned, turned-sum}
-use Rattle.constants.proofs.OrderLaws.{in-out, out-in}
+use Rattle.width_tables.proofs.OrderLaws.{in-out, out-in}
 use Rattle.rows.proofs.ProductLaws.{given, left, left-small}
 
 -- ---- the matrix

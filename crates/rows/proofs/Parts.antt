@@ -13,8 +13,8 @@ use Rattle.tables.proofs.ByWidth.{at-each, half-width-le}
 use Rattle.tables.proofs.Reading.{half-is}
 use Rattle.steps.proofs.Undo.{width-half}
 use Rattle.products.specs.Own.Whole.{LeafLists}
-use Rattle.constants.specs.Orders.{placeIn}
-use Rattle.constants.specs.Filled.{Filled, part, tablesLong, leavesLong, cosineList, secantList, productRoom}
+use Rattle.width_tables.specs.Orders.{placeIn}
+use Rattle.width_tables.specs.Filled.{Filled, part, tablesLong, leavesLong, cosineList, secantList, productRoom}
 use Rattle.rows.proofs.CosineOrder.{signFor}
 
 leaves-le : (N : ℕ) → leavesLong N ≤ 729

@@ -16,7 +16,7 @@ use Rattle.products.specs.Own.Products.{product, Power, Sizes}
 use Rattle.products.specs.Own.Whole.{LeafLists, Given}
 use Rattle.products.proofs.LevelLaws.{product-size}
 use Rattle.products.proofs.WholeLaws.{power-same}
-use Rattle.constants.specs.Filled.{productRoom}
+use Rattle.width_tables.specs.Filled.{productRoom}
 
 -- there is room for every level
 room-at : {m : ℕ} (levels : ℕ) → m ≡ 4 * 2 ^ levels → (p : Power m) → 3 ^ p .levels * 4 ≡ 3 ^ levels * 4

@@ -22,7 +22,7 @@ use Rattle.tables.proofs.ByWidth.{at-each, half-width-le}
 use Rattle.tables.proofs.Quadrants.{signed-size}
 use Rattle.steps.specs.Steps.{secant, oddOf}
 use Rattle.steps.proofs.Undo.{width-half}
-use Rattle.constants.specs.Filled.{secantList, productRoom}
+use Rattle.width_tables.specs.Filled.{secantList, productRoom}
 use Rattle.products.specs.Own.Products.{product, Sizes}
 use Rattle.products.specs.Own.Whole.{LeafLists, Given}
 use Rattle.rows.specs.Orders.{secantIn, secantOut}

@@ -7,7 +7,7 @@ use lib.ListN.{length}
 use Rattle.integers.specs.Places.{places, at, sum}
 use Rattle.tables.specs.Widths.{halfWidth, scale}
 use Rattle.steps.specs.Steps.{cosine, secant, alternate}
-use Rattle.constants.specs.Orders.{signIn, placeOut}
+use Rattle.width_tables.specs.Orders.{signIn, placeOut}
 use Rattle.rows.specs.Orders.{secantOut}
 
 unfoldable pub cosineSums : ℕ → List ℤ → List ℤ

@@ -5,7 +5,7 @@ ghost use Prim.Native.Nat.{_*_, _≤_, _<_};
 ghost use lib.ListN.{length};
 ghost use Rattle.integers.specs.Places.{Within};
 ghost use Rattle.tables.specs.Widths.{halfWidth};
-ghost use Rattle.constants.specs.Filled.{Filled, productRoom};
+ghost use Rattle.width_tables.specs.Filled.{Filled, productRoom};
 ghost use Rattle.rows.specs.Sums.{CosineRows, SecantRows};
 use crate::order;
 use products::whole;

@@ -11,8 +11,8 @@ use Rattle.tables.specs.Widths.{halfWidth, scale}
 use Rattle.tables.proofs.ByWidth.{at-each, half-width-le}
 use Rattle.steps.specs.Steps.{tangent, sine}
 use Rattle.steps.proofs.Undo.{width-half}
-use Rattle.constants.specs.Orders.{signIn, placeOut}
-use Rattle.constants.specs.Filled.{Filled, tablesLong, productRoom}
+use Rattle.width_tables.specs.Orders.{signIn, placeOut}
+use Rattle.width_tables.specs.Filled.{Filled, tablesLong, productRoom}
 use Rattle.rows.specs.Orders.{Order, rowAt}
 use Rattle.rows.specs.Sums.{cosineSums, CosineRows, SecantRows}
 use Rattle.lifts.specs.Own.Moves.{Scaled, Thirds}

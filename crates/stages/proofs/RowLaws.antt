@@ -19,8 +19,8 @@ use Rattle.integers.proofs.PlaceLaws.{length-places, at-places, places-at, with
 use Rattle.tables.specs.Widths.{byWidth, halfWidth, scale}
 use Rattle.tables.proofs.ByWidth.{at-each}
 use Rattle.steps.specs.Steps.{cosine, secant}
-use Rattle.constants.specs.Orders.{signIn, placesOut, placeOut}
-use Rattle.constants.specs.Filled.{productRoom}
+use Rattle.width_tables.specs.Orders.{signIn, placesOut, placeOut}
+use Rattle.width_tables.specs.Filled.{productRoom}
 use Rattle.rows.specs.Orders.{Order, rowAt, secantOut}
 use Rattle.rows.specs.Sums.{cosineSums, secantSums, alternated, CosineRows, SecantRows}
 use Rattle.lifts.specs.Own.Moves.{Scaled, Thirds}

@@ -18,7 +18,7 @@ use Rattle.steps.specs.Steps.{rootLog, cosine, secant, alternate, amount1, amou
 use Rattle.rows.specs.Sums.{cosineSums, secantSums, alternated}
 use Rattle.slices.specs.Own.Moves.{moved}
 use Rattle.lifts.specs.Own.Moves.{flipped, second, amount, third}
-use Rattle.constants.specs.Own.Parts.{Halves}
+use Rattle.width_tables.specs.Own.Parts.{Halves}
 
 -- ---- one scale for all widths
 round-first : (N : ℕ) → 0 < halfWidth N → (v : ℤ) → round 30 (pos (scale N) *ℤ v) ≡ round (27 + rootLog N) v

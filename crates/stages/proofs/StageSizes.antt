@@ -15,7 +15,7 @@ use Rattle.integers.proofs.PlaceLaws.{at-places, within-places, sum-ext, row-su
 use Rattle.tables.specs.Widths.{byWidth, halfWidth}
 use Rattle.tables.proofs.ByWidth.{at-each}
 use Rattle.steps.specs.Steps.{rootLog, cosine, secant, alternate, amount1, amount2, amount3, sineAmount, tangentAmount, sine, tangent, stage1, stage2, stage3, stage4, stage5, unstage1, unstage2, unstage3, unstage4, unstage5}
-use Rattle.constants.proofs.TableSizes.{tangent-size, sine-size}
+use Rattle.width_tables.proofs.TableSizes.{tangent-size, sine-size}
 use Rattle.lifts.proofs.MoveLaws.{alternate-size}
 use Rattle.stages.proofs.SecantRows.{cosine-row, secant-row}
 

@@ -5,9 +5,9 @@ ghost use Prim.Native.Nat.{_^_, _≤_, _<_};
 ghost use lib.ListN.{length};
 ghost use Rattle.integers.specs.Places.{Within};
 ghost use Rattle.tables.specs.Widths.{halfWidth};
-ghost use Rattle.constants.specs.Filled.{Filled, productRoom};
+ghost use Rattle.width_tables.specs.Filled.{Filled, productRoom};
 ghost use Rattle.steps.specs.Steps.{stage1, stage2, stage3, stage4, stage5, unstage1, unstage2, unstage3, unstage4, unstage5};
-ghost use Rattle.constants.specs.Own.Parts.{Halves, Room};
+ghost use Rattle.width_tables.specs.Own.Parts.{Halves, Room};
 ghost use Rattle.stages.specs.Own.Stages.{top4, bottom5, untop2, unbottom1};
 use rows::sums;
 

@@ -5,7 +5,7 @@ use Prim.Native.Nat.{ℕ}
 use native.Mathlib.Omega.{arith}
 use lib.IntN.{ℤ}
 use lib.ListN.{length}
-use Rattle.constants.specs.Own.Parts.{Halves, Room}
+use Rattle.width_tables.specs.Own.Parts.{Halves, Room}
 
 pub record SameRoom (folded₀ wide₀ top₀ bottom₀ y₀ z₀ folded wide top bottom y z : List ℤ) : Type 0 where
   pub folded-same : length folded ≡ length folded₀

@@ -9,7 +9,7 @@ use lib.ListN.{length, drop}
 use Rattle.tables.specs.Widths.{halfWidth}
 use Rattle.tables.proofs.ByWidth.{half-width-le}
 use Rattle.tables.proofs.Reading.{half-is}
-use Rattle.constants.specs.Filled.{Filled}
+use Rattle.width_tables.specs.Filled.{Filled}
 use Rattle.slices.proofs.Parts.{part-long, front, front-long, front-le}
 use Rattle.frames.proofs.RoomLaws.{tables-le, lists-le, product-le}
 use Rattle.alone.proofs.transform.alone.Statement.{statement}

@@ -10,7 +10,7 @@ use Rattle.integers.specs.Places.{Within}
 use Rattle.integers.proofs.PlaceLaws.{within-up}
 use Rattle.tables.specs.Widths.{halfWidth}
 use Rattle.tables.proofs.Reading.{half-is}
-use Rattle.constants.specs.Own.Parts.{Halves}
+use Rattle.width_tables.specs.Own.Parts.{Halves}
 use Rattle.stages.specs.Own.Stages.{top4, bottom5}
 use Rattle.stages.proofs.PartLaws.{half-in-fours}
 use Rattle.stages.proofs.FrameSizes.{long4, long5, within4, within5}

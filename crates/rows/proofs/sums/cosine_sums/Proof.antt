@@ -11,8 +11,8 @@ use lib.Seq.{length-take-le, length-front}
 use Rattle.integers.specs.Places.{places}
 use Rattle.integers.proofs.PlaceLaws.{length-places, within-up}
 use Rattle.tables.specs.Widths.{halfWidth}
-use Rattle.constants.specs.Orders.{placeIn}
-use Rattle.constants.specs.Filled.{part, productRoom}
+use Rattle.width_tables.specs.Orders.{placeIn}
+use Rattle.width_tables.specs.Filled.{part, productRoom}
 use Rattle.rows.specs.Orders.{Order, rowAt}
 use Rattle.rows.proofs.Parts.{Widths, widths, places-part, signs-part, cosine-lists}
 use Rattle.rows.proofs.CosineOrder.{signFor, cosine-order, row-size, cosine-given, cosine-rows}

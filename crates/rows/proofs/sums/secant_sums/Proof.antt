@@ -9,7 +9,7 @@ use lib.Seq.{length-take-le, length-front}
 use Rattle.integers.specs.Places.{places, at}
 use Rattle.integers.proofs.PlaceLaws.{length-places, within-up}
 use Rattle.tables.specs.Widths.{halfWidth}
-use Rattle.constants.specs.Filled.{productRoom}
+use Rattle.width_tables.specs.Filled.{productRoom}
 use Rattle.rows.specs.Orders.{secantIn}
 use Rattle.rows.proofs.Parts.{Widths, widths, secant-lists}
 use Rattle.rows.proofs.SecantOrder.{secant-given, secant-rows}

@@ -7,8 +7,8 @@ use lib.ListN.{take}
 use lib.Seq.{length-take-le}
 use Rattle.tables.specs.Widths.{halfWidth}
 use Rattle.tables.proofs.Reading.{half-is}
-use Rattle.constants.specs.Own.Parts.{Tangents}
-use Rattle.constants.proofs.TableSizes.{tangents-long, tangents-within}
+use Rattle.width_tables.specs.Own.Parts.{Tangents}
+use Rattle.width_tables.proofs.TableSizes.{tangents-long, tangents-within}
 use Rattle.stages.proofs.PartLaws.{half-in-fours, tables-room, tangents-part}
 use Rattle.stages.proofs.StageLaws.{stage5-is}
 use Rattle.stages.proofs.stages.fifth.Statement.{statement}

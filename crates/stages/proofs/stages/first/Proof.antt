@@ -9,7 +9,7 @@ use lib.ListN.{length}
 use Rattle.integers.proofs.PlaceLaws.{within-up}
 use Rattle.tables.specs.Widths.{halfWidth}
 use Rattle.tables.proofs.Reading.{half-is}
-use Rattle.constants.specs.Filled.{productRoom}
+use Rattle.width_tables.specs.Filled.{productRoom}
 use Rattle.rows.specs.Sums.{CosineRows, alternated}
 use Rattle.stages.proofs.PartLaws.{half-in-fours, half-small, tables-room, room-long, rows-are, in-order, rows-scaled}
 use Rattle.stages.proofs.RowLaws.{room-for-half, alternated-within}

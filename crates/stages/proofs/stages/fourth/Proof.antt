@@ -7,8 +7,8 @@ use lib.ListN.{take, drop}
 use Rattle.tables.specs.Widths.{halfWidth}
 use Rattle.tables.proofs.Reading.{half-is}
 use Rattle.steps.proofs.Undo.{width-half}
-use Rattle.constants.specs.Own.Parts.{Sines}
-use Rattle.constants.proofs.TableSizes.{sines-long, sines-within}
+use Rattle.width_tables.specs.Own.Parts.{Sines}
+use Rattle.width_tables.proofs.TableSizes.{sines-long, sines-within}
 use Rattle.stages.proofs.PartLaws.{half-in-fours, half-small, tables-room, sines-part}
 use Rattle.stages.proofs.StageLaws.{stage4-is}
 use Rattle.stages.proofs.stages.fourth.Statement.{statement}

@@ -12,11 +12,11 @@ use Rattle.integers.proofs.PlaceLaws.{within-up}
 use Rattle.tables.specs.Widths.{halfWidth}
 use Rattle.tables.proofs.ByWidth.{half-width-le}
 use Rattle.tables.proofs.Reading.{half-is}
-use Rattle.constants.specs.Filled.{productRoom}
+use Rattle.width_tables.specs.Filled.{productRoom}
 use Rattle.rows.specs.Orders.{secantOut}
 use Rattle.rows.specs.Sums.{CosineRows, SecantRows}
-use Rattle.constants.specs.Own.Parts.{Tangents}
-use Rattle.constants.proofs.TableSizes.{tangents-long, tangents-within}
+use Rattle.width_tables.specs.Own.Parts.{Tangents}
+use Rattle.width_tables.proofs.TableSizes.{tangents-long, tangents-within}
 use Rattle.stages.proofs.PartLaws.{half-in-fours, half-small, tables-room, tangents-part, room-long, secants-in, rows-are, in-order, rows-thirds}
 use Rattle.stages.proofs.RowLaws.{room-for-half}
 use Rattle.stages.proofs.StageLaws.{stage3-is}

@@ -6,7 +6,7 @@ use mathlib.Core.List.{List, _++_}
 use Prim.Native.Nat.{ℕ, _-_, _≤_}
 use lib.IntN.{ℤ, pos}
 use lib.ListN.{length, take, drop, length-replicate}
-use Rattle.constants.specs.Filled.{Filled}
+use Rattle.width_tables.specs.Filled.{Filled}
 use Rattle.runs.specs.Answers.{told}
 use Rattle.slices.proofs.Parts.{part-long}
 use Rattle.runs.specs.WholeBack.{firstAnswer}

@@ -2,7 +2,7 @@
 use borrow.Author.Needs.{needs}
 use mathlib.Core.List.{List}
 use lib.IntN.{ℤ}
-use Rattle.constants.specs.Filled.{Filled}
+use Rattle.width_tables.specs.Filled.{Filled}
 use Rattle.slices.proofs.Parts.{part-long}
 use Rattle.frames.proofs.RoomLaws.{filled-le, filled-long, filled-lent}
 use Rattle.frames.proofs.RoomSizes.{Wide, large-room, tables-in, fill-asks}

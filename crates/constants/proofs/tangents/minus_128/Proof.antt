@@ -1,0 +1,25 @@
+-- `constants::tangents::minus_128` meets its contract: the table of the code is that of `specs/`.
+use borrow.Author.Needs.{needs}
+use mathlib.Core.Path.{_∙_}
+use Rattle.tables.specs.Widths.{byWidth, halfWidth}
+use Rattle.tables.specs.Numbers.{halfTangents, halfTangents128}
+use Rattle.constants.proofs.TableLaws.{tested-within, half-tangents-minus}
+use Rattle.constants.proofs.tangents.minus_128.Statement.{statement}
+use Rattle.constants.proofs.tangents.minus_128.Tie as tie
+
+slice-aggregate-minus : tie.Need-slice-aggregate-minus
+slice-aggregate-minus c = search needs
+
+minus-requires : tie.Need-minus-requires
+unfolding byWidth halfWidth halfTangents halfTangents128
+minus-requires c κs = (c .before .before .pre, tested-within 268435456 _ tt)
+
+same-length : tie.Need-same-length
+same-length c = search needs
+
+returns : tie.Need-returns
+unfolding byWidth halfTangents halfTangents128
+returns c = c .before .minus .ensures ∙ half-tangents-minus 128 _ (c .before .before .before .before .pre)
+
+pub minus-128-spec : {M : Type 1} → statement M
+minus-128-spec = tie.close (tie.spec slice-aggregate-minus minus-requires same-length returns)

@@ -1,0 +1,3 @@
+// What the steps of a width take, filled from the tables.
+pub mod fill;
+mod order;
