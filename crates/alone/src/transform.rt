@@ -9,10 +9,10 @@ ghost use Rattle.tables.specs.Widths.{halfWidth};
 ghost use Rattle.width_tables.specs.Filled.{Filled};
 ghost use Rattle.steps.specs.Steps.{stages, unstages};
 ghost use Rattle.width_tables.specs.Own.Parts.{Halves, Room};
-use width_tables::fill;
 use frames::transform;
 use slices::room;
 use slices::vectors;
+use width_tables::fill;
 
 // The numbers at the even places, or else at the odd ones: first is 0 or 1.
 fn every_second(x: &[i32], first: usize, out: &mut [i64])

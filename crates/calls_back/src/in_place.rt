@@ -10,12 +10,12 @@ ghost use Rattle.runs.specs.Record.{recordOf, nextCount, opened};
 ghost use Rattle.runs.specs.Back.{undoneIn, takenBack};
 ghost use Rattle.frames.specs.Own.Faults.{toldFault, countAfter};
 use crate::back;
-use width_tables::fill;
 use frames::undo;
 use frames::undo::Fault;
 use gate::questions;
 use runs::answer::Answer;
 use slices::room;
+use width_tables::fill;
 
 // Room is cleared when it is made, so there are two sizes: at width 8, room for 128 costs more than the step.
 fn in_small_room(

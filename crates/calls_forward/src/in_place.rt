@@ -9,12 +9,12 @@ ghost use Rattle.steps.specs.Steps.{held, frame};
 ghost use Rattle.runs.specs.Answers.{told};
 ghost use Rattle.runs.specs.Record.{recordOf, nextCount};
 ghost use Rattle.runs.specs.Forward.{taken};
-use width_tables::fill;
 use frames::step;
 use gate::questions;
 use gate::questions::Fault;
 use runs::answer::Answer;
 use slices::room;
+use width_tables::fill;
 
 // Room is cleared when it is made, so there are two sizes: at width 8, room for 128 costs more than the step.
 fn in_small_room(width: usize, block: &[i32], held: &mut [i64], frame: &mut [i32])

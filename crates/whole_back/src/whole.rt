@@ -18,7 +18,6 @@ ghost use Rattle.runs.specs.WholeBack;
 ghost use Rattle.runs.specs.WholeBack.{answerFrom, outputsFrom, firstAnswer, allOutputs, oneByOne, wholeBack};
 ghost use Rattle.whole_back.specs.Own.Ready.{Frames};
 use calls_back::back;
-use width_tables::fill;
 use constants::widths;
 use frames::undo;
 use gate::questions;
@@ -26,6 +25,7 @@ use runs::answer::Answer;
 use runs::answer::Found;
 use runs::record;
 use slices::room;
+use width_tables::fill;
 
 // An answer with its place counted through the run; 12 counts by blocks.
 fn placed(width: usize, offset: usize, answer: Answer) -> Answer

@@ -10,7 +10,6 @@ ghost use Rattle.runs.specs.Forward.{started};
 ghost use Rattle.runs.specs.Calls.{made};
 ghost use Rattle.runs.specs.Whole.{callsOf, outputs, wholeForward, WholeRun};
 ghost use Rattle.gate.specs.Own.Ready.{Blocks};
-use width_tables::fill;
 use constants::widths;
 use frames::step;
 use gate::questions;
@@ -18,6 +17,7 @@ use gate::questions::Fault;
 use runs::answer::Answer;
 use runs::record;
 use slices::room;
+use width_tables::fill;
 
 // The search through the blocks of a run that has a fault.
 fn searched(width: usize, readings: &[i32]) -> Fault

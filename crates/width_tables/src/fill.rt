@@ -11,11 +11,11 @@ ghost use Rattle.tables.specs.Widths.{halfWidth};
 ghost use Rattle.tables.specs.Numbers.{sines};
 ghost use Rattle.width_tables.specs.Filled.{tablesLong, listRoom, Filled, Lifts, Lists};
 use crate::order;
+use constants::secants;
 use constants::sines;
+use constants::tangents;
 use constants::widths;
 use product_lists::lists;
-use constants::secants;
-use constants::tangents;
 
 // How many numbers that is.
 pub fn tables_long(width: usize) -> usize
