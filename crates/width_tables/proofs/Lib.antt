@@ -1,3 +1,5 @@
 pub mod OrderLaws
+pub mod PartLaws
+pub mod ListLaws
 pub mod FillLaws
 pub mod TableSizes

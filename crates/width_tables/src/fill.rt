@@ -4,14 +4,13 @@
 ghost use mathlib.Core.Path.{_≡_};
 ghost use mathlib.Core.List.{map};
 ghost use Prim.Native.Nat.{_≤_, _<_};
-ghost use lib.IntN.{pos, natAbs, _*ℤ_};
+ghost use lib.IntN.{pos};
 ghost use lib.ListN.{length};
-ghost use Rattle.integers.specs.Places.{places, at, Within};
 ghost use Rattle.tables.specs.Widths.{halfWidth};
 ghost use Rattle.tables.specs.Numbers.{sines};
 ghost use Rattle.width_tables.specs.Filled.{tablesLong, listRoom, Filled, Lifts, Lists};
+use crate::matrices;
 use crate::order;
-use constants::secants;
 use constants::sines;
 use constants::tangents;
 use constants::widths;
@@ -41,19 +40,6 @@ fn fill_lifts(width: usize, quarter: &[i32], t: &mut [i64])
     sines::cosines(quarter, step + 768, 2 * step, &mut t[half..width]);
 }
 
-// Each number of a list, taken so many times.
-fn scaled(by: i64, list: &mut [i64])
-    requires { ⌜ natAbs by ≤ 16 ⌝ }
-    requires { ⌜ Within 11000000000 (now list) ⌝ }
-    ensures { λ _. ⌜ now (list .exit) ≡ places (length (now (list .entry))) (λ k. by *ℤ at (now (list .entry)) k) ⌝ }
-{
-    let mut k = 0;
-    while k < list.len() {
-        list[k] = by * list[k];
-        k += 1;
-    }
-}
-
 // The leaf lists of both matrices; room is as long as the lists of a level need.
 fn fill_lists(width: usize, scale: i64, quarter: &[i32], t: &mut [i64], room: &mut [i64])
     requires { ⌜ (0 < halfWidth width) × (length (now t) ≡ tablesLong width) × (listRoom width ≤ length (now room)) × (scale ≡ pos (Rattle.tables.specs.Widths.scale width)) ⌝ }
@@ -64,10 +50,9 @@ fn fill_lists(width: usize, scale: i64, quarter: &[i32], t: &mut [i64], room: &m
     let from = 7 * half;
     let middle = (from + t.len()) / 2;
     let end = t.len();
-    sines::cosines_by_threes(quarter, (128 / half) as u16, &mut room[..width]);
+    matrices::cosines(width, quarter, room);
     lists::leaf_lists(room, &mut t[from..middle], half);
-    secants::secants(width, &mut room[..width]);
-    scaled(scale * scale, &mut room[..width]);
+    matrices::secants(width, scale, room);
     lists::leaf_lists(room, &mut t[middle..end], half);
 }
 

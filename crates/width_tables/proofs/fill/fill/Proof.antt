@@ -12,7 +12,8 @@ use Rattle.integers.proofs.Held.{held-ok}
 use Rattle.tables.specs.Widths.{halfWidth, scale}
 use Rattle.tables.specs.Numbers.{sines}
 use Rattle.width_tables.specs.Filled.{tablesLong}
-use Rattle.width_tables.proofs.FillLaws.{Measured, measured, quarter-long, filled-made}
+use Rattle.width_tables.proofs.PartLaws.{Measured, measured, quarter-long}
+use Rattle.width_tables.proofs.FillLaws.{filled-made}
 use Rattle.width_tables.proofs.fill.fill.Statement.{statement}
 use Rattle.width_tables.proofs.fill.fill.Tie as tie
 

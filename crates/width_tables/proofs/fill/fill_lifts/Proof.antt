@@ -6,7 +6,8 @@ use native.Mathlib.Omega.{arith}
 use lib.ListN.{length, take}
 use lib.Seq.{length-take-le}
 use Rattle.tables.specs.Widths.{halfWidth}
-use Rattle.width_tables.proofs.FillLaws.{Measured, measured, sines-end, lifts-made}
+use Rattle.width_tables.proofs.PartLaws.{Measured, measured}
+use Rattle.width_tables.proofs.FillLaws.{sines-end, lifts-made}
 use Rattle.width_tables.proofs.fill.fill_lifts.Statement.{statement}
 use Rattle.width_tables.proofs.fill.fill_lifts.Tie as tie
 

@@ -1,6 +1,6 @@
 -- `width_tables::fill::tables_long` meets its contract.
 use mathlib.Core.Path.{sym}
-use Rattle.width_tables.proofs.FillLaws.{long-8, long-32, long-128, long-other}
+use Rattle.width_tables.proofs.PartLaws.{long-8, long-32, long-128, long-other}
 use Rattle.width_tables.proofs.fill.tables_long.Statement.{statement}
 use Rattle.width_tables.proofs.fill.tables_long.Tie as tie
 

@@ -1,4 +1,4 @@
--- `width_tables::fill::scaled` meets its contract.
+-- `width_tables::matrices::scaled` meets its contract.
 use borrow.Author.Needs.{needs}
 use mathlib.Core.Path.{sym, ap, ap₂, _∙_}
 use Prim.Native.Nat.{_-_, _≤_}
@@ -11,8 +11,8 @@ use Rattle.integers.specs.Places.{places, at}
 use Rattle.integers.proofs.Held.{held}
 use Rattle.integers.proofs.Fills.{Filling, filling-none, filling-next, filling-here, filling-all}
 use Rattle.integers.proofs.Num.{Num, num, mul-asks, num-mul}
-use Rattle.width_tables.proofs.fill.scaled.Statement.{statement}
-use Rattle.width_tables.proofs.fill.scaled.Tie as tie
+use Rattle.width_tables.proofs.matrices.scaled.Statement.{statement}
+use Rattle.width_tables.proofs.matrices.scaled.Tie as tie
 
 abbrev Inv-loop : tie.InvT-loop
 Inv-loop by list₀ k₀ list k = (k ≤ length list₀) × Filling (λ k. toZ w64 by *ℤ at list₀ k) list₀ k list
