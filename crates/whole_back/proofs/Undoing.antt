@@ -11,15 +11,15 @@ use Rattle.integers.proofs.PlaceLaws.{within-all}
 use Rattle.tables.specs.Widths.{halfWidth}
 use Rattle.steps.specs.Limits.{foldedLimit}
 use Rattle.runs.specs.Answers.{told, firstBeyond}
+use Rattle.runs.specs.declared.answer.Answer.{Answer}
 use Rattle.runs.specs.declared.answer.Found.{Found}
 use Rattle.runs.specs.declared.answer.Found.the-variants.{At, Nothing}
 use Rattle.runs.specs.declared.record.Run.{Run}
-use Rattle.runs.specs.Record.{frameLimit, opened}
+use Rattle.runs.specs.Record.{frameLimit, nextCount, opened}
 use Rattle.runs.specs.Gate.{Given}
+use Rattle.runs.proofs.Refusals.{count-raised}
 use Rattle.runs.proofs.RecordLaws.{take-filled}
-use Rattle.frames.specs.declared.undo.Fault.{Fault}
-use Rattle.frames.specs.declared.undo.Fault.the-variants.{Range, Folded, Halves, Unfolded, Clear}
-use Rattle.frames.specs.Own.Faults.{toldFault, countAfter, toldHeld}
+use Rattle.whole_back.specs.Own.Ready.{toldHeld}
 use Rattle.runs.specs.Back.{undoneIn, takenBack, firstHeld, endedBack}
 use Rattle.runs.specs.WholeBack.{placed}
 use Rattle.runs.proofs.AnswerLaws.{undone-alike}
@@ -34,19 +34,11 @@ opened-same : (N b : ℕ) (xs ys : List ℤ) → length xs ≡ halfWidth N → l
 unfolding opened
 opened-same N b xs ys l m e = sym (take-filled (halfWidth N) xs l) ∙ ap (λ (r : Run). take (halfWidth N) (r .held)) e ∙ take-filled (halfWidth N) ys m
 
-count-clear : (count : ℕ) (f : Fault) → toldFault f .0 ≡ 0 → countAfter count f ≡ suc count
-unfolding toldFault countAfter
-count-clear count (Range place) e = absurd (omega (arith, e))
-count-clear count (Folded place) e = absurd (omega (arith, e))
-count-clear count (Halves place) e = absurd (omega (arith, e))
-count-clear count (Unfolded place) e = absurd (omega (arith, e))
-count-clear count Clear e = refl
-
 -- ---- the frame c is undone, with any output
-module _ (N count : ℕ) (low after c out w : List ℤ) (fault : Fault) (r : ReachedBack N count low) (h : count < frameLimit) (long : length after ≡ halfWidth N)
-    (e : (toldFault fault, opened N (countAfter count fault) after, w) ≡ undoneIn (opened N count low) c out) where
+module _ (N count : ℕ) (low after c out w : List ℤ) (answer : Answer) (r : ReachedBack N count low) (h : count < frameLimit) (long : length after ≡ halfWidth N)
+    (e : (told answer, opened N (nextCount (told answer .0) count) after, w) ≡ undoneIn (opened N count low) c out) where
   pub frame-taken : (other : List ℤ) → length c ≡ N → length other ≡ N
-      → takenBack (opened N count low) c other ≡ (toldFault fault, opened N (countAfter count fault) after, takenBack (opened N count low) c other .2)
+      → takenBack (opened N count low) c other ≡ (told answer, opened N (nextCount (told answer .0) count) after, takenBack (opened N count low) c other .2)
   frame-taken other l m =
       let same = taken-undone N count low r c other l m h in
       sym
@@ -55,15 +47,15 @@ module _ (N count : ℕ) (low after c out w : List ℤ) (fault : Fault) (r : Rea
       ∙ undone-alike (opened N count low) c out other .same
       ∙ sym same)
 
-  pub block-given : length c ≡ N → length out ≡ N → (toldFault fault, opened N (countAfter count fault) after, w) ≡ takenBack (opened N count low) c out
+  pub block-given : length c ≡ N → length out ≡ N → (told answer, opened N (nextCount (told answer .0) count) after, w) ≡ takenBack (opened N count low) c out
   block-given l m = e ∙ sym (taken-undone N count low r c out l m h)
 
-  module _ (z : toldFault fault .0 ≡ 0) where
-    run-next : opened N (countAfter count fault) after ≡ opened N (suc count) after
-    run-next = ap (λ (n : ℕ). opened N n after) (count-clear count fault z)
+  module _ (z : told answer .0 ≡ 0) where
+    pub run-after : opened N (nextCount (told answer .0) count) after ≡ opened N (count + 1) after
+    run-after = ap (λ (n : ℕ). opened N n after) (sym (count-raised (told answer .0) count z))
 
-    pub run-after : opened N (countAfter count fault) after ≡ opened N (count + 1) after
-    run-after = run-next ∙ ap (λ (n : ℕ). opened N n after) (sym (add-one count))
+    run-next : opened N (nextCount (told answer .0) count) after ≡ opened N (suc count) after
+    run-next = run-after ∙ ap (λ (n : ℕ). opened N n after) (add-one count)
 
     pub reached-after : ReachedBack N (count + 1) after
     reached-after =

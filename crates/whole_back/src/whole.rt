@@ -1,6 +1,6 @@
 // A whole run back over lent slices, for any caller.
 ghost use mathlib.Core.Path.{_≡_};
-ghost use Prim.Native.Nat.{_+_, _-_, _/_, _≤_, _<_};
+ghost use Prim.Native.Nat.{_+_, _-_, _*_, _/_, _≤_, _<_};
 ghost use lib.IntN.{pos};
 ghost use lib.ListN.{length, drop};
 ghost use Rattle.integers.specs.Places.{Within};
@@ -9,17 +9,15 @@ ghost use Rattle.steps.specs.Limits.{foldedLimit};
 ghost use Rattle.width_tables.specs.Filled.{Filled};
 ghost use Rattle.width_tables.specs.Own.Parts.{Halves, Room};
 ghost use Rattle.runs.specs.Answers.{told, firstBeyond};
-ghost use Rattle.runs.specs.Record.{zeros, opened};
+ghost use Rattle.runs.specs.Record.{frameLimit, zeros, opened};
 ghost use Rattle.runs.specs.Forward.{started};
 ghost use Rattle.gate.specs.Own.Ready.{Blocks};
 ghost use Rattle.runs.specs.Back.{takenBack};
-ghost use Rattle.frames.specs.Own.Faults.{toldHeld};
 ghost use Rattle.runs.specs.WholeBack;
 ghost use Rattle.runs.specs.WholeBack.{answerFrom, outputsFrom, firstAnswer, allOutputs, oneByOne, wholeBack};
-ghost use Rattle.whole_back.specs.Own.Ready.{Frames};
-use calls_back::back;
-use constants::widths;
+ghost use Rattle.whole_back.specs.Own.Ready.{Frames, toldHeld};
 use frames::undo;
+use gate::limits;
 use gate::questions;
 use runs::answer::Answer;
 use runs::answer::Found;
@@ -29,7 +27,7 @@ use width_tables::fill;
 
 // An answer with its place counted through the run; 12 counts by blocks.
 fn placed(width: usize, offset: usize, answer: Answer) -> Answer
-    requires { ⌜ (offset ≤ 8388736) × (told answer .1 ≤ 128) ⌝ }
+    requires { ⌜ (offset ≤ frameLimit * 128) × (told answer .1 ≤ 128) ⌝ }
     ensures { λ r. ⌜ told r ≡ WholeBack.placed width offset (told answer) ⌝ }
 {
     match answer {
@@ -62,7 +60,7 @@ fn spare() -> [i32; 128]
 
 // Question 11 at the finish, which counts with the last frame.
 fn ended(offset: usize, held: &[i64]) -> Answer
-    requires { ⌜ (offset ≤ 8388736) × (length (now held) ≤ 64) ⌝ }
+    requires { ⌜ (offset ≤ frameLimit * 128) × (length (now held) ≤ 64) ⌝ }
     ensures { λ r. ⌜ told r ≡ toldHeld offset (firstBeyond (pos 0) (now (held .entry)) 0) ⌝ }
 {
     let lower = questions::first_beyond(held, 0);
@@ -99,7 +97,7 @@ fn answer_of(
     let mut left = frames.len() / width;
     while 0 < left {
         let end = at + width;
-        let fault = undo::undo(
+        let answer = undo::undo(
             width,
             count,
             t,
@@ -113,7 +111,6 @@ fn answer_of(
             y,
             z,
         );
-        let answer = back::answered(fault);
         if runs::answer::number(answer) != 0 {
             return placed(width, at, answer);
         }
@@ -305,17 +302,9 @@ fn in_two_passes(width: usize, frames: &[i32], readings: &mut [i32]) -> Answer
 pub fn back(width: usize, frames: &[i32], readings: &mut [i32]) -> Answer
     ensures { λ r. ⌜ (told r, now (readings .exit)) ≡ wholeBack width (now (frames .entry)) (now (readings .entry)) ⌝ }
 {
-    if widths::half_width(width) == 0 {
-        return Answer::Width;
-    }
-    if frames.len() % width != 0 {
-        return Answer::InputLength;
-    }
-    if 65537 < frames.len() / width {
-        return Answer::InputLength;
-    }
-    if frames.len() == 0 {
-        return Answer::InputLength;
+    let asked = questions::in_parts(width, frames.len(), 1, limits::FRAME_LIMIT);
+    if runs::answer::number(asked) != 0 {
+        return asked;
     }
     if frames.len() - width != readings.len() {
         return Answer::OutputLength;

@@ -10,11 +10,10 @@ use Rattle.tables.specs.Widths.{halfWidth}
 use Rattle.tables.proofs.ByWidth.{half-width-le}
 use Rattle.runs.specs.Answers.{told}
 use Rattle.runs.specs.declared.record.Run.{Run}
-use Rattle.runs.specs.Record.{frameLimit, zeros, opened}
+use Rattle.runs.specs.Record.{nextCount, frameLimit, zeros, opened}
 use Rattle.runs.specs.Gate.{Given}
 use Rattle.runs.proofs.RecordLaws.{width-pos}
 use Rattle.gate.proofs.FaultLaws.{block-next, block-in, no-block, block-long, part-is}
-use Rattle.frames.specs.Own.Faults.{toldFault, countAfter}
 use Rattle.runs.specs.Back.{undoneIn, takenBack}
 use Rattle.runs.specs.WholeBack.{answerFrom, firstAnswer}
 use Rattle.runs.proofs.AnswerLaws.{taken-place}
@@ -84,9 +83,9 @@ module _ (i : tie.In-loop Inv-loop μ-loop) where
   counted = omega (arith, at .loop .inv .1, i .loop-test .taken, from at .pre .1 .1 .0 .few)
 
 -- the frame step on the part lent: its answer and its record, whatever its output
-module _ (a : tie.After-answered Inv-loop μ-loop) where
+module _ (a : tie.After-z Inv-loop μ-loop) where
   abbrev step : tie.After-undo Inv-loop μ-loop
-  step = a .before .before .before .before .before .before .before .before .before
+  step = a .before .before .before .before .before .before .before .before
 
   abbrev inside : tie.In-loop Inv-loop μ-loop
   inside = step .before .before .before .before .before .before .before .before .before .before
@@ -104,27 +103,26 @@ module _ (a : tie.After-answered Inv-loop μ-loop) where
   kept = step .undo .last .1 .1 .1 .1 .0
 
   abbrev after : Run
-  after = opened (N (from here)) (countAfter (here .loop .count) (step .undo .result)) kept
+  after = opened (N (from here)) (nextCount (told (step .undo .result) .0) (here .loop .count)) kept
 
   kept-long : length kept ≡ halfWidth (N (from here))
-  kept-long = a .before .before .before .before .before .before .before .before .held .given ∙ here .loop .inv .2 .long
+  kept-long = a .before .before .before .before .before .before .before .held .given ∙ here .loop .inv .2 .long
 
-  undone : _≡_ {A = Given} (toldFault (step .undo .result), after, step .undo .last .1 .1 .1 .1 .1 .0) (undoneIn (run here) part (here .loop .block))
+  undone : _≡_ {A = Given} (told (step .undo .result), after, step .undo .last .1 .1 .1 .1 .1 .0) (undoneIn (run here) part (here .loop .block))
   undone = step .undo .ensures ∙ ap (λ (f : List ℤ). undoneIn (run here) f (here .loop .block)) (part-is (place here) (N (from here)) (frames (from here)))
 
-  given : _≡_ {A = Given} (takenBack (run here) part other) (told (a .answered .result), after, takenBack (run here) part other .2)
+  given : _≡_ {A = Given} (takenBack (run here) part other) (told (step .undo .result), after, takenBack (run here) part other .2)
   given =
       frame-taken (N (from here)) (here .loop .count) (low here) kept part (here .loop .block) _ (step .undo .result) (here .loop .inv .2) (counted inside) kept-long undone other
       (block-long (place here) (N (from here)) (frames (from here)) (inner inside))
       (block-long (place here) (N (from here)) (others here) (omega (arith, outs-long (from here), inner inside)))
-      ∙ ap (λ (x : ℕ × ℕ). (x, after, takenBack (run here) part other .2)) (sym (a .answered .ensures))
 
   more : here .loop .left ≡ suc (here .loop .left - 1)
   more = omega (arith, inside .loop-test .taken)
 
   -- the room that the step leaves
   block-same : length (step .undo .last .1 .1 .1 .1 .1 .0) ≡ length (from here .args .block .now)
-  block-same = a .before .before .before .before .before .before .before .block .given ∙ here .loop .inv .3
+  block-same = a .before .before .before .before .before .before .block .given ∙ here .loop .inv .3
 
   room-same-after :
       SameRoom
@@ -141,12 +139,12 @@ module _ (a : tie.After-answered Inv-loop μ-loop) where
       (step .undo .last .1 .1 .1 .1 .1 .1 .1 .1 .1 .1 .0)
       (step .undo .last .1 .1 .1 .1 .1 .1 .1 .1 .1 .1 .1 .0)
   room-same-after = record {
-    folded-same = a .before .before .before .before .before .before .folded .given ∙ here .loop .inv .4 .folded-same;
-    wide-same = a .before .before .before .before .before .wide .given ∙ here .loop .inv .4 .wide-same;
-    top-same = a .before .before .before .before .top .given ∙ here .loop .inv .4 .top-same;
-    bottom-same = a .before .before .before .bottom .given ∙ here .loop .inv .4 .bottom-same;
-    y-same = a .before .before .y .given ∙ here .loop .inv .4 .y-same;
-    z-same = a .before .z .given ∙ here .loop .inv .4 .z-same;
+    folded-same = a .before .before .before .before .before .folded .given ∙ here .loop .inv .4 .folded-same;
+    wide-same = a .before .before .before .before .wide .given ∙ here .loop .inv .4 .wide-same;
+    top-same = a .before .before .before .top .given ∙ here .loop .inv .4 .top-same;
+    bottom-same = a .before .before .bottom .given ∙ here .loop .inv .4 .bottom-same;
+    y-same = a .before .y .given ∙ here .loop .inv .4 .y-same;
+    z-same = a .z .given ∙ here .loop .inv .4 .z-same;
   }
 
 -- no frame is left
@@ -279,18 +277,17 @@ loop-again c =
     let i = inside a in
     let k = here a in
     let s = from k in
-    let zero = sym (n .number .ensures) ∙ c .if1 .left in
-    let none = ap (λ (x : ℕ × ℕ). x .0) (sym (a .answered .ensures)) ∙ zero in (
+    let zero = sym (n .number .ensures) ∙ c .if1 .left in (
       block-next (place k) (k .loop .left) (N s) _ (k .loop .inv .0) (i .loop-test .taken),
       omega (arith, k .loop .inv .1, i .loop-test .taken),
-      reached-after (N s) (k .loop .count) (low k) (kept a) (part a) (k .loop .block) _ (step a .undo .result) (k .loop .inv .2) (counted i) (kept-long a) (undone a) none,
+      reached-after (N s) (k .loop .count) (low k) (kept a) (part a) (k .loop .block) _ (step a .undo .result) (k .loop .inv .2) (counted i) (kept-long a) (undone a) zero,
       block-same a,
       room-same-after a,
       k .loop .inv .5
           ∙ answer-next (N s) _ (run k) (drop (place k) (frames s)) (drop (place k) (others k)) (more a) (given a) (place k) zero
           ∙ ap₂ (answerFrom (N s) (place k + N s) (after a) (k .loop .left - 1)) (drop-drop (N s) (place k) (frames s)) (drop-drop (N s) (place k) (others k))
           ∙ ap (λ (r : Run). answerFrom (N s) (place k + N s) r (k .loop .left - 1) (drop (place k + N s) (frames s)) (drop (place k + N s) (others k)))
-          (run-after (N s) (k .loop .count) (low k) (kept a) (part a) (k .loop .block) _ (step a .undo .result) (k .loop .inv .2) (counted i) (kept-long a) (undone a) none),
+          (run-after (N s) (k .loop .count) (low k) (kept a) (part a) (k .loop .block) _ (step a .undo .result) (k .loop .inv .2) (counted i) (kept-long a) (undone a) zero),
     )
 
 sub-ended : tie.Need-sub-ended Inv-loop μ-loop
@@ -347,7 +344,6 @@ answer-of-spec =
     part-undo-start
     part-undo-end
     undo-requires
-    (λ c κs. tt)
     (λ c κs. tt)
     placed-requires
     same-length

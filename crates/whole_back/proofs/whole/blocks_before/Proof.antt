@@ -7,14 +7,14 @@ use lib.IntN.{ℤ}
 use lib.ListN.{length, take, drop}
 use lib.Seq.{drop-drop}
 use Rattle.tables.specs.Widths.{halfWidth}
+use Rattle.runs.specs.Answers.{told}
 use Rattle.runs.specs.declared.record.Run.{Run}
-use Rattle.runs.specs.Record.{frameLimit, opened}
+use Rattle.runs.specs.Record.{nextCount, frameLimit, opened}
 use Rattle.runs.specs.Gate.{Given}
 use Rattle.runs.proofs.Searches.{all-within}
 use Rattle.runs.proofs.RecordLaws.{width-pos}
 use Rattle.gate.proofs.FaultLaws.{few-readings, block-next, block-in, no-block, block-long, part-is}
 use Rattle.gate.proofs.PartLaws.{written, written-rest}
-use Rattle.frames.specs.Own.Faults.{toldFault, countAfter}
 use Rattle.runs.specs.Back.{undoneIn, takenBack}
 use Rattle.runs.specs.WholeBack.{answerFrom, outputsFrom}
 use Rattle.runs.proofs.BackLaws.{ReachedBack}
@@ -103,15 +103,15 @@ module _ (h : tie.After-z Inv-loop μ-loop) where
   block = step .undo .last .1 .1 .1 .1 .1 .0
 
   abbrev after : Run
-  after = opened (N (from here)) (countAfter (here .loop .count) (step .undo .result)) kept
+  after = opened (N (from here)) (nextCount (told (step .undo .result) .0) (here .loop .count)) kept
 
   kept-long : length kept ≡ halfWidth (N (from here))
   kept-long = h .before .before .before .before .before .before .before .held .given ∙ here .loop .inv .2 .long
 
-  undone : _≡_ {A = Given} (toldFault (step .undo .result), after, block) (undoneIn (run here) part out)
+  undone : _≡_ {A = Given} (told (step .undo .result), after, block) (undoneIn (run here) part out)
   undone = step .undo .ensures ∙ ap₂ (undoneIn (run here)) (part-is (place here) (N (from here)) (frames (from here))) (part-is (place here) (N (from here)) (readings here))
 
-  given : _≡_ {A = Given} (toldFault (step .undo .result), after, block) (takenBack (run here) part out)
+  given : _≡_ {A = Given} (told (step .undo .result), after, block) (takenBack (run here) part out)
   given =
       block-given (N (from here)) (here .loop .count) (low here) kept part out block (step .undo .result) (here .loop .inv .2) (counted inside) kept-long undone
       (block-long (place here) (N (from here)) (frames (from here)) (in-frames inside))
@@ -121,7 +121,7 @@ module _ (h : tie.After-z Inv-loop μ-loop) where
   more = omega (arith, inside .loop-test .taken)
 
   -- no call is refused
-  none : toldFault (step .undo .result) .0 ≡ 0
+  none : told (step .undo .result) .0 ≡ 0
   none = here-taken (N (from here)) _ (run here) (drop (place here) (frames (from here))) (drop (place here) (readings here)) more (sym given) (place here + N (from here)) (here .loop .inv .5)
 
   next : after ≡ opened (N (from here)) (here .loop .count + 1) kept

@@ -5,7 +5,7 @@ use mathlib.Core.Path.{_≡_, sym, ap, _∙_}
 use lib.IntN.{pos}
 use Rattle.runs.specs.Answers.{told, firstBeyond}
 use Rattle.runs.proofs.Searches.{beyond-at}
-use Rattle.frames.specs.Own.Faults.{toldHeld}
+use Rattle.whole_back.specs.Own.Ready.{toldHeld}
 use Rattle.whole_back.proofs.whole.ended.Statement.{statement}
 use Rattle.whole_back.proofs.whole.ended.Tie as tie
 

@@ -8,12 +8,12 @@ use lib.IntN.{ℤ, pos}
 use lib.ListN.{length, length-replicate}
 use Rattle.tables.specs.Widths.{halfWidth}
 use Rattle.slices.proofs.Parts.{part-long}
+use Rattle.runs.specs.Answers.{told}
 use Rattle.runs.specs.declared.record.Run.{Run}
-use Rattle.runs.specs.Record.{zeros, opened}
+use Rattle.runs.specs.Record.{nextCount, zeros, opened}
 use Rattle.runs.specs.Gate.{Given}
 use Rattle.runs.specs.Forward.{started}
 use Rattle.gate.proofs.FaultLaws.{width-room}
-use Rattle.frames.specs.Own.Faults.{toldFault, countAfter}
 use Rattle.runs.specs.Back.{takenBack}
 use Rattle.runs.proofs.BackLaws.{started-back, ReachedBack, back-first}
 use Rattle.whole_back.proofs.Undoing.{low-within, frame-taken, run-after, reached-after}
@@ -58,13 +58,13 @@ module _ (a : tie.After-z) where
   kept-long = a .before .before .before .before .before .before .before .held .given ∙ begun start .long
 
   given : _≡_ {A = Given} (takenBack (started (N start) .1) (frame start) (zeros (N start)))
-      (toldFault (step .undo .result), opened (N start) (countAfter 0 (step .undo .result)) kept, takenBack (opened (N start) 0 (low start)) (frame start) (zeros (N start)) .2)
+      (told (step .undo .result), opened (N start) (nextCount (told (step .undo .result) .0) 0) kept, takenBack (opened (N start) 0 (low start)) (frame start) (zeros (N start)) .2)
   given =
       ap (λ (r : Run). takenBack r (frame start) (zeros (N start))) (started-is start)
       ∙ frame-taken (N start) 0 (low start) kept (frame start) _ _ (step .undo .result) (begun start) (omega arith) kept-long (step .undo .ensures) (zeros (N start)) (start .pre .1 .1 .0 .0) (length-replicate (N start) (pos 0))
 
   module _ (z : takenBack (started (N start) .1) (frame start) (zeros (N start)) .0 .0 ≡ 0) where
-    none : toldFault (step .undo .result) .0 ≡ 0
+    none : told (step .undo .result) .0 ≡ 0
     none = sym (ap (λ (g : Given). g .0 .0) given) ∙ z
 
     after : opened (N start) 1 kept ≡ takenBack (started (N start) .1) (frame start) (zeros (N start)) .1

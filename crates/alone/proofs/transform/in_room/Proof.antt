@@ -1,4 +1,4 @@
--- `alone::transform::alone` meets its contract.
+-- `alone::transform::in_room` meets its contract.
 use borrow.Author.Needs.{needs}
 use native.Mathlib.Omega.{arith}
 use mathlib.Core.Path.{_≡_, sym, subst, _∙_}
@@ -12,8 +12,8 @@ use Rattle.tables.proofs.Reading.{half-is}
 use Rattle.width_tables.specs.Filled.{Filled}
 use Rattle.slices.proofs.Parts.{part-long, front, front-long, front-le}
 use Rattle.frames.proofs.RoomLaws.{tables-le, lists-le, product-le}
-use Rattle.alone.proofs.transform.alone.Statement.{statement}
-use Rattle.alone.proofs.transform.alone.Tie as tie
+use Rattle.alone.proofs.transform.in_room.Statement.{statement}
+use Rattle.alone.proofs.transform.in_room.Tie as tie
 
 -- the room made
 module _ (r : tie.After-of-6482) where
@@ -108,8 +108,8 @@ either-way-requires c κs =
 returns : tie.Need-returns
 returns c = search needs
 
-pub alone-spec : {M : Type 1} → statement M
-alone-spec =
+pub in-room-spec : {M : Type 1} → statement M
+in-room-spec =
     tie.close
     (tie.spec
     (λ c κs. search needs)
@@ -132,4 +132,4 @@ alone-spec =
     (λ c. search needs)
     either-way-requires
     (λ c. c .before .before .before .before .out .given)
-    (λ c. search needs))
+    returns)

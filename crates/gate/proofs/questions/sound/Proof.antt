@@ -1,4 +1,4 @@
--- `gate::questions::sound_held` meets its contract.
+-- `gate::questions::sound` meets its contract.
 use borrow.Author.Needs.{needs}
 use borrow.Author.Tests.{not-true, not-false}
 use native.Mathlib.Omega.{arith}
@@ -14,8 +14,8 @@ use Rattle.runs.specs.declared.record.Run.{Run}
 use Rattle.runs.specs.Record.{recordOf}
 use Rattle.runs.specs.Gate.{inside}
 use Rattle.gate.proofs.GateLaws.{rest-part, no-width, no-count, rest-held, none-taken, run-over, run-open}
-use Rattle.gate.proofs.questions.sound_held.Statement.{statement}
-use Rattle.gate.proofs.questions.sound_held.Tie as tie
+use Rattle.gate.proofs.questions.sound.Statement.{statement}
+use Rattle.gate.proofs.questions.sound.Tie as tie
 
 abbrev run : tie.Start → Run
 run s = recordOf (s .args .width) (s .args .count) (s .args .held .now) (s .args .finished)
@@ -107,8 +107,8 @@ returns-6 c =
     let e = first i in
     c .inside .ensures ∙ front-is e _ ∙ run-open (start e .args .top) (run (start e)) (has-width e) (counted i .if2 .left) (rest-seen i ∙ not-false _ (f .if3 .left)) (c .before .before .before .if4 .left) (c .before .before .if5 .left)
 
-pub sound-held-spec : {M : Type 1} → statement M
-sound-held-spec =
+pub sound-spec : {M : Type 1} → statement M
+sound-spec =
     tie.close
     (tie.spec
     (λ c κs. search needs)
