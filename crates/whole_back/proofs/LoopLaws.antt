@@ -28,15 +28,7 @@ use Rattle.runs.proofs.OneByOne.{outputs-next, first-behind, outputs-behind}
 use Rattle.gate.proofs.PartLaws.{written, written-front, written-rest}
 use Rattle.runs.specs.Back.{takenBack}
 use Rattle.runs.specs.WholeBack.{answerFrom, outputsFrom, allOutputs, firstAnswer, wholeBack}
-use Rattle.whole_back.specs.Own.Ready.{Frames}
-
--- ---- frames that are whole
-module _ (N : ℕ) (frames : List ℤ) (f : Frames N frames) where
-  pub few-numbers : length frames ≤ 8388736
-  few-numbers = omega (arith, f .whole, mul-le-mul-right N (f .few), width-le N (f .wide))
-
-  pub one-frame : N ≤ length frames
-  one-frame = omega (arith, f .whole, mul-le-mul-right N (f .some))
+use Rattle.asking_back.specs.Own.Ready.{Frames}
 
 -- ---- questions 1 and 6: at least one part of the width is at least one number
 one-part : (N : ℕ) (frames : List ℤ) → 0 < N → wholeParts N (length frames) 1 frameLimit ≡ (eqb (length frames % N) 0 && leb (length frames / N) frameLimit && ltb 0 (length frames))

@@ -12,8 +12,9 @@ use Rattle.runs.specs.Record.{frameLimit}
 use Rattle.runs.proofs.RecordLaws.{width-pos}
 use Rattle.runs.proofs.WholeLaws.{whole-blocks}
 use Rattle.gate.proofs.AskedLaws.{parts-width, parts-whole, parts-most, parts-least}
-use Rattle.whole_back.specs.Own.Ready.{Frames}
-use Rattle.whole_back.proofs.LoopLaws.{one-frame, parts-refused}
+use Rattle.asking_back.specs.Own.Ready.{Frames}
+use Rattle.asking_back.proofs.FrameCounts.{one-frame}
+use Rattle.whole_back.proofs.LoopLaws.{parts-refused}
 use Rattle.runs.proofs.WholeBackLaws.{whole-output-refused, lengths-passed}
 use Rattle.whole_back.proofs.whole.back.Statement.{statement}
 use Rattle.whole_back.proofs.whole.back.Tie as tie

@@ -16,7 +16,7 @@ use Rattle.runs.specs.Forward.{started}
 use Rattle.gate.proofs.FaultLaws.{width-room}
 use Rattle.runs.specs.Back.{takenBack}
 use Rattle.runs.proofs.BackLaws.{started-back, ReachedBack, back-first}
-use Rattle.whole_back.proofs.Undoing.{low-within, frame-taken, run-after, reached-after}
+use Rattle.asking_back.proofs.Undoing.{low-within, frame-taken, run-after, reached-after}
 use Rattle.whole_back.proofs.whole.first_frame.Statement.{statement}
 use Rattle.whole_back.proofs.whole.first_frame.Tie as tie
 
@@ -36,12 +36,12 @@ module _ (s : tie.Start) where
   started-is : started N .1 ≡ opened N 0 low
   started-is = started-back N (s .pre .0) ∙ ap (opened N 0) (sym (s .pre .1 .1 .0 .1))
 
-module _ (c : tie.After-spare) where
+module _ (c : tie.After-zero-block) where
   abbrev from : tie.Start
   from = c .before
 
-  block-in : N from ≤ length (c .spare .result)
-  block-in = width-room (N from) (c .spare .result) (from .pre .0) (c .spare .ensures)
+  block-in : N from ≤ length (c .zero-block .result)
+  block-in = width-room (N from) (c .zero-block .result) (from .pre .0) (sym (ap length (c .zero-block .ensures) ∙ length-replicate 128 (pos 0)))
 
 -- the frame undone
 module _ (a : tie.After-z) where
@@ -77,7 +77,7 @@ array-borrow-prefix-block : tie.Need-array-borrow-prefix-block
 array-borrow-prefix-block c = block-in (c .before)
 
 slice-aggregate-undo : tie.Need-slice-aggregate-undo
-slice-aggregate-undo c = let m = c .before .before in part-long _ (m .spare .result) (block-in m)
+slice-aggregate-undo c = let m = c .before .before in part-long _ (m .zero-block .result) (block-in m)
 
 undo-requires : tie.Need-undo-requires
 undo-requires c κs =
@@ -87,7 +87,7 @@ undo-requires c κs =
       (
         s .pre .1 .0,
         (
-          (s .pre .1 .1 .0 .0, begun s .long, s .pre .1 .1 .1 .0 .0, s .pre .1 .1 .1 .0 .1, sym (part-long _ (m .spare .result) (block-in m))),
+          (s .pre .1 .1 .0 .0, begun s .long, s .pre .1 .1 .1 .0 .0, s .pre .1 .1 .1 .0 .1, sym (part-long _ (m .zero-block .result) (block-in m))),
           (s .pre .1 .1 .1 .1 .0, (s .pre .1 .1 .1 .1 .1, low-within (begun s))),
         ),
       ),

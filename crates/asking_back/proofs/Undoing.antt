@@ -19,7 +19,7 @@ use Rattle.runs.specs.Record.{frameLimit, nextCount, opened}
 use Rattle.runs.specs.Gate.{Given}
 use Rattle.runs.proofs.Refusals.{count-raised}
 use Rattle.runs.proofs.RecordLaws.{take-filled}
-use Rattle.whole_back.specs.Own.Ready.{toldHeld}
+use Rattle.asking_back.specs.Own.Ready.{toldHeld}
 use Rattle.runs.specs.Back.{undoneIn, takenBack, firstHeld, endedBack}
 use Rattle.runs.specs.WholeBack.{placed}
 use Rattle.runs.proofs.AnswerLaws.{undone-alike}

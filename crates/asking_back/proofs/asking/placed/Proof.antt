@@ -1,12 +1,12 @@
--- `whole_back::whole::placed` meets its contract: in each arm the answer is known.
+-- `asking_back::asking::placed` meets its contract: in each arm the answer is known.
 use borrow.Author.Needs.{needs}
 use native.Mathlib.Omega.{arith}
 use mathlib.Core.Path.{refl}
 use Rattle.runs.specs.Answers.{told}
 use Rattle.runs.specs.WholeBack.{placed}
-use Rattle.whole_back.proofs.PlacedLaws.{place-le, known, placed-first}
-use Rattle.whole_back.proofs.whole.placed.Statement.{statement}
-use Rattle.whole_back.proofs.whole.placed.Tie as tie
+use Rattle.asking_back.proofs.PlacedLaws.{place-le, known, placed-first}
+use Rattle.asking_back.proofs.asking.placed.Statement.{statement}
+use Rattle.asking_back.proofs.asking.placed.Tie as tie
 
 add-t10 : tie.Need-add-t10
 unfolding told

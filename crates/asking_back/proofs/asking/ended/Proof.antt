@@ -1,13 +1,13 @@
--- `whole_back::whole::ended` meets its contract.
+-- `asking_back::asking::ended` meets its contract.
 use borrow.Author.Needs.{needs}
 use native.Mathlib.Omega.{arith}
 use mathlib.Core.Path.{_≡_, sym, ap, _∙_}
 use lib.IntN.{pos}
 use Rattle.runs.specs.Answers.{told, firstBeyond}
 use Rattle.runs.proofs.Searches.{beyond-at}
-use Rattle.whole_back.specs.Own.Ready.{toldHeld}
-use Rattle.whole_back.proofs.whole.ended.Statement.{statement}
-use Rattle.whole_back.proofs.whole.ended.Tie as tie
+use Rattle.asking_back.specs.Own.Ready.{toldHeld}
+use Rattle.asking_back.proofs.asking.ended.Statement.{statement}
+use Rattle.asking_back.proofs.asking.ended.Tie as tie
 
 seen : (f : tie.After-first-beyond) → firstBeyond (pos 0) (f .before .args .held .now) 0 ≡ f .first-beyond .result
 seen f = sym (f .first-beyond .ensures)

@@ -1,4 +1,4 @@
--- `whole_back::whole::first_answer` meets its contract.
+-- `asking_back::asking::first_answer` meets its contract.
 use borrow.Author.Needs.{needs}
 use native.Mathlib.Omega.{arith}
 use mathlib.Core.Path.{_≡_, sym, ap, _∙_}
@@ -12,8 +12,8 @@ use Rattle.slices.proofs.Parts.{part-long}
 use Rattle.gate.proofs.FaultLaws.{width-room, half-room}
 use Rattle.gate.proofs.ReadyLaws.{none-held}
 use Rattle.frames.proofs.RoomLaws.{product-le, halves-lent}
-use Rattle.whole_back.proofs.whole.first_answer.Statement.{statement}
-use Rattle.whole_back.proofs.whole.first_answer.Tie as tie
+use Rattle.asking_back.proofs.asking.first_answer.Statement.{statement}
+use Rattle.asking_back.proofs.asking.first_answer.Tie as tie
 
 -- the arrays made
 module _ (c : tie.After-of-6482) where
@@ -30,7 +30,7 @@ module _ (c : tie.After-of-6482) where
   held = c .before .before .before .before .before .before .before .nothing-held .result
 
   abbrev block : List ℤ
-  block = c .before .before .before .before .before .before .spare .result
+  block = c .before .before .before .before .before .before .zero-block .result
 
   abbrev folded : List ℤ
   folded = c .before .before .before .before .before .of-128 .result
@@ -48,7 +48,7 @@ module _ (c : tie.After-of-6482) where
   held-in = half-room N (N / 2) held half-wide (ap length (c .before .before .before .before .before .before .before .nothing-held .ensures) ∙ length-replicate 64 (pos 0))
 
   block-in : N ≤ length block
-  block-in = width-room N block (from .pre .1 .wide) (c .before .before .before .before .before .before .spare .ensures)
+  block-in = width-room N block (from .pre .1 .wide) (sym (ap length (c .before .before .before .before .before .before .zero-block .ensures) ∙ length-replicate 128 (pos 0)))
 
   folded-in : N ≤ length folded
   folded-in = width-room N folded (from .pre .1 .wide) (c .before .before .before .before .before .of-128 .ensures)
