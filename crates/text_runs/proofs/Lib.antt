@@ -11,3 +11,5 @@ pub mod RunRows
 pub mod ForwardRows
 pub mod BackRows
 pub mod TextReturn
+pub mod AnyLine
+pub mod AnyLines
