@@ -13,3 +13,5 @@ pub mod BackRows
 pub mod TextReturn
 pub mod AnyLine
 pub mod AnyLines
+pub mod TextLines
+pub mod AnyText
