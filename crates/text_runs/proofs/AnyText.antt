@@ -3,7 +3,7 @@
 use mathlib.Core.Path.{_≡_, refl, sym, ap, ap₂, _∙_}
 use mathlib.Core.Logic.{_⊎_, inl, inr, ⊎-elim}
 use mathlib.Core.Bool.{Bool, true, false, _&&_}
-use mathlib.Core.List.{List, [], _∷_, _++_, append-assoc}
+use mathlib.Core.List.{List, [], _∷_, _++_}
 use Prim.Native.Nat.{ℕ, _<_}
 use native.Mathlib.Omega.{arith}
 use borrow.Author.Tests.{eqb-false}
@@ -33,7 +33,7 @@ use Rattle.text_runs.proofs.LineLaws.{linesBetween}
 use Rattle.text_runs.proofs.OneLine.{state, width-printed}
 use Rattle.text_runs.proofs.AnyLine.{line-refused}
 use Rattle.text_runs.proofs.AnyLines.{AllTaken, runBehind, shownFor, LinesWhole, LinesRefused, lines-is}
-use Rattle.text_runs.proofs.TextLines.{textOfLines, lines-text, line-text, between-text}
+use Rattle.text_runs.proofs.TextLines.{textOfLines, lines-text, line-text, between-text, width-first}
 
 -- ---- the first line: refused, or a width
 record FirstNo (way : Way) (line : Line) : Type 0 where
@@ -131,8 +131,7 @@ module _ (way : Way) (input : List ℕ) where
           ∙ ap textOfLines (e ∙ ap₂ (λ (l : Line) (ls : List Line). l ∷ ls) (f .is) d)
           ∙ line-text (decimal N) (linesBetween rows rest)
           ∙ ap (λ (text : List ℕ). (decimal N ++ lineFeed ∷ []) ++ text) (between-text rows rest)
-          ∙ append-assoc (decimal N) (lineFeed ∷ []) (rowLines rows ++ textOfLines rest)
-          ∙ sym (append-assoc (decimal N) (lineFeed ∷ rowLines rows) (textOfLines rest))
+          ∙ width-first N (rowLines rows) (textOfLines rest)
           ∙ ap (λ (r : List (List ℤ)). (decimal N ++ lineFeed ∷ rowLines r) ++ textOfLines rest) (sym (take-length rows))
 
       text-refused : LinesRefused way run lines → TextRefused way input

@@ -15,3 +15,4 @@ pub mod AnyLine
 pub mod AnyLines
 pub mod TextLines
 pub mod AnyText
+pub mod BlocksTaken

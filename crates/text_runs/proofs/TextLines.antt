@@ -7,6 +7,7 @@ use Prim.Native.Nat.{ℕ}
 use borrow.Author.Tests.{eqb-true}
 use lib.Dec.{eqb}
 use lib.IntN.{ℤ}
+use Rattle.text_runs.specs.Decimal.{decimal}
 use Rattle.text_runs.specs.Lines.{lineFeed, row}
 use Rattle.text_runs.specs.Way.{rowLine}
 use Rattle.text_runs.specs.Input.{Line, inFront, linesOf}
@@ -51,3 +52,7 @@ between-text (xs ∷ rows) rest =
     line-text (row xs) (linesBetween rows rest)
     ∙ ap (λ (text : List ℕ). (row xs ++ lineFeed ∷ []) ++ text) (between-text rows rest)
     ∙ sym (append-assoc (row xs ++ lineFeed ∷ []) (rowLines rows) (textOfLines rest))
+
+-- the width in front of a text and what follows it
+pub width-first : (N : ℕ) (text rest : List ℕ) → (decimal N ++ lineFeed ∷ []) ++ (text ++ rest) ≡ (decimal N ++ lineFeed ∷ text) ++ rest
+width-first N text rest = append-assoc (decimal N) (lineFeed ∷ []) (text ++ rest) ∙ sym (append-assoc (decimal N) (lineFeed ∷ text) rest)
