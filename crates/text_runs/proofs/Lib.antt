@@ -16,3 +16,5 @@ pub mod AnyLines
 pub mod TextLines
 pub mod AnyText
 pub mod BlocksTaken
+pub mod FramesTaken
+pub mod FramesRead
