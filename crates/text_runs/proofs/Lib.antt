@@ -18,3 +18,5 @@ pub mod AnyText
 pub mod BlocksTaken
 pub mod FramesTaken
 pub mod FramesRead
+pub mod TextEnds
+pub mod EveryInput
