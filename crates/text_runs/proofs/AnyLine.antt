@@ -1,7 +1,7 @@
 -- What any line between the width and the end is: refused, the end line, or a row that the run takes. After a refusal nothing is printed.
-use mathlib.Core.Path.{_≡_, refl, ap, _∙_}
+use mathlib.Core.Path.{_≡_, refl, ap}
 use mathlib.Core.Logic.{_⊎_, inl, inr, ⊎-elim}
-use mathlib.Core.Bool.{Bool, true, false, cond, _&&_, false≢true, and-eq-true-iff}
+use mathlib.Core.Bool.{Bool, true, false, _&&_, false≢true, and-eq-true-iff}
 use mathlib.Core.List.{List, [], _∷_, _++_, append-nil}
 use mathlib.Core.Option.{Option, none, some}
 use Prim.Native.Nat.{ℕ, _<_}
@@ -11,13 +11,12 @@ use lib.Dec.{eqb, leb}
 use lib.IntN.{ℤ}
 use lib.ListN.{length}
 use Rattle.runs.specs.declared.record.Run.{Run}
-use Rattle.runs.specs.Gate as Gate
-use Rattle.text_runs.specs.Lines.{lineFeed, refusal, row, endLine, numbersIn, same}
+use Rattle.text_runs.specs.Lines.{row, endLine, numbersIn, same}
 use Rattle.text_runs.specs.declared.state.Way.{Way}
 use Rattle.text_runs.specs.declared.state.State.{State}
 use Rattle.text_runs.specs.declared.state.Phase.the-variants.{Between, Ended, Over}
-use Rattle.text_runs.specs.State.{Given, inPhase, withRun, lineNumber, refused}
-use Rattle.text_runs.specs.Way.{output, takenBy, endedBy, shownRow}
+use Rattle.text_runs.specs.State.{inPhase, withRun, lineNumber, refused}
+use Rattle.text_runs.specs.Way.{output, takenBy, shownRow}
 use Rattle.text_runs.specs.Line.{lineLimit, badForm, rowGiven, rowTaken, betweenTaken, formed, notFormed, lineTaken, endIn, inputEnded}
 use Rattle.text_runs.specs.Input.{Line, printedFrom}
 use Rattle.text_runs.specs.EveryInput.{refusalLine}
@@ -56,10 +55,14 @@ same-is (x ∷ xs) (y ∷ ys) e =
     let t = and-eq-true-iff (eqb x y) (same xs ys) .0 e in
     rw (eqb-true x y (t .0), same-is xs ys (t .1))
 
--- ---- the three cases
+-- ---- the three cases: a refusal is of the form or of the gate,
+abbrev pub RowSource : Way → Run → ℕ × ℕ → Type 0
+RowSource way run answer = (answer ≡ (13, 0)) ⊎ ((xs : List ℤ) × (answer ≡ takenBy way run xs (output run) .0))
+
 pub record LineRefused (way : Way) (run : Run) (line : Line) : Type 0 where
   pub answer : ℕ × ℕ
   pub numbered : 0 < answer .0
+  pub source : RowSource way run answer
   pub given : lineTaken (state way Between run) (line .0) (line .1) ≡ refused (state way Between run) answer
 
 pub record LineEnds (way : Way) (run : Run) (line : Line) : Type 0 where
@@ -79,7 +82,7 @@ AnyLine way run line = LineRefused way run line ⊎ LineEnds way run line ⊎ Li
 module _ (way : Way) (run : Run) where
   not-formed : (whole : Bool) (bytes : List ℕ) → (whole && leb (length bytes) lineLimit) ≡ false → LineRefused way run (whole, bytes)
   unfolding lineTaken notFormed badForm
-  not-formed whole bytes e = record { answer = (13, 0); numbered = omega arith; given = rw e }
+  not-formed whole bytes e = record { answer = (13, 0); numbered = omega arith; source = inl refl; given = rw e }
 
   module _ (bytes : List ℕ) (short : leb (length bytes) lineLimit ≡ true) where
     is-end : same bytes (endLine (run .count)) ≡ true → LineEnds way run (true, bytes)
@@ -89,13 +92,13 @@ module _ (way : Way) (run : Run) where
     module _ (between : same bytes (endLine (run .count)) ≡ false) where
       row-bad : numbersIn bytes ≡ none → LineRefused way run (true, bytes)
       unfolding lineTaken formed betweenTaken rowTaken badForm
-      row-bad e = record { answer = (13, 0); numbered = omega arith; given = rw (short, between, e) }
+      row-bad e = record { answer = (13, 0); numbered = omega arith; source = inl refl; given = rw (short, between, e) }
 
       row-refused : (xs : List ℤ) → numbersIn bytes ≡ some xs → eqb (takenBy way run xs (output run) .0 .0) 0 ≡ false → LineRefused way run (true, bytes)
       unfolding lineTaken formed betweenTaken rowTaken rowGiven
       row-refused xs e f =
           let z = eqb-false (takenBy way run xs (output run) .0 .0) 0 f in
-          record { answer = takenBy way run xs (output run) .0; numbered = omega (arith, z); given = rw (short, between, e, f) }
+          record { answer = takenBy way run xs (output run) .0; numbered = omega (arith, z); source = inr (xs, refl); given = rw (short, between, e, f) }
 
       row-works : (xs : List ℤ) → numbersIn bytes ≡ some xs → eqb (takenBy way run xs (output run) .0 .0) 0 ≡ true → LineRow way run (true, bytes)
       unfolding lineTaken formed betweenTaken rowTaken rowGiven withRun

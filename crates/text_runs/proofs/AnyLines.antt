@@ -2,7 +2,7 @@
 -- rows that it takes, and then a refusal. Either way goes as a letter.
 use mathlib.Core.Path.{_≡_, refl, sym, ap, ap₂, subst, _∙_}
 use mathlib.Core.Logic.{_⊎_, inl, inr, ⊎-elim}
-use mathlib.Core.Bool.{Bool, true, false, _&&_}
+use mathlib.Core.Bool.{true, false, _&&_}
 use mathlib.Core.List.{List, [], _∷_, _++_, append-assoc}
 use Prim.Native.Nat.{ℕ, _<_}
 use native.Mathlib.Omega.{arith}
@@ -12,7 +12,7 @@ use lib.IntN.{ℤ}
 use lib.ListN.{length}
 use Rattle.runs.specs.declared.record.Run.{Run}
 use Rattle.runs.specs.Gate as Gate
-use Rattle.text_runs.specs.Lines.{row, endLine}
+use Rattle.text_runs.specs.Lines.{endLine}
 use Rattle.text_runs.specs.declared.state.Way.{Way}
 use Rattle.text_runs.specs.declared.state.Phase.the-variants.{Between, Ended}
 use Rattle.text_runs.specs.State.{Given, lineBetween, lineNumber, refused}
@@ -23,7 +23,7 @@ use Rattle.text_runs.specs.EveryInput.{refusalLine}
 use Rattle.text_runs.proofs.UpToLaws.{tested}
 use Rattle.text_runs.proofs.LineLaws.{linesBetween}
 use Rattle.text_runs.proofs.OneLine.{state}
-use Rattle.text_runs.proofs.AnyLine.{refused-printed, line-refused, LineRefused, LineEnds, LineRow, line-is}
+use Rattle.text_runs.proofs.AnyLine.{line-refused, RowSource, LineRefused, LineEnds, LineRow, line-is}
 
 -- ---- rows taken one after the other: each call works; the record behind them; what is printed for them
 unfoldable pub AllTaken : Way → Run → List (List ℤ) → Type 0
@@ -59,11 +59,15 @@ pub record LinesWhole (way : Way) (run : Run) (lines : List Line) : Type 0 where
   pub ended : endedBy way (runBehind way run rows) (output (runBehind way run rows)) .0 .0 ≡ 0
   pub lines-are : lines ≡ linesBetween rows ((true, endLine (runBehind way run rows .count)) ∷ [])
 
+abbrev pub Source : Way → Run → ℕ × ℕ → Type 0
+Source way run answer = RowSource way run answer ⊎ (answer ≡ endedBy way run (output run) .0)
+
 pub record LinesRefused (way : Way) (run : Run) (lines : List Line) : Type 0 where
   pub rows : List (List ℤ)
   pub rest : List Line
   pub answer : ℕ × ℕ
   pub numbered : 0 < answer .0
+  pub source : Source way (runBehind way run rows) answer
   pub taken : AllTaken way run rows
   pub lines-are : lines ≡ linesBetween rows rest
   pub printed-is : printedFrom (state way Between run) lines ≡ shownFor way run rows ++ refusalLine (answer .0) (lineBetween (runBehind way run rows .count)) (answer .1)
@@ -73,18 +77,18 @@ AnyLines way run lines = LinesWhole way run lines ⊎ LinesRefused way run lines
 
 module _ (way : Way) (run : Run) where
   -- refused before any row
-  refused-here : (lines : List Line) (answer : ℕ × ℕ) → 0 < answer .0 → printedFrom (state way Between run) lines ≡ refusalLine (answer .0) (lineBetween (run .count)) (answer .1)
+  refused-here : (lines : List Line) (answer : ℕ × ℕ) → 0 < answer .0 → Source way run answer → printedFrom (state way Between run) lines ≡ refusalLine (answer .0) (lineBetween (run .count)) (answer .1)
       → LinesRefused way run lines
   unfolding AllTaken runBehind shownFor linesBetween
-  refused-here lines answer n e = record { rows = []; rest = lines; answer = answer; numbered = n; taken = tt; lines-are = refl; printed-is = e }
+  refused-here lines answer n s e = record { rows = []; rest = lines; answer = answer; numbered = n; source = s; taken = tt; lines-are = refl; printed-is = e }
 
   missing : LinesRefused way run []
   unfolding printedFrom inputEnded endIn badForm refused lineNumber refusalLine
-  missing = refused-here [] (13, 0) (omega arith) refl
+  missing = refused-here [] (13, 0) (omega arith) (inl (inl refl)) refl
 
   line-no : (line : Line) (lines : List Line) → LineRefused way run line → LinesRefused way run (line ∷ lines)
   unfolding lineNumber
-  line-no line lines r = refused-here (line ∷ lines) (r .answer) (r .numbered) (line-refused (state way Between run) line (r .answer) lines (r .given))
+  line-no line lines r = refused-here (line ∷ lines) (r .answer) (r .numbered) (inl (r .source)) (line-refused (state way Between run) line (r .answer) lines (r .given))
 
   -- ---- behind the end line: the finish, or text left over
   left-over : (line : Line) (lines : List Line) → printedFrom (state way Ended run) (line ∷ lines) ≡ refusalLine 13 (lineBetween (run .count)) 0
@@ -111,9 +115,9 @@ module _ (way : Way) (run : Run) where
       ⊎-elim (λ e. inl (record { rows = []; taken = tt; ended = eqb-true _ 0 e; lines-are = ap (λ (l : Line). l ∷ []) (r .is) }))
       (λ e.
       let z = eqb-false (endedBy way run (output run) .0 .0) 0 e in
-      inr (refused-here (line ∷ []) (endedBy way run (output run) .0) (omega (arith, z)) (end-printed line [] r ∙ finish-no e)))
+      inr (refused-here (line ∷ []) (endedBy way run (output run) .0) (omega (arith, z)) (inr refl) (end-printed line [] r ∙ finish-no e)))
       (tested (eqb (endedBy way run (output run) .0 .0) 0))
-  line-ends line (next ∷ lines) r = inr (refused-here (line ∷ next ∷ lines) (13, 0) (omega arith) (end-printed line (next ∷ lines) r ∙ left-over next lines))
+  line-ends line (next ∷ lines) r = inr (refused-here (line ∷ next ∷ lines) (13, 0) (omega arith) (inl (inl refl)) (end-printed line (next ∷ lines) r ∙ left-over next lines))
 
   -- ---- behind a row
   module _ (line : Line) (lines : List Line) (r : LineRow way run line) where
@@ -136,6 +140,7 @@ module _ (way : Way) (run : Run) where
       rest = w .rest;
       answer = w .answer;
       numbered = w .numbered;
+      source = w .source;
       taken = (r .works, w .taken);
       lines-are = ap₂ (λ (l : Line) (ls : List Line). l ∷ ls) (r .is) (w .lines-are);
       printed-is = rw (r .given, w .printed-is) (sym (append-assoc (shownRow way run (takenBy way run (r .xs) (output run) .2)) (shownFor way after (w .rows)) (refusalLine (w .answer .0) (lineBetween (runBehind way after (w .rows) .count)) (w .answer .1))));

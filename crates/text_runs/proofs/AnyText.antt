@@ -32,7 +32,7 @@ use Rattle.text_runs.proofs.Inverse.{printed-read}
 use Rattle.text_runs.proofs.LineLaws.{linesBetween}
 use Rattle.text_runs.proofs.OneLine.{state, width-printed}
 use Rattle.text_runs.proofs.AnyLine.{line-refused}
-use Rattle.text_runs.proofs.AnyLines.{AllTaken, runBehind, shownFor, LinesWhole, LinesRefused, lines-is}
+use Rattle.text_runs.proofs.AnyLines.{Source, AllTaken, runBehind, shownFor, LinesWhole, LinesRefused, lines-is}
 use Rattle.text_runs.proofs.TextLines.{textOfLines, lines-text, line-text, between-text, width-first}
 
 -- ---- the first line: refused, or a width
@@ -88,6 +88,7 @@ pub record TextRefused (way : Way) (input : List ℕ) : Type 0 where
   pub number : ℕ
   pub place : ℕ
   pub numbered : 0 < number
+  pub source : Source way (runBehind way (started width .1) rows) (number, place)
   pub taken : AllTaken way (started width .1) rows
   pub input-is : input ≡ firstLines (length rows) width rows ++ rest
   pub printed-is : printedOf way input
@@ -143,6 +144,7 @@ module _ (way : Way) (input : List ℕ) where
         number = w .answer .0;
         place = w .answer .1;
         numbered = w .numbered;
+        source = w .source;
         taken = w .taken;
         input-is = text-begins (w .rows) (w .rest) (w .lines-are);
         printed-is = behind-width ∙ ap (λ (text : List ℕ). (decimal N ++ lineFeed ∷ []) ++ text) (w .printed-is);

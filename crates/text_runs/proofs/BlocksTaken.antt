@@ -1,8 +1,8 @@
--- Blocks that a run forward takes, one after the other: each is in range, they are not too many, and the first of their frames are printed.
+-- Blocks that a run forward takes, one after the other: each is in range, and the first of their frames are printed.
 use mathlib.Core.Path.{_≡_, refl, ap, _∙_}
 use mathlib.Core.Bool.{Bool, true, false}
 use mathlib.Core.List.{List, [], _∷_, _++_}
-use Prim.Native.Nat.{ℕ, suc, _+_, _≤_}
+use Prim.Native.Nat.{ℕ, suc, _+_}
 use native.Mathlib.Omega.{arith}
 use borrow.Author.Tests.{eqb-false}
 use lib.IntN.{ℤ}
@@ -11,7 +11,7 @@ use Rattle.steps.specs.Limits.{readingLimit}
 use Rattle.steps.specs.Steps.{held, frame}
 use Rattle.distance.specs.Statement.{Block}
 use Rattle.runs.specs.declared.record.Run.{Run}
-use Rattle.runs.specs.Record.{blockLimit, opened}
+use Rattle.runs.specs.Record.{opened}
 use Rattle.runs.specs.Gate.{Given}
 use Rattle.runs.specs.Calls.{block, accepted, blockAt}
 use Rattle.runs.proofs.RecordLaws.{Reached, reached-next}
@@ -30,8 +30,11 @@ worked-yes {yes = false} {given} d e = absurd (eqb-false (given .0 .0) 0 (d .whe
 
 pub record BlocksTaken (N b : ℕ) (previous : List ℤ) (rows : List (List ℤ)) : Type 0 where
   pub blocks : AllBlocks N rows
-  pub few : b + length rows ≤ blockLimit
-  pub counted : runBehind Forward (opened N b (held N previous)) rows .count ≡ b + length rows
+  pub count : ℕ
+  pub counted : count ≡ b + length rows
+  pub last : List ℤ
+  pub behind : runBehind Forward (opened N b (held N previous)) rows ≡ opened N count (held N last)
+  pub reached : Reached N count last
   pub shown-are : shownFor Forward (opened N b (held N previous)) rows ≡ rowLines (take (length rows) (frame N (held N previous) (blockAt N rows 0) ∷ framesAfter N rows))
 
 module _ (N b : ℕ) (previous : List ℤ) (r : Reached N b previous) (x : List ℤ) (worked : takenBy Forward (opened N b (held N previous)) x (output (opened N b (held N previous))) .0 .0 ≡ 0) where
@@ -45,8 +48,8 @@ module _ (N b : ℕ) (previous : List ℤ) (r : Reached N b previous) (x : List 
   is-block : Block N readingLimit x
   is-block = accepted-block N b false x (output run) yes
 
-  reached : Reached N (suc b) x
-  reached = reached-next N b previous x r (accepted-below N b false x (output run) yes) is-block
+  reached-more : Reached N (suc b) x
+  reached-more = reached-next N b previous x r (accepted-below N b false x (output run) yes) is-block
 
   block-given : takenBy Forward run x (output run) ≡ ((0, 0), opened N (suc b) (held N x), frame N (held N previous) x)
   unfolding takenBy
@@ -56,14 +59,17 @@ module _ (N b : ℕ) (previous : List ℤ) (r : Reached N b previous) (x : List 
   unfolding shownRow rowLines framesAfter blockAt
   block-more rows rest = record {
     blocks = blocks-one N x rows is-block (rest .blocks);
-    few = omega (arith, rest .few);
-    counted = ap (λ (s : Run). s .count) (run-next Forward run x rows _ _ block-given) ∙ omega (arith, rest .counted);
+    count = rest .count;
+    counted = omega (arith, rest .counted);
+    last = rest .last;
+    behind = run-next Forward run x rows _ _ block-given ∙ rest .behind;
+    reached = rest .reached;
     shown-are = shown-next Forward run x rows _ _ block-given ∙ ap (λ (text : List ℕ). rowLine (frame N (held N previous) x) ++ text) (rest .shown-are);
   }
 
 pub blocks-taken : (N : ℕ) (rows : List (List ℤ)) (b : ℕ) (previous : List ℤ) → Reached N b previous → AllTaken Forward (opened N b (held N previous)) rows → BlocksTaken N b previous rows
-unfolding AllTaken runBehind shownFor rowLines opened
-blocks-taken N [] b previous r t = record { blocks = blocks-none N; few = omega (arith, r .counted); counted = omega arith; shown-are = refl }
+unfolding AllTaken runBehind shownFor rowLines
+blocks-taken N [] b previous r t = record { blocks = blocks-none N; count = b; counted = omega arith; last = previous; behind = refl; reached = r; shown-are = refl }
 blocks-taken N (x ∷ rows) b previous r t =
     block-more N b previous r x (t .0) rows
-    (blocks-taken N rows (suc b) x (reached N b previous r x (t .0)) (taken-next Forward (opened N b (held N previous)) x rows _ _ (block-given N b previous r x (t .0)) t))
+    (blocks-taken N rows (suc b) x (reached-more N b previous r x (t .0)) (taken-next Forward (opened N b (held N previous)) x rows _ _ (block-given N b previous r x (t .0)) t))

@@ -1,41 +1,42 @@
 -- The frames that a run back takes from a fresh start: the blocks printed, and which frames they make.
 use mathlib.Core.Path.{_≡_, refl, sym, ap, ap₂, subst, _∙_}
-use mathlib.Core.Bool.{false}
 use mathlib.Core.List.{List, [], _∷_, _++_}
 use Prim.Native.Nat.{ℕ, suc, _+_, _-_, _≤_}
 use native.Mathlib.Omega.{arith}
 use lib.IntN.{ℤ}
 use lib.ListN.{length, take}
 use Rattle.tables.specs.Widths.{halfWidth}
-use Rattle.steps.specs.Steps.{held}
 use Rattle.steps.proofs.ZeroBlock.{held-zeros}
 use Rattle.distance.specs.Statement.{IsWidth}
 use Rattle.runs.specs.declared.record.Run.{Run}
 use Rattle.runs.specs.Answers.{told}
-use Rattle.runs.specs.Record.{blockLimit, frameLimit, zeros, opened}
+use Rattle.runs.specs.Record.{blockLimit, zeros, opened}
 use Rattle.runs.specs.Gate.{Given}
 use Rattle.runs.specs.Forward.{started}
 use Rattle.runs.specs.Back.{endedBack}
 use Rattle.runs.proofs.EndLaws.{end-empty-refused}
 use Rattle.runs.proofs.EveryList.{AllBlocks, blocks-none}
-use Rattle.runs.proofs.MadeFrames.{framesAfter, allFrames}
-use Rattle.runs.proofs.BackLaws.{started-back, back-first, back-sound, lowHalf}
+use Rattle.runs.proofs.MadeFrames.{allFrames}
+use Rattle.runs.proofs.BackLaws.{started-back, ReachedBack, back-first, back-sound, lowHalf}
 use Rattle.runs.proofs.AcceptedLaws.{FirstAccepted, first-accepted, ended-accepted}
 use Rattle.text_runs.specs.declared.state.Way.the-variants.{Back}
-use Rattle.text_runs.specs.Way.{output, takenBy, endedBy}
+use Rattle.text_runs.specs.Way.{output, takenBy}
 use Rattle.text_runs.specs.Return.{rowLines}
 use Rattle.text_runs.proofs.RunRows.{output-long}
 use Rattle.text_runs.proofs.BackRows.{first-shownRow}
 use Rattle.text_runs.proofs.AnyLines.{AllTaken, runBehind, shownFor, taken-next, run-next, shown-next}
-use Rattle.text_runs.proofs.FramesTaken.{frame-wide, FramesTaken, frames-taken}
+use Rattle.text_runs.proofs.FramesTaken.{frame-wide, frames-taken}
 
 pub record FramesRead (N : ℕ) (run : Run) (rows : List (List ℤ)) : Type 0 where
   pub xs : List (List ℤ)
   pub blocks : AllBlocks N xs
   pub few : length xs ≤ blockLimit
   pub many : length xs ≡ length rows - 1
-  pub counted : runBehind Back run rows .count ≡ length rows
-  pub within : length rows ≤ frameLimit
+  pub count : ℕ
+  pub counted : count ≡ length rows
+  pub last : List ℤ
+  pub behind : runBehind Back run rows ≡ opened N count last
+  pub reached : ReachedBack N count last
   pub shown-are : shownFor Back run rows ≡ rowLines xs
   pub first-are : take (length xs) rows ≡ take (length xs) (allFrames N xs)
   pub all-are : endedBack (runBehind Back run rows) .0 .0 ≡ 0 → rows ≡ allFrames N xs
@@ -50,14 +51,17 @@ module _ (N : ℕ) (w : IsWidth N) where
   none-ended e = omega (arith, ap (λ (g : Given). g .0 .0) (end-empty-refused run (back-sound N 0 (zeros (halfWidth N)) (back-first N w)) refl refl), e)
 
   no-frame : FramesRead N run []
-  unfolding runBehind shownFor rowLines opened
+  unfolding runBehind shownFor rowLines
   no-frame = record {
     xs = [];
     blocks = blocks-none N;
     few = omega arith;
     many = refl;
+    count = 0;
     counted = refl;
-    within = omega arith;
+    last = zeros (halfWidth N);
+    behind = refl;
+    reached = back-first N w;
     shown-are = refl;
     first-are = refl;
     all-are = λ e. absurd (none-ended e);
@@ -77,7 +81,6 @@ module _ (N : ℕ) (w : IsWidth N) where
     first-given = first .given
 
     some-frames : (rows : List (List ℤ)) → AllTaken Back (opened N 1 (lowHalf N c)) rows → FramesRead N run (c ∷ rows)
-    unfolding opened
     some-frames rows t =
         let f = frames-taken N rows 0 (lowHalf N c) c (zeros N) (first .reached) wide (first .upper ∙ sym (held-zeros N N)) refl t in
         let behind = run-next Back run c rows _ _ first-given ∙ f .behind in
@@ -86,8 +89,11 @@ module _ (N : ℕ) (w : IsWidth N) where
           blocks = f .blocks;
           few = omega (arith, f .many, f .counted, f .reached .counted);
           many = omega (arith, f .many);
-          counted = ap (λ (r : Run). r .count) behind ∙ omega (arith, f .counted);
-          within = omega (arith, f .counted, f .reached .counted);
+          count = suc (f .count);
+          counted = omega (arith, f .counted);
+          last = f .last;
+          behind = behind;
+          reached = f .reached;
           shown-are = shown-next Back run c rows _ _ first-given ∙ ap₂ (λ (a b : List ℕ). a ++ b) (first-shownRow N (zeros (halfWidth N)) (output run)) (f .shown-are);
           first-are = f .first-are;
           all-are = λ e. f .all-are (ended-accepted N (f .count) (f .last) (f .reached) (subst (λ (r : Run). endedBack r .0 .0 ≡ 0) behind e));

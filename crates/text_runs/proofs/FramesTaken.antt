@@ -3,14 +3,14 @@
 use mathlib.Core.Path.{_≡_, refl, sym, ap, ap₂, _∙_}
 use mathlib.Core.Bool.{Bool, true, false, not}
 use mathlib.Core.List.{List, [], _∷_, _++_}
-use Prim.Native.Nat.{ℕ, suc, _+_, _≤_, _<_}
+use Prim.Native.Nat.{ℕ, suc, _+_, _<_}
 use native.Mathlib.Omega.{arith}
 use borrow.Author.Tests.{eqb-true}
 use lib.Dec.{eqb, ltb}
 use lib.IntN.{ℤ}
 use lib.ListN.{length, take}
 use Rattle.tables.specs.Widths.{halfWidth}
-use Rattle.steps.specs.Steps.{lower, held, frame, unfolded}
+use Rattle.steps.specs.Steps.{held, frame, unfolded}
 use Rattle.steps.proofs.Undo.{width-half, lower-unfolded, held-unfolded}
 use Rattle.steps.proofs.ZeroBlock.{lower-zeros}
 use Rattle.runs.specs.declared.record.Run.{Run}
@@ -24,7 +24,7 @@ use Rattle.runs.proofs.MadeFrames.{framesAfter}
 use Rattle.runs.proofs.BackLaws.{ReachedBack, lowHalf, highHalf}
 use Rattle.runs.proofs.AcceptedLaws.{high-long, halves-frame, LaterAccepted, later-accepted}
 use Rattle.text_runs.specs.declared.state.Way.the-variants.{Back}
-use Rattle.text_runs.specs.Way.{output, takenBy, rowLine}
+use Rattle.text_runs.specs.Way.{output, takenBy}
 use Rattle.text_runs.specs.Return.{rowLines}
 use Rattle.text_runs.proofs.RunRows.{output-long}
 use Rattle.text_runs.proofs.BackRows.{later-shownRow}

@@ -15,6 +15,7 @@ pub mod AnyLine
 pub mod AnyLines
 pub mod TextLines
 pub mod AnyText
+pub mod AnswersTold
 pub mod BlocksTaken
 pub mod FramesTaken
 pub mod FramesRead

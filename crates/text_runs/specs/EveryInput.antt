@@ -2,8 +2,10 @@
 -- printed are the first lines of a text run, perhaps none, and one refusal. `proofs/EveryInput` proves it, both ways.
 use mathlib.Core.Path.{_≡_}
 use mathlib.Core.Logic.{_⊎_}
+use mathlib.Core.Bool.{Bool, true, false, _||_}
 use mathlib.Core.List.{List, [], _∷_, _++_}
 use Prim.Native.Nat.{ℕ, suc, _-_, _≤_, _<_}
+use lib.Dec.{eqb}
 use lib.IntN.{ℤ}
 use lib.ListN.{length, take}
 use Rattle.integers.specs.Vectors.{Rows}
@@ -65,6 +67,15 @@ unfoldable pub ReadBefore : Way → ℕ → List (List ℤ) → List (List ℤ) 
 ReadBefore Forward N rows blocks = rows ≡ blocks
 ReadBefore Back N rows blocks = (length blocks ≡ length rows - 1) × (take (length blocks) rows ≡ take (length blocks) (framesOf N blocks))
 
+-- the numbers that a refusal behind the first line can have: 2, 3 and 7 are answers to other callers
+unfoldable pub numbers : Way → List ℕ
+numbers Forward = 4 ∷ 6 ∷ 8 ∷ 9 ∷ 13 ∷ []
+numbers Back = 4 ∷ 5 ∷ 6 ∷ 9 ∷ 10 ∷ 11 ∷ 12 ∷ 13 ∷ []
+
+unfoldable pub among : ℕ → List ℕ → Bool
+among n [] = false
+among n (m ∷ ms) = eqb n m || among n ms
+
 -- the line behind some rows is refused: the input begins with their lines, what is printed are the first lines of a text run, one for each
 -- of the blocks, and the refusal, which names the line behind the rows
 pub record RefusedBehind (way : Way) (input : List ℕ) : Type 0 where
@@ -77,7 +88,8 @@ pub record RefusedBehind (way : Way) (input : List ℕ) : Type 0 where
   pub run : Blocks width blocks
   pub before : ReadBefore way width rows blocks
   pub input-is : input ≡ firstLines (length rows) width rows ++ rest
-  pub numbered : 0 < number
+  pub numbered : among number (numbers way) ≡ true
+  pub placed : place < width
   pub printed-is : printedOf way input ≡ firstLines (length blocks) width (shown way width blocks) ++ refusalLine number (suc (suc (length rows))) place
 
 abbrev pub Refused : Way → List ℕ → Type 0
@@ -95,7 +107,11 @@ EveryInputTold = (way : Way) (input : List ℕ) → EveryInput way input
 abbrev pub AcceptedText : Type 0
 AcceptedText = (way : Way) (input : List ℕ) → (Refused way input → ⊥) → Accepted way input
 
--- 3. What is printed for an accepted text is accepted the other way, and gives that text: back of forward, and forward of back.
+-- 3. The text of any blocks (frames) that the run takes is accepted.
+abbrev pub EveryTextAccepted : Type 0
+EveryTextAccepted = (way : Way) (N : ℕ) (blocks : List (List ℤ)) → Blocks N blocks → Accepted way (textOf N (read way N blocks))
+
+-- 4. What is printed for an accepted text is accepted the other way, and gives that text: back of forward, and forward of back.
 pub record Returned (way : Way) (input : List ℕ) : Type 0 where
   pub accepted : Accepted (other way) (printedOf way input)
   pub same : printedOf (other way) (printedOf way input) ≡ input

@@ -30,7 +30,7 @@ use Rattle.text_runs.specs.Line.{badForm, widthStarted, widthTaken, rowG
 use Rattle.text_runs.specs.Input as Input
 use Rattle.text_runs.specs.Input.{linesOf, printedFrom, printedOf}
 use Rattle.text_runs.specs.Return.{rowLines, textOf, framesOf, InRange}
-use Rattle.text_runs.specs.EveryInput.{Blocks, RefusedFirst, RefusedBehind, ReadBefore, firstLines, refusalLine, shown}
+use Rattle.text_runs.specs.EveryInput.{Blocks, RefusedFirst, RefusedBehind, ReadBefore, firstLines, refusalLine, shown, numbers, among}
 
 abbrev less : ℕ → ℤ
 less n = negℤ (pos n)
@@ -66,7 +66,7 @@ unfolding bytes spelled decimal printed isDigit allDigits valueOf valued leads s
 block-lines = refl
 
 block-refused : RefusedBehind Forward blockInput
-unfolding bytes firstLines rowLines rowLine row behindCommas printed decimal spelled ReadBefore
+unfolding bytes firstLines rowLines rowLine row behindCommas printed decimal spelled ReadBefore numbers among
 block-refused = record {
   width = 8;
   rows = ones 1 ∷ ones 2 ∷ [];
@@ -77,7 +77,8 @@ block-refused = record {
   run = two-blocks;
   before = refl;
   input-is = refl;
-  numbered = omega arith;
+  numbered = refl;
+  placed = omega arith;
   printed-is = block-printed ∙ sym block-lines;
 }
 
@@ -113,7 +114,7 @@ unfolding bytes spelled decimal printed isDigit allDigits valueOf valued leads s
 frames-before = (refl, refl)
 
 frame-refused : RefusedBehind Back frameInput
-unfolding bytes firstLines rowLines rowLine row behindCommas printed decimal spelled
+unfolding bytes firstLines rowLines rowLine row behindCommas printed decimal spelled numbers among
 frame-refused = record {
   width = 8;
   rows = framesRead;
@@ -124,6 +125,7 @@ frame-refused = record {
   run = large;
   before = frames-before;
   input-is = refl;
-  numbered = omega arith;
+  numbered = refl;
+  placed = omega arith;
   printed-is = frame-printed ∙ sym frame-lines;
 }
