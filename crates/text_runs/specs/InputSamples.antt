@@ -1,4 +1,4 @@
--- Inputs at width 8 that are refused behind some lines, computed on the definitions: what was read before, and what is printed.
+-- Inputs at width 8 that are refused, computed on the definitions: what was read before, and what is printed.
 use mathlib.Core.Path.{_≡_, refl, sym, _∙_}
 use mathlib.Core.Logic.{inr}
 use mathlib.Core.List.{List, [], _∷_, _++_}
@@ -6,14 +6,12 @@ use Prim.Native.Nat.{ℕ, _≤_}
 use native.Mathlib.Omega.{arith}
 use lib.IntN.{ℤ, pos, negℤ}
 use lib.ListN.{replicate}
-use Rattle.integers.specs.Vectors.{AllAbs}
 use Rattle.integers.specs.Floor.{round, floorDiv}
 use Rattle.integers.specs.Places.{tab, sum}
 use Rattle.tables.specs.Widths.{byWidth, halfWidth}
 use Rattle.tables.specs.Angles.{halfTurn, reflected, minus, signed}
 use Rattle.tables.specs.Numbers.{sines, halfTangents, halfTangents8, secants, secants8, cosineOf, sineOf, halfTangentOf, secantOf}
 use Rattle.steps.specs.Steps.{rootLog, tangent, sine, cosine, oddOf, secant, alternate, tangentAmount, sineAmount, rotatedA, rotatedB, lower, held, topOf, bottomOf, amount1, amount2, amount3, stage1, stage2, stage3, stage4, stage5, stages, frame, unrotatedA, unrotatedB, unfolded, unstage1, unstage2, unstage3, unstage4, unstage5, interleaved, unstages}
-use Rattle.steps.specs.Limits.{readingLimit}
 use Rattle.runs.specs.Answers.{first, beyond}
 use Rattle.runs.specs.Record.{filled, opened, advanced, closed}
 use Rattle.runs.specs.Gate.{ask, askEach, nothing, inside, every, sound, dead, admitted}
@@ -43,12 +41,17 @@ width-refused = record { number = 13; numbered = inr refl; printed-is = refl }
 abbrev ones : ℕ → List ℤ
 ones n = replicate 8 (pos n)
 
+-- blocks of one number
+one-block : (n : ℕ) → n ≤ 32767 → Blocks 8 (ones n ∷ [])
+unfolding InRange halfWidth byWidth
+one-block n h = record { wide = omega arith; rows = (refl, tt); within = ((h, (h, (h, (h, (h, (h, (h, (h, tt)))))))), tt); few = omega arith }
+
 -- ---- forward: the third block is out of range, and two frames stand
 two-blocks : Blocks 8 (ones 1 ∷ ones 2 ∷ [])
-unfolding InRange halfWidth byWidth
+unfolding InRange
 two-blocks =
-    let fits : (n : ℕ) → n ≤ 32767 → AllAbs readingLimit (ones n) = λ n h. (h, (h, (h, (h, (h, (h, (h, (h, tt)))))))) in
-    record { wide = omega arith; rows = (refl, (refl, tt)); within = (fits 1 (omega arith), (fits 2 (omega arith), tt)); few = omega arith }
+    let one = one-block 1 (omega arith) in
+    record { wide = one .wide; rows = (refl, (refl, tt)); within = (one .within .0, one-block 2 (omega arith) .within); few = omega arith }
 
 -- the input, and all that is printed
 abbrev blockInput : List ℕ
@@ -83,12 +86,6 @@ block-refused = record {
 }
 
 -- ---- back: the block behind the third frame is out of range; of two frames one block stands
-large : Blocks 8 (ones 32767 ∷ [])
-unfolding InRange halfWidth byWidth
-large =
-    let h : 32767 ≤ 32767 = omega arith in
-    record { wide = omega arith; rows = (refl, tt); within = ((h, (h, (h, (h, (h, (h, (h, (h, tt)))))))), tt); few = omega arith }
-
 abbrev frameInput : List ℕ
 frameInput = bytes "8\n76031,29691,-10426,-10426,6966,6967,-5906,-5906\n22555,-35596,3459,17392,3459,-17393,-23786,-10744\n-5906,5906,6965,-6966,-10427,10426,29690,-76030\nend,3\n"
 
@@ -122,10 +119,73 @@ frame-refused = record {
   rest = bytes "-5906,5906,6965,-6966,-10427,10426,29690,-76030\nend,3\n";
   number = 12;
   place = 2;
-  run = large;
+  run = one-block 32767 (omega arith);
   before = frames-before;
   input-is = refl;
   numbered = refl;
   placed = omega arith;
   printed-is = frame-printed ∙ sym frame-lines;
+}
+
+-- ---- named by the end line: a line left over behind it, forward; back, the last frame lost, so that the finish is refused
+abbrev leftInput : List ℕ
+leftInput = bytes "8\n1,1,1,1,1,1,1,1\nend,1\n8\n"
+
+abbrev leftPrinted : List ℕ
+leftPrinted = bytes "8\n2,1,0,0,0,1,0,0\nrefused,13,3,0\n"
+
+left-printed : printedOf Forward leftInput ≡ leftPrinted
+unfolding bytes spelled decimal printed isDigit allDigits valueOf valued leads sized negative positive numberIn refusedTag endTag behindCommas row endLine refusal longer fields inFront allNumbers numbersIn same begun inPhase withRun lineBetween lineNumber refused output takenBy endedBy rowLine lastLine shownRow shownLast badForm widthStarted widthTaken rowGiven rowTaken betweenTaken formed notFormed lineTaken finishGiven endIn inputEnded Input.inFront linesOf printedFrom printedOf rowLines textOf framesOf firstLines refusalLine shown byWidth halfWidth halfTurn reflected minus signed sines halfTangents halfTangents8 secants secants8 cosineOf sineOf halfTangentOf secantOf round floorDiv tab sum rootLog tangent sine cosine oddOf secant alternate tangentAmount sineAmount rotatedA rotatedB lower held topOf bottomOf amount1 amount2 amount3 stage1 stage2 stage3 stage4 stage5 stages frame unrotatedA unrotatedB unfolded unstage1 unstage2 unstage3 unstage4 unstage5 interleaved unstages first beyond ask askEach nothing inside every sound dead admitted filled opened advanced closed started frameOn takenIn taken ended blockAt blockBefore frameAt framed blockOn firstUpper firstFrame laterFrame unfoldedIn undoneIn takenBack firstHeld endedBack InRange ReadBefore
+left-printed = refl
+
+left-lines : firstLines 1 8 (shown Forward 8 (ones 1 ∷ [])) ++ refusalLine 13 3 0 ≡ leftPrinted
+unfolding bytes spelled decimal printed isDigit allDigits valueOf valued leads sized negative positive numberIn refusedTag endTag behindCommas row endLine refusal longer fields inFront allNumbers numbersIn same begun inPhase withRun lineBetween lineNumber refused output takenBy endedBy rowLine lastLine shownRow shownLast badForm widthStarted widthTaken rowGiven rowTaken betweenTaken formed notFormed lineTaken finishGiven endIn inputEnded Input.inFront linesOf printedFrom printedOf rowLines textOf framesOf firstLines refusalLine shown byWidth halfWidth halfTurn reflected minus signed sines halfTangents halfTangents8 secants secants8 cosineOf sineOf halfTangentOf secantOf round floorDiv tab sum rootLog tangent sine cosine oddOf secant alternate tangentAmount sineAmount rotatedA rotatedB lower held topOf bottomOf amount1 amount2 amount3 stage1 stage2 stage3 stage4 stage5 stages frame unrotatedA unrotatedB unfolded unstage1 unstage2 unstage3 unstage4 unstage5 interleaved unstages first beyond ask askEach nothing inside every sound dead admitted filled opened advanced closed started frameOn takenIn taken ended blockAt blockBefore frameAt framed blockOn firstUpper firstFrame laterFrame unfoldedIn undoneIn takenBack firstHeld endedBack InRange ReadBefore
+left-lines = refl
+
+left-refused : RefusedBehind Forward leftInput
+unfolding bytes firstLines rowLines rowLine row behindCommas printed decimal spelled ReadBefore numbers among
+left-refused = record {
+  width = 8;
+  rows = ones 1 ∷ [];
+  blocks = ones 1 ∷ [];
+  rest = bytes "end,1\n8\n";
+  number = 13;
+  place = 0;
+  run = one-block 1 (omega arith);
+  before = refl;
+  input-is = refl;
+  numbered = refl;
+  placed = omega arith;
+  printed-is = left-printed ∙ sym left-lines;
+}
+
+abbrev lostInput : List ℕ
+lostInput = bytes "8\n39,-24,-48,4,50,14,-44,-33\nend,1\n"
+
+abbrev lostPrinted : List ℕ
+lostPrinted = bytes "8\nrefused,11,3,3\n"
+
+lost-printed : printedOf Back lostInput ≡ lostPrinted
+unfolding bytes spelled decimal printed isDigit allDigits valueOf valued leads sized negative positive numberIn refusedTag endTag behindCommas row endLine refusal longer fields inFront allNumbers numbersIn same begun inPhase withRun lineBetween lineNumber refused output takenBy endedBy rowLine lastLine shownRow shownLast badForm widthStarted widthTaken rowGiven rowTaken betweenTaken formed notFormed lineTaken finishGiven endIn inputEnded Input.inFront linesOf printedFrom printedOf rowLines textOf framesOf firstLines refusalLine shown byWidth halfWidth halfTurn reflected minus signed sines halfTangents halfTangents8 secants secants8 cosineOf sineOf halfTangentOf secantOf round floorDiv tab sum rootLog tangent sine cosine oddOf secant alternate tangentAmount sineAmount rotatedA rotatedB lower held topOf bottomOf amount1 amount2 amount3 stage1 stage2 stage3 stage4 stage5 stages frame unrotatedA unrotatedB unfolded unstage1 unstage2 unstage3 unstage4 unstage5 interleaved unstages first beyond ask askEach nothing inside every sound dead admitted filled opened advanced closed started frameOn takenIn taken ended blockAt blockBefore frameAt framed blockOn firstUpper firstFrame laterFrame unfoldedIn undoneIn takenBack firstHeld endedBack InRange ReadBefore
+lost-printed = refl
+
+lost-lines : firstLines 0 8 (shown Back 8 []) ++ refusalLine 11 3 3 ≡ lostPrinted
+unfolding bytes spelled decimal printed isDigit allDigits valueOf valued leads sized negative positive numberIn refusedTag endTag behindCommas row endLine refusal longer fields inFront allNumbers numbersIn same begun inPhase withRun lineBetween lineNumber refused output takenBy endedBy rowLine lastLine shownRow shownLast badForm widthStarted widthTaken rowGiven rowTaken betweenTaken formed notFormed lineTaken finishGiven endIn inputEnded Input.inFront linesOf printedFrom printedOf rowLines textOf framesOf firstLines refusalLine shown byWidth halfWidth halfTurn reflected minus signed sines halfTangents halfTangents8 secants secants8 cosineOf sineOf halfTangentOf secantOf round floorDiv tab sum rootLog tangent sine cosine oddOf secant alternate tangentAmount sineAmount rotatedA rotatedB lower held topOf bottomOf amount1 amount2 amount3 stage1 stage2 stage3 stage4 stage5 stages frame unrotatedA unrotatedB unfolded unstage1 unstage2 unstage3 unstage4 unstage5 interleaved unstages first beyond ask askEach nothing inside every sound dead admitted filled opened advanced closed started frameOn takenIn taken ended blockAt blockBefore frameAt framed blockOn firstUpper firstFrame laterFrame unfoldedIn undoneIn takenBack firstHeld endedBack InRange ReadBefore
+lost-lines = refl
+
+lost-refused : RefusedBehind Back lostInput
+unfolding bytes firstLines rowLines rowLine row behindCommas printed decimal spelled ReadBefore numbers among InRange
+lost-refused = record {
+  width = 8;
+  rows = (pos 39 ∷ less 24 ∷ less 48 ∷ pos 4 ∷ pos 50 ∷ pos 14 ∷ less 44 ∷ less 33 ∷ []) ∷ [];
+  blocks = [];
+  rest = bytes "end,1\n";
+  number = 11;
+  place = 3;
+  run = record { wide = one-block 0 (omega arith) .wide; rows = tt; within = tt; few = omega arith };
+  before = (refl, refl);
+  input-is = refl;
+  numbered = refl;
+  placed = omega arith;
+  printed-is = lost-printed ∙ sym lost-lines;
 }
