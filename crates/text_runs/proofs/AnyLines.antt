@@ -82,9 +82,9 @@ module _ (way : Way) (run : Run) where
   unfolding AllTaken runBehind shownFor linesBetween
   refused-here lines answer n s e = record { rows = []; rest = lines; answer = answer; numbered = n; source = s; taken = tt; lines-are = refl; printed-is = e }
 
-  missing : LinesRefused way run []
+  missing-text-refused : LinesRefused way run []
   unfolding printedFrom inputEnded endIn badForm refused lineNumber refusalLine
-  missing = refused-here [] (13, 0) (omega arith) (inl (inl refl)) refl
+  missing-text-refused = refused-here [] (13, 0) (omega arith) (inl (inl refl)) refl
 
   line-no : (line : Line) (lines : List Line) → LineRefused way run line → LinesRefused way run (line ∷ lines)
   unfolding lineNumber
@@ -147,7 +147,7 @@ module _ (way : Way) (run : Run) where
     }
 
 pub lines-is : (way : Way) (run : Run) (lines : List Line) → AnyLines way run lines
-lines-is way run [] = inr (missing way run)
+lines-is way run [] = inr (missing-text-refused way run)
 lines-is way run (line ∷ lines) =
     ⊎-elim (λ r. inr (line-no way run line lines r))
     (⊎-elim (λ r. line-ends way run line lines r)

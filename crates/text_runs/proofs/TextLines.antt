@@ -3,15 +3,17 @@ use mathlib.Core.Path.{_≡_, refl, sym, ap, ap₂, _∙_}
 use mathlib.Core.Logic.{⊎-elim}
 use mathlib.Core.Bool.{Bool, true, false}
 use mathlib.Core.List.{List, [], _∷_, _++_, append-assoc}
-use Prim.Native.Nat.{ℕ}
+use Prim.Native.Nat.{ℕ, zero, suc}
 use borrow.Author.Tests.{eqb-true}
 use lib.Dec.{eqb}
 use lib.IntN.{ℤ}
+use lib.ListN.{length, take, drop}
 use Rattle.text_runs.specs.Decimal.{decimal}
 use Rattle.text_runs.specs.Lines.{lineFeed, row}
-use Rattle.text_runs.specs.Way.{rowLine}
+use Rattle.text_runs.specs.Way.{rowLine, lastLine}
 use Rattle.text_runs.specs.Input.{Line, inFront, linesOf}
-use Rattle.text_runs.specs.Return.{rowLines}
+use Rattle.text_runs.specs.Return.{rowLines, textOf}
+use Rattle.text_runs.specs.EveryInput.{firstLines, FirstLinesBegin}
 use Rattle.text_runs.proofs.UpToLaws.{tested}
 use Rattle.text_runs.proofs.LineLaws.{linesBetween}
 
@@ -56,3 +58,20 @@ between-text (xs ∷ rows) rest =
 -- the width in front of a text and what follows it
 pub width-first : (N : ℕ) (text rest : List ℕ) → (decimal N ++ lineFeed ∷ []) ++ (text ++ rest) ≡ (decimal N ++ lineFeed ∷ text) ++ rest
 width-first N text rest = append-assoc (decimal N) (lineFeed ∷ []) (text ++ rest) ∙ sym (append-assoc (decimal N) (lineFeed ∷ text) rest)
+
+-- the first lines of a text are a beginning of it
+rows-split : (count : ℕ) (rows : List (List ℤ)) → rowLines rows ≡ rowLines (take count rows) ++ rowLines (drop count rows)
+unfolding rowLines
+rows-split zero rows = refl
+rows-split (suc count) [] = refl
+rows-split (suc count) (xs ∷ rows) =
+    ap (λ (text : List ℕ). rowLine xs ++ text) (rows-split count rows) ∙ sym (append-assoc (rowLine xs) (rowLines (take count rows)) (rowLines (drop count rows)))
+
+pub first-lines-begin : FirstLinesBegin
+unfolding textOf firstLines
+first-lines-begin count N rows =
+    let first = rowLines (take count rows) in
+    let others = rowLines (drop count rows) in
+    ap (λ (text : List ℕ). (decimal N ++ lineFeed ∷ text) ++ lastLine (length rows)) (rows-split count rows)
+    ∙ ap (λ (text : List ℕ). text ++ lastLine (length rows)) (sym (append-assoc (decimal N) (lineFeed ∷ first) others))
+    ∙ append-assoc (decimal N ++ lineFeed ∷ first) others (lastLine (length rows))

@@ -7,7 +7,7 @@ use mathlib.Core.List.{List, [], _∷_, _++_}
 use Prim.Native.Nat.{ℕ, suc, _-_, _≤_, _<_}
 use lib.Dec.{eqb}
 use lib.IntN.{ℤ}
-use lib.ListN.{length, take}
+use lib.ListN.{length, take, drop}
 use Rattle.integers.specs.Vectors.{Rows}
 use Rattle.distance.specs.Statement.{IsWidth}
 use Rattle.runs.specs.Record.{blockLimit}
@@ -15,6 +15,7 @@ use Rattle.text_runs.specs.Decimal.{decimal}
 use Rattle.text_runs.specs.Lines.{lineFeed, refusal}
 use Rattle.text_runs.specs.declared.state.Way.{Way}
 use Rattle.text_runs.specs.declared.state.Way.the-variants.{Forward, Back}
+use Rattle.text_runs.specs.Way.{lastLine}
 use Rattle.text_runs.specs.Input.{printedOf}
 use Rattle.text_runs.specs.Return.{rowLines, textOf, framesOf, InRange}
 
@@ -50,6 +51,10 @@ pub record Accepted (way : Way) (input : List ℕ) : Type 0 where
 -- the first lines of a text: the width, and a line for each of the first `count` rows
 unfoldable pub firstLines : ℕ → ℕ → List (List ℤ) → List ℕ
 firstLines count N rows = decimal N ++ lineFeed ∷ rowLines (take count rows)
+
+-- they are a beginning of it, and what is left are the lines of the other rows and the end line
+abbrev pub FirstLinesBegin : Type 0
+FirstLinesBegin = (count N : ℕ) (rows : List (List ℤ)) → textOf N rows ≡ firstLines count N rows ++ (rowLines (drop count rows) ++ lastLine (length rows))
 
 -- "`refused,number,line,place`"
 unfoldable pub refusalLine : ℕ → ℕ → ℕ → List ℕ
