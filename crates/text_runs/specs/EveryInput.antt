@@ -19,7 +19,7 @@ use Rattle.text_runs.specs.Way.{lastLine}
 use Rattle.text_runs.specs.Input.{printedOf}
 use Rattle.text_runs.specs.Return.{rowLines, textOf, framesOf, InRange}
 
--- blocks that a run takes: any number of readings of a good width, each in range, and not too many blocks
+-- blocks that a run takes: a good width, each block of so many readings, each reading in range, and not too many blocks
 pub record Blocks (N : ℕ) (blocks : List (List ℤ)) : Type 0 where
   pub wide : IsWidth N
   pub rows : Rows N blocks
