@@ -1,3 +1,4 @@
+pub mod ToldLaws
 pub mod Cases
 pub mod Searches
 pub mod AloneLaws

@@ -1,11 +1,11 @@
 -- The whole run forward: one without a refusal took blocks in range and gives the frames of its blocks and its finish, each near the exact one; and what the gate says.
 use mathlib.Core.Path.{_≡_, refl, ap, subst, _∙_}
-use mathlib.Core.Bool.{Bool, true, false, cond, and-false}
+use mathlib.Core.Bool.{Bool, true, false, cond}
 use mathlib.Core.List.{List, [], _∷_, _++_}
 use Prim.Native.Nat.{ℕ, zero, suc, _+_, _*_, _/_, _%_, _≤_, _<_}
 use native.Mathlib.Nat.{div-add-mod'}
 use native.Mathlib.Omega.{arith}
-use borrow.Author.Tests.{le-leb, lt-leb, eq-eqb, ne-eqb, eqb-false}
+use borrow.Author.Tests.{le-leb, eq-eqb, ne-eqb, eqb-false}
 use lib.Dec.{eqb}
 use lib.IntN.{ℤ, pos}
 use lib.ListN.{length, getD, take, drop, List·getD-append}
@@ -15,7 +15,7 @@ use Rattle.integers.specs.Vectors.{Rows}
 use Rattle.integers.proofs.PlaceLaws.{length-tab}
 use Rattle.tables.specs.Widths.{halfWidth}
 use Rattle.runs.specs.Answers.{told}
-use Rattle.runs.specs.declared.answer.Answer.the-variants.{Width, InputLength, OutputLength}
+use Rattle.runs.specs.declared.answer.Answer.the-variants.{OutputLength}
 use Rattle.distance.specs.Statement.{IsWidth}
 use Rattle.runs.specs.declared.record.Run.{Run}
 use Rattle.runs.specs.Record.{blockLimit}
@@ -141,30 +141,16 @@ some-blocks N xs = by (length xs / N)
 abbrev pub callsMade : ℕ → List ℤ → List ℤ → List Made
 callsMade N readings out = made (started N .1) (callsOf N (length readings / N) readings out)
 
-module _ (N : ℕ) (readings out : List ℤ) where
-  pub whole-width-refused : halfWidth N ≡ 0 → (told Width, out) ≡ wholeForward N readings out
+module _ (N : ℕ) (readings out : List ℤ) (w : halfWidth N ≡ 0 → ⊥) (e : length readings % N ≡ 0) (few : length readings / N ≤ blockLimit) where
+  pub whole-output-refused : (length out ≡ length readings + N → ⊥) → (told OutputLength, out) ≡ wholeForward N readings out
   unfolding told wholeForward
-  whole-width-refused e = rw (eq-eqb _ _ e)
+  whole-output-refused m = rw (ne-eqb _ _ w, eq-eqb _ _ e, le-leb _ _ few, ne-eqb _ _ m)
 
-  module _ (w : halfWidth N ≡ 0 → ⊥) where
-    pub remainder-refused : (length readings % N ≡ 0 → ⊥) → (told InputLength, out) ≡ wholeForward N readings out
-    unfolding told wholeForward
-    remainder-refused e = rw (ne-eqb _ _ w, ne-eqb _ _ e)
+  module _ (room : length out ≡ length readings + N) where
+    lengths-passed : oneByOne N readings out ≡ wholeForward N readings out
+    unfolding wholeForward
+    lengths-passed = rw (ne-eqb _ _ w, eq-eqb _ _ e, le-leb _ _ few, eq-eqb _ _ room)
 
-    pub count-refused : blockLimit < length readings / N → (told InputLength, out) ≡ wholeForward N readings out
-    unfolding told wholeForward
-    count-refused h = rw (ne-eqb _ _ w, lt-leb _ _ h, and-false)
-
-    module _ (e : length readings % N ≡ 0) (few : length readings / N ≤ blockLimit) where
-      pub whole-output-refused : (length out ≡ length readings + N → ⊥) → (told OutputLength, out) ≡ wholeForward N readings out
-      unfolding told wholeForward
-      whole-output-refused m = rw (ne-eqb _ _ w, eq-eqb _ _ e, le-leb _ _ few, ne-eqb _ _ m)
-
-      module _ (room : length out ≡ length readings + N) where
-        lengths-passed : oneByOne N readings out ≡ wholeForward N readings out
-        unfolding wholeForward
-        lengths-passed = rw (ne-eqb _ _ w, eq-eqb _ _ e, le-leb _ _ few, eq-eqb _ _ room)
-
-        pub by-refusal : (answer : ℕ × ℕ) → firstRefusal N 0 (callsMade N readings out) ≡ answer → (answer, cond (eqb (answer .0) 0) (outputs (callsMade N readings out)) out) ≡ wholeForward N readings out
-        unfolding oneByOne
-        by-refusal answer d = rw (← lengths-passed, d)
+    pub by-refusal : (answer : ℕ × ℕ) → firstRefusal N 0 (callsMade N readings out) ≡ answer → (answer, cond (eqb (answer .0) 0) (outputs (callsMade N readings out)) out) ≡ wholeForward N readings out
+    unfolding oneByOne
+    by-refusal answer d = rw (← lengths-passed, d)

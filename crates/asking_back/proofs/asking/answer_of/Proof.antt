@@ -10,7 +10,7 @@ use Rattle.tables.specs.Widths.{halfWidth}
 use Rattle.tables.proofs.ByWidth.{half-width-le}
 use Rattle.runs.specs.Answers.{told}
 use Rattle.runs.specs.declared.record.Run.{Run}
-use Rattle.runs.specs.Record.{nextCount, frameLimit, zeros, opened}
+use Rattle.runs.specs.Record.{frameLimit, zeros, nextCount, opened}
 use Rattle.runs.specs.Gate.{Given}
 use Rattle.runs.proofs.RecordLaws.{width-pos}
 use Rattle.gate.proofs.FaultLaws.{block-next, block-in, no-block, block-long, part-is}

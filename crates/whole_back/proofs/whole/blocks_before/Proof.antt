@@ -9,7 +9,7 @@ use lib.Seq.{drop-drop}
 use Rattle.tables.specs.Widths.{halfWidth}
 use Rattle.runs.specs.Answers.{told}
 use Rattle.runs.specs.declared.record.Run.{Run}
-use Rattle.runs.specs.Record.{nextCount, frameLimit, opened}
+use Rattle.runs.specs.Record.{blockLimit, frameLimit, nextCount, opened}
 use Rattle.runs.specs.Gate.{Given}
 use Rattle.runs.proofs.Searches.{all-within}
 use Rattle.runs.proofs.RecordLaws.{width-pos}
@@ -73,7 +73,7 @@ module _ (i : tie.In-loop Inv-loop μ-loop) where
   in-readings : place at + N (from at) ≤ length (readings at)
   in-readings = omega (arith, in-frames, at .loop .inv .3)
 
-  end-le : place at + N (from at) ≤ 8388608
+  end-le : place at + N (from at) ≤ blockLimit * 128
   end-le = omega (arith, in-frames, few-readings (N (from at)) (frames (from at)) (from at .pre .1 .0))
 
   counted : at .loop .count < frameLimit

@@ -10,7 +10,7 @@ use Rattle.tables.specs.Widths.{halfWidth}
 use Rattle.slices.proofs.Parts.{part-long}
 use Rattle.runs.specs.Answers.{told}
 use Rattle.runs.specs.declared.record.Run.{Run}
-use Rattle.runs.specs.Record.{nextCount, zeros, opened}
+use Rattle.runs.specs.Record.{zeros, nextCount, opened}
 use Rattle.runs.specs.Gate.{Given}
 use Rattle.runs.specs.Forward.{started}
 use Rattle.gate.proofs.FaultLaws.{width-room}
