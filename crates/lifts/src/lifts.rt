@@ -59,21 +59,15 @@ pub fn first(undo: bool, back: &[i64], flips: &[i64], y: &[i64], top: &[i64], bo
     }
 }
 
-// −d(i)·x, or else d(i)·x.
-fn flipped(even: bool, i: usize, x: i64) -> i64
+// −d(i)·x.
+fn flipped(i: usize, x: i64) -> i64
     requires { ⌜ natAbs x ≤ 2 ^ 61 ⌝ }
-    ensures { λ r. ⌜ r ≡ Moves.flipped even i x ⌝ }
+    ensures { λ r. ⌜ r ≡ Moves.flipped i x ⌝ }
 {
     if i % 2 == 1 {
-        if even {
-            return x;
-        }
-        return 0 - x;
+        return x;
     }
-    if even {
-        return 0 - x;
-    }
-    x
+    0 - x
 }
 
 // Stage 2 at a place: −d·top, and the rounded sum added; or the sum taken off, and then the sign.
@@ -87,9 +81,9 @@ fn second_at(undo: bool, back: &[i64], flips: &[i64], y: &[i64], top: &[i64], i:
 {
     let amount = integers::rounded(order::row(back, flips, y, i), 31);
     if undo {
-        return flipped(true, i, top[i] - amount);
+        return flipped(i, top[i] - amount);
     }
-    flipped(true, i, top[i]) + amount
+    flipped(i, top[i]) + amount
 }
 
 pub fn second(undo: bool, back: &[i64], flips: &[i64], y: &[i64], top: &mut [i64])

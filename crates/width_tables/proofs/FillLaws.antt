@@ -19,7 +19,7 @@ use Rattle.steps.specs.Steps.{tangent, sine, alternate}
 use Rattle.products.specs.Own.Products.{Power}
 use Rattle.products.specs.Own.Whole.{LeafLists}
 use Rattle.product_lists.specs.Own.Tables.{Tabled}
-use Rattle.products.proofs.WholeLaws.{power-same}
+use Rattle.products.proofs.LevelRooms.{power-same}
 use Rattle.width_tables.specs.Orders.{angleAt, placeIn, signIn, placeOut, Ordered}
 use Rattle.width_tables.specs.Filled.{part, leavesLong, tablesLong, listRoom, cosineList, secantList, Filled, Lifts, Lists}
 use Rattle.width_tables.proofs.OrderLaws.{out-in}

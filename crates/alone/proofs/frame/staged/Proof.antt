@@ -10,7 +10,7 @@ use Rattle.steps.specs.Steps.{stages}
 use Rattle.runs.specs.Answers.{told, firstBeyond}
 use Rattle.runs.specs.declared.answer.Answer.the-variants.{Done}
 use Rattle.runs.specs.declared.answer.Found.the-variants.{Nothing}
-use Rattle.steps.proofs.Undo.{width-half, length-stages}
+use Rattle.steps.proofs.Lengths.{width-half, length-stages}
 use Rattle.frames.proofs.FrameLaws.{width-in-fours, stages-within}
 use Rattle.runs.proofs.Searches.{none-within}
 use Rattle.runs.proofs.AloneLaws.{stages-refused, stages-done}

@@ -12,7 +12,7 @@ use Rattle.steps.specs.Steps.{unstages}
 use Rattle.runs.specs.Answers.{told, firstBeyond}
 use Rattle.runs.specs.declared.answer.Answer.the-variants.{Done}
 use Rattle.runs.specs.declared.answer.Found.the-variants.{Nothing}
-use Rattle.steps.proofs.Undo.{length-unstages}
+use Rattle.steps.proofs.Lengths.{length-unstages}
 use Rattle.frames.proofs.FrameLaws.{width-in-fours}
 use Rattle.runs.proofs.Searches.{none-within}
 use Rattle.runs.proofs.AloneLaws.{unstages-refused, unstaged-refused, unstages-done}

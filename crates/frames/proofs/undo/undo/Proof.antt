@@ -9,7 +9,7 @@ use lib.ListN.{length}
 use Rattle.integers.specs.Places.{Within}
 use Rattle.steps.specs.Limits.{foldedLimit, coefficientLimit}
 use Rattle.steps.specs.Steps.{unstages}
-use Rattle.steps.proofs.Undo.{length-unstages}
+use Rattle.steps.proofs.Lengths.{length-unstages}
 use Rattle.runs.specs.Answers.{firstBeyond}
 use Rattle.runs.specs.declared.answer.Found.the-variants.{Nothing}
 use Rattle.frames.proofs.FrameLaws.{width-in-fours}
