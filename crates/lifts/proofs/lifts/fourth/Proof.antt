@@ -80,10 +80,15 @@ product-at-requires-3 : tie.Need-product-at-requires-3 Inv-loop μ-loop
 product-at-requires-3 c κs = let l = left (c .before .before .before) (c .before .before .loop-test .taken) in asked (c .before .before .before) (c .before .before .loop-test .taken) (omega (arith, l)) (omega (arith, l))
 
 add-product-at-6 : tie.Need-add-product-at-6 Inv-loop μ-loop
-add-product-at-6 c = record { fits = omega (arith, left (c .before .before .before .before) (c .before .before .before .loop-test .taken)) }
+add-product-at-6 c =
+    let at-loop = c .before .before .before .before in
+    record { fits = omega (arith, left at-loop (c .before .before .before .loop-test .taken)) }
 
 product-at-requires-4 : tie.Need-product-at-requires-4 Inv-loop μ-loop
-product-at-requires-4 c κs = let l = left (c .before .before .before .before) (c .before .before .before .loop-test .taken) in asked (c .before .before .before .before) (c .before .before .before .loop-test .taken) (omega (arith, l)) (omega (arith, l))
+product-at-requires-4 c κs =
+    let at-loop = c .before .before .before .before in
+    let l = left at-loop (c .before .before .before .loop-test .taken) in
+    asked at-loop (c .before .before .before .loop-test .taken) (omega (arith, l)) (omega (arith, l))
 
 -- the amounts of a turn
 module _ (c : tie.After-product-at4 Inv-loop μ-loop) where
@@ -91,7 +96,9 @@ module _ (c : tie.After-product-at4 Inv-loop μ-loop) where
   k = c .before .before .before .before .before
 
   abbrev here : i k < length (list k)
-  here = c .before .before .before .before .loop-test .taken
+  here =
+      let in-loop = c .before .before .before .before in
+      in-loop .loop-test .taken
 
   gaves : Gaves (amount k (length (list k))) (i k) (c .before .before .before .product-at .result) (c .before .before .product-at2 .result) (c .before .product-at3 .result) (c .product-at4 .result)
   gaves =
