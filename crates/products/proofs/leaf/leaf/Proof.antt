@@ -102,17 +102,24 @@ Of l m n x y r = (r .p ≡ l *ℤ x +ℤ n *ℤ (x +ℤ y)) × (r .q ≡ m *ℤ 
 
 first : (c : tie.After-two) → let start = c .before .before .before .before .before .before in let s = start .args in Of (s .l .a) (s .l .b) (s .l .e) (s .x .a) (s .x .b) (c .two .result)
 unfolding Of
-first c =
-    let at-struct-told2 = c .before .before .before .before in
-    two-held (la (at-struct-told2 .before)) (lb at-struct-told2) (le (c .before .before .before)) (xa (c .before .before)) (xb (c .before)) (c .two .ensures)
+first c = let at-struct-told2 = c .before .before .before .before in two-held (la (at-struct-told2 .before)) (lb at-struct-told2) (le (c .before .before .before)) (xa (c .before .before)) (xb (c .before)) (c .two .ensures)
 
 second : (c : tie.After-two2) → let start = c .before .before .before .before .before .before .before .before .before .before .before .before in let s = start .args in Of (s .l .c) (s .l .d) (s .l .f) (s .x .c) (s .x .d) (c .two2 .result)
 unfolding Of
-second c =
-    let at-struct-told7 = c .before .before .before .before in
-    two-held (lc (at-struct-told7 .before)) (ld at-struct-told7) (lf (c .before .before .before)) (xc (c .before .before)) (xd (c .before)) (c .two2 .ensures)
+second c = let at-struct-told7 = c .before .before .before .before in two-held (lc (at-struct-told7 .before)) (ld at-struct-told7) (lf (c .before .before .before)) (xc (c .before .before)) (xd (c .before)) (c .two2 .ensures)
 
-middle : (c : tie.After-two3) → let start = c .before .before .before .before .before .before .before .before .before .before .before .before .before .before .before .before .before .before .before .before in let s = start .args in Of (s .l .g) (s .l .h) (s .l .i) (s .x .a +ℤ s .x .c) (s .x .b +ℤ s .x .d) (c .two3 .result)
+-- the points that the sums go back to
+module _ (c : tie.After-two3) where
+  abbrev at-two2 : tie.After-two2
+  at-two2 = c .before .before .before .before .before .before .before .before
+
+  abbrev at-two : tie.After-two
+  at-two = at-two2 .before .before .before .before .before .before
+
+  abbrev start : tie.Start
+  start = at-two .before .before .before .before .before .before
+
+middle : (c : tie.After-two3) → let s = start c .args in Of (s .l .g) (s .l .h) (s .l .i) (s .x .a +ℤ s .x .c) (s .x .b +ℤ s .x .d) (c .two3 .result)
 unfolding Of
 middle c =
     let at-struct-told10 = c .before .before .before .before .before .before .before .before .before in
@@ -120,63 +127,53 @@ middle c =
     let start = at-struct-told5 .before .before .before .before .before in
     two-held (lg (c .before .before .before)) (lh (c .before .before)) (li (c .before)) (h-add (xa (at-struct-told5 .before)) (xc (at-struct-told10 .before)) (fits-02 start)) (h-add (xb at-struct-told5) (xd at-struct-told10) (fits-13 start)) (c .two3 .ensures)
 
-module _ (c : tie.After-two3) (g : ℕ → ℤ) (e : listedNine (c .before .before .before .before .before .before .before .before .before .before .before .before .before .before .before .before .before .before .before .before .args .l) ≡ nine g) where
-  sum-a : let at-two = c .before .before .before .before .before .before .before .before .before .before .before .before .before .before in let start = at-two .before .before .before .before .before .before in at-two .two .result .p +ℤ c .two3 .result .p ≡ product 4 g (at (listed (start .args .x))) 0
+module _ (c : tie.After-two3) (g : ℕ → ℤ) (e : listedNine (start c .args .l) ≡ nine g) where
+  sum-a : at-two c .two .result .p +ℤ c .two3 .result .p ≡ product 4 g (at (listed (start c .args .x))) 0
   unfolding Of
   sum-a =
-      let at-two = c .before .before .before .before .before .before .before .before .before .before .before .before .before .before in
-      let start = at-two .before .before .before .before .before .before in
-      let a = at (listed (start .args .x)) in
-      ap₂ _+ℤ_ (first at-two .0) (middle c .0)
+      let a = at (listed (start c .args .x)) in
+      ap₂ _+ℤ_ (first (at-two c) .0) (middle c .0)
       ∙ ap (λ t. (at t 0 *ℤ a 0 +ℤ at t 4 *ℤ (a 0 +ℤ a 1)) +ℤ (at t 6 *ℤ (a 0 +ℤ a 2) +ℤ at t 8 *ℤ ((a 0 +ℤ a 2) +ℤ (a 1 +ℤ a 3)))) e
       ∙ leaf-first g a
 
-  sum-b : let at-two = c .before .before .before .before .before .before .before .before .before .before .before .before .before .before in let start = at-two .before .before .before .before .before .before in at-two .two .result .q +ℤ c .two3 .result .q ≡ product 4 g (at (listed (start .args .x))) 1
+  sum-b : at-two c .two .result .q +ℤ c .two3 .result .q ≡ product 4 g (at (listed (start c .args .x))) 1
   unfolding Of
   sum-b =
-      let at-two = c .before .before .before .before .before .before .before .before .before .before .before .before .before .before in
-      let start = at-two .before .before .before .before .before .before in
-      let a = at (listed (start .args .x)) in
-      ap₂ _+ℤ_ (first at-two .1) (middle c .1)
+      let a = at (listed (start c .args .x)) in
+      ap₂ _+ℤ_ (first (at-two c) .1) (middle c .1)
       ∙ ap (λ t. (at t 1 *ℤ a 1 +ℤ at t 4 *ℤ (a 0 +ℤ a 1)) +ℤ (at t 7 *ℤ (a 1 +ℤ a 3) +ℤ at t 8 *ℤ ((a 0 +ℤ a 2) +ℤ (a 1 +ℤ a 3)))) e
       ∙ leaf-second g a
 
-  sum-c : let at-two2 = c .before .before .before .before .before .before .before .before in let start = at-two2 .before .before .before .before .before .before .before .before .before .before .before .before in at-two2 .two2 .result .p +ℤ c .two3 .result .p ≡ product 4 g (at (listed (start .args .x))) 2
+  sum-c : at-two2 c .two2 .result .p +ℤ c .two3 .result .p ≡ product 4 g (at (listed (start c .args .x))) 2
   unfolding Of
   sum-c =
-      let at-two2 = c .before .before .before .before .before .before .before .before in
-      let start = at-two2 .before .before .before .before .before .before .before .before .before .before .before .before in
-      let a = at (listed (start .args .x)) in
-      ap₂ _+ℤ_ (second at-two2 .0) (middle c .0)
+      let a = at (listed (start c .args .x)) in
+      ap₂ _+ℤ_ (second (at-two2 c) .0) (middle c .0)
       ∙ ap (λ t. (at t 2 *ℤ a 2 +ℤ at t 5 *ℤ (a 2 +ℤ a 3)) +ℤ (at t 6 *ℤ (a 0 +ℤ a 2) +ℤ at t 8 *ℤ ((a 0 +ℤ a 2) +ℤ (a 1 +ℤ a 3)))) e
       ∙ leaf-third g a
 
-  sum-d : let at-two2 = c .before .before .before .before .before .before .before .before in let start = at-two2 .before .before .before .before .before .before .before .before .before .before .before .before in at-two2 .two2 .result .q +ℤ c .two3 .result .q ≡ product 4 g (at (listed (start .args .x))) 3
+  sum-d : at-two2 c .two2 .result .q +ℤ c .two3 .result .q ≡ product 4 g (at (listed (start c .args .x))) 3
   unfolding Of
   sum-d =
-      let at-two2 = c .before .before .before .before .before .before .before .before in
-      let start = at-two2 .before .before .before .before .before .before .before .before .before .before .before .before in
-      let a = at (listed (start .args .x)) in
-      ap₂ _+ℤ_ (second at-two2 .1) (middle c .1)
+      let a = at (listed (start c .args .x)) in
+      ap₂ _+ℤ_ (second (at-two2 c) .1) (middle c .1)
       ∙ ap (λ t. (at t 3 *ℤ a 3 +ℤ at t 5 *ℤ (a 2 +ℤ a 3)) +ℤ (at t 7 *ℤ (a 1 +ℤ a 3) +ℤ at t 8 *ℤ ((a 0 +ℤ a 2) +ℤ (a 1 +ℤ a 3)))) e
       ∙ leaf-fourth g a
 
-fits-sum-a : (c : tie.After-two3) → let at-two = c .before .before .before .before .before .before .before .before .before .before .before .before .before .before in SFits w64 (at-two .two .result .p +ℤ c .two3 .result .p)
-fits-sum-a c = let s = c .before .before .before .before .before .before .before .before .before .before .before .before .before .before .before .before .before .before .before .before in subst (SFits w64) (sym (sum-a c (s .pre .list) (s .pre .is))) (small w64 _ (omega (arith, fit-product (s .pre .sized) (s .pre .fits) 0)))
+fits-sum-a : (c : tie.After-two3) → SFits w64 (at-two c .two .result .p +ℤ c .two3 .result .p)
+fits-sum-a c = let s = start c in subst (SFits w64) (sym (sum-a c (s .pre .list) (s .pre .is))) (small w64 _ (omega (arith, fit-product (s .pre .sized) (s .pre .fits) 0)))
 
-fits-sum-b : (c : tie.After-two3) → let at-two = c .before .before .before .before .before .before .before .before .before .before .before .before .before .before in SFits w64 (at-two .two .result .q +ℤ c .two3 .result .q)
-fits-sum-b c = let s = c .before .before .before .before .before .before .before .before .before .before .before .before .before .before .before .before .before .before .before .before in subst (SFits w64) (sym (sum-b c (s .pre .list) (s .pre .is))) (small w64 _ (omega (arith, fit-product (s .pre .sized) (s .pre .fits) 1)))
+fits-sum-b : (c : tie.After-two3) → SFits w64 (at-two c .two .result .q +ℤ c .two3 .result .q)
+fits-sum-b c = let s = start c in subst (SFits w64) (sym (sum-b c (s .pre .list) (s .pre .is))) (small w64 _ (omega (arith, fit-product (s .pre .sized) (s .pre .fits) 1)))
 
-fits-sum-c : (c : tie.After-two3) → let at-two2 = c .before .before .before .before .before .before .before .before in SFits w64 (at-two2 .two2 .result .p +ℤ c .two3 .result .p)
-fits-sum-c c = let s = c .before .before .before .before .before .before .before .before .before .before .before .before .before .before .before .before .before .before .before .before in subst (SFits w64) (sym (sum-c c (s .pre .list) (s .pre .is))) (small w64 _ (omega (arith, fit-product (s .pre .sized) (s .pre .fits) 2)))
+fits-sum-c : (c : tie.After-two3) → SFits w64 (at-two2 c .two2 .result .p +ℤ c .two3 .result .p)
+fits-sum-c c = let s = start c in subst (SFits w64) (sym (sum-c c (s .pre .list) (s .pre .is))) (small w64 _ (omega (arith, fit-product (s .pre .sized) (s .pre .fits) 2)))
 
-fits-sum-d : (c : tie.After-two3) → let at-two2 = c .before .before .before .before .before .before .before .before in SFits w64 (at-two2 .two2 .result .q +ℤ c .two3 .result .q)
-fits-sum-d c = let s = c .before .before .before .before .before .before .before .before .before .before .before .before .before .before .before .before .before .before .before .before in subst (SFits w64) (sym (sum-d c (s .pre .list) (s .pre .is))) (small w64 _ (omega (arith, fit-product (s .pre .sized) (s .pre .fits) 3)))
+fits-sum-d : (c : tie.After-two3) → SFits w64 (at-two2 c .two2 .result .q +ℤ c .two3 .result .q)
+fits-sum-d c = let s = start c in subst (SFits w64) (sym (sum-d c (s .pre .list) (s .pre .is))) (small w64 _ (omega (arith, fit-product (s .pre .sized) (s .pre .fits) 3)))
 
 two-requires : tie.Need-two-requires
-two-requires c κs =
-    let at-struct-told = c .before .before .before .before in
-    fit-held (la at-struct-told) (lb (c .before .before .before)) (le (c .before .before)) (xa (c .before)) (xb c) (fit-1 (at-struct-told .before))
+two-requires c κs = let at-struct-told = c .before .before .before .before in fit-held (la at-struct-told) (lb (c .before .before .before)) (le (c .before .before)) (xa (c .before)) (xb c) (fit-1 (at-struct-told .before))
 
 two-requires-2 : tie.Need-two-requires-2
 two-requires-2 c κs =
@@ -206,19 +203,13 @@ two-requires-3 c κs =
     fit-held (lg (c .before .before)) (lh (c .before)) (li c) (h-add (xa (at-struct-told5 .before)) (xc (at-struct-told10 .before)) (fits-02 start)) (h-add (xb at-struct-told5) (xd at-struct-told10) (fits-13 start)) (fit-3 start)
 
 add-t6 : tie.Need-add-t6
-add-t6 c =
-    let at-two3 = c .before .before .before .before in
-    asks-add (first-p (c .before .before)) (middle-p c) (fits-sum-a at-two3)
+add-t6 c = let at-two3 = c .before .before .before .before in asks-add (first-p (c .before .before)) (middle-p c) (fits-sum-a at-two3)
 
 add-t7 : tie.Need-add-t7
-add-t7 c =
-    let at-two3 = c .before .before .before .before .before .before .before .before in
-    asks-add (first-q (c .before .before)) (middle-q c) (fits-sum-b at-two3)
+add-t7 c = let at-two3 = c .before .before .before .before .before .before .before .before in asks-add (first-q (c .before .before)) (middle-q c) (fits-sum-b at-two3)
 
 add-t8 : tie.Need-add-t8
-add-t8 c =
-    let at-two3 = c .before .before .before .before .before .before .before .before .before .before .before .before in
-    asks-add (second-p (c .before .before)) (middle-p2 c) (fits-sum-c at-two3)
+add-t8 c = let at-two3 = c .before .before .before .before .before .before .before .before .before .before .before .before in asks-add (second-p (c .before .before)) (middle-p2 c) (fits-sum-c at-two3)
 
 add-t9 : tie.Need-add-t9
 add-t9 c =
