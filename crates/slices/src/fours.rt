@@ -27,6 +27,18 @@ pub fn taken(x: &[i64], p: usize) -> Four
     }
 }
 
+// From the last to the first.
+pub fn turned(x: Four) -> Four
+    ensures { λ r. ⌜ listed r ≡ places 4 (λ j. at (listed x) (3 - j)) ⌝ }
+{
+    Four {
+        a: x.d,
+        b: x.c,
+        c: x.b,
+        d: x.a,
+    }
+}
+
 pub fn put(x: &mut [i64], p: usize, f: Four)
     requires { ⌜ p + 4 ≤ length (now x) ⌝ }
     ensures { λ _. ⌜ now (x .exit) ≡ stored (now (x .entry)) p f ⌝ }

@@ -4,6 +4,7 @@ use mathlib.Core.List.{List}
 use Prim.Native.Nat.{ℕ, _+_, _^_, _≤_, _<_}
 use lib.IntN.{ℤ, pos, negℤ, natAbs, _+ℤ_, _-ℤ_, _*ℤ_}
 use lib.ListN.{length}
+use Rattle.integers.specs.Floor.{round}
 use Rattle.integers.specs.Places.{at, Within}
 use Rattle.steps.specs.Steps.{alternate}
 use Rattle.slices.specs.declared.fours.Four.{Four}
@@ -13,6 +14,10 @@ use Rattle.rows.specs.Orders.{rowAt, secantOut}
 -- the four numbers from place i on, each with its amount
 abbrev pub movedFour : Bool → List ℤ → ℕ → Four → Four
 movedFour undo y i f = record { a = moved undo (at y i) (f .a); b = moved undo (at y (i + 1)) (f .b); c = moved undo (at y (i + 2)) (f .c); d = moved undo (at y (i + 3)) (f .d) }
+
+-- the rounded products of four numbers and of four others from their end
+abbrev pub products : Four → Four → Four
+products c x = record { a = round 28 (c .a *ℤ x .d); b = round 28 (c .b *ℤ x .c); c = round 28 (c .c *ℤ x .b); d = round 28 (c .d *ℤ x .a) }
 
 -- −d(i)·z
 unfoldable pub flipped : ℕ → ℤ → ℤ
