@@ -14,7 +14,7 @@ use Rattle.integers.proofs.PlaceLaws.{within-up}
 use Rattle.tables.specs.Widths.{halfWidth}
 use Rattle.steps.specs.Limits.{foldedLimit}
 use Rattle.steps.specs.Steps.{stages, unstages}
-use Rattle.steps.proofs.Undo.{width-half, length-stages, length-unstages}
+use Rattle.steps.proofs.Lengths.{width-half, length-stages, length-unstages}
 use Rattle.runs.specs.Answers.{told, firstBeyond}
 use Rattle.runs.specs.declared.answer.Answer.{Answer}
 use Rattle.runs.specs.declared.answer.Found.{Found}

@@ -12,7 +12,7 @@ use Rattle.tables.specs.Widths.{halfWidth}
 use Rattle.steps.specs.Limits.{foldedLimit}
 use Rattle.steps.specs.Steps.{topOf, bottomOf, stages, unstages, interleaved}
 use Rattle.slices.specs.Own.Moves.{wovenAt}
-use Rattle.steps.proofs.Undo.{width-half}
+use Rattle.steps.proofs.Lengths.{width-half}
 use Rattle.stages.proofs.PartLaws.{half-in-fours}
 use Rattle.stages.proofs.FrameSizes.{within4, within5}
 use Rattle.stages.specs.Own.Stages.{bottom1, top2, bottom3, top4, bottom5, unbottom5, untop4, unbottom3, untop2, unbottom1}

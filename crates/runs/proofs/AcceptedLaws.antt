@@ -12,7 +12,8 @@ use Rattle.integers.specs.Vectors.{AllAbs}
 use Rattle.tables.specs.Widths.{halfWidth}
 use Rattle.steps.specs.Limits.{readingLimit, foldedLimit}
 use Rattle.steps.specs.Steps.{lower, held, frame, unstages, unfolded}
-use Rattle.steps.proofs.Undo.{length-unstages, length-unfolded, stages-unstages, width-half}
+use Rattle.steps.proofs.Lengths.{length-unstages, length-unfolded, width-half}
+use Rattle.steps.proofs.Undo.{stages-unstages}
 use Rattle.runs.specs.Answers.{beyond}
 use Rattle.distance.specs.Statement.{IsWidth, Block}
 use Rattle.runs.specs.declared.record.Run.{Run}

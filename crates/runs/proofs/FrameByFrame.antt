@@ -7,7 +7,8 @@ use lib.IntN.{ℤ}
 use lib.ListN.{length, take, drop, length-drop, take-append-drop, drop-of-length-le}
 use lib.Seq.{length-take-le, take-at, drop-at}
 use Rattle.steps.specs.Steps.{lower, held, frame, unfolded}
-use Rattle.steps.proofs.Undo.{width-half, lower-unfolded, held-unfolded}
+use Rattle.steps.proofs.Lengths.{width-half}
+use Rattle.steps.proofs.Undo.{lower-unfolded, held-unfolded}
 use Rattle.steps.proofs.ZeroBlock.{lower-zeros}
 use Rattle.distance.specs.Statement.{IsWidth}
 use Rattle.runs.specs.Record.{frameLimit, opened}

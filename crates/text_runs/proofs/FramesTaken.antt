@@ -11,7 +11,8 @@ use lib.IntN.{ℤ}
 use lib.ListN.{length, take}
 use Rattle.tables.specs.Widths.{halfWidth}
 use Rattle.steps.specs.Steps.{held, frame, unfolded}
-use Rattle.steps.proofs.Undo.{width-half, lower-unfolded, held-unfolded}
+use Rattle.steps.proofs.Lengths.{width-half}
+use Rattle.steps.proofs.Undo.{lower-unfolded, held-unfolded}
 use Rattle.steps.proofs.ZeroBlock.{lower-zeros}
 use Rattle.runs.specs.declared.record.Run.{Run}
 use Rattle.runs.specs.Record.{frameLimit, zeros, opened}

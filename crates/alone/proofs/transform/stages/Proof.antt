@@ -13,7 +13,7 @@ use Rattle.tables.proofs.Reading.{half-is}
 use Rattle.steps.specs.Limits.{foldedLimit}
 use Rattle.steps.specs.Steps.{topOf, bottomOf}
 use Rattle.stages.specs.Own.Stages.{top4, bottom5}
-use Rattle.steps.proofs.Undo.{width-half, length-top, length-bottom}
+use Rattle.steps.proofs.Lengths.{width-half, length-top, length-bottom}
 use Rattle.stages.proofs.FrameSizes.{long4, long5}
 use Rattle.slices.proofs.Parts.{part-long, front-le, rest-long, rest-put}
 use Rattle.frames.proofs.FrameLaws.{read-evens, read-odds, stages-halves, top-within, bottom-within}

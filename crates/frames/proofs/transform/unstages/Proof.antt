@@ -13,7 +13,7 @@ use Rattle.tables.proofs.Reading.{half-is}
 use Rattle.slices.specs.Own.Moves.{wovenAt}
 use Rattle.stages.specs.Own.Stages.{untop2, unbottom1}
 use Rattle.steps.specs.Limits.{coefficientLimit}
-use Rattle.steps.proofs.Undo.{width-half}
+use Rattle.steps.proofs.Lengths.{width-half}
 use Rattle.stages.proofs.PartLaws.{half-in-fours}
 use Rattle.stages.proofs.FrameSizes.{unlong2, unlong1}
 use Rattle.slices.proofs.Parts.{part-long}

@@ -8,7 +8,7 @@ use lib.ListN.{length}
 use Rattle.integers.specs.Places.{Within}
 use Rattle.steps.specs.Limits.{foldedLimit}
 use Rattle.steps.specs.Steps.{unstages}
-use Rattle.steps.proofs.Undo.{length-unstages}
+use Rattle.steps.proofs.Lengths.{length-unstages}
 use Rattle.runs.specs.Answers.{told}
 use Rattle.runs.specs.Record.{opened}
 use Rattle.runs.specs.Back.{unfoldedIn}

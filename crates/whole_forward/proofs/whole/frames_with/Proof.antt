@@ -10,7 +10,7 @@ use Rattle.tables.specs.Widths.{halfWidth}
 use Rattle.tables.proofs.Reading.{half-is}
 use Rattle.steps.specs.Limits.{readingLimit}
 use Rattle.steps.specs.Steps.{held, frame}
-use Rattle.steps.proofs.Undo.{length-held}
+use Rattle.steps.proofs.Lengths.{length-held}
 use Rattle.slices.proofs.Parts.{part-long, front}
 use Rattle.runs.specs.Record.{blockLimit, zeros}
 use Rattle.gate.proofs.GateLaws.{rest-part}
