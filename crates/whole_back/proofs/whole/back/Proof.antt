@@ -41,17 +41,17 @@ module _ (e : tie.Else1) where
   none = sym (e .before .number .ensures) ∙ e .if1 .left
 
   has-width : halfWidth (N start) ≡ 0 → ⊥
-  has-width = parts-width (N start) (length (frames start)) 1 frameLimit _ (asked .in-parts .ensures) none
+  has-width = parts-width (N start) (length (frames start)) _ _ _ (asked .in-parts .ensures) none
 
   remainder : length (frames start) % N start ≡ 0
-  remainder = parts-whole (N start) (length (frames start)) 1 frameLimit _ (asked .in-parts .ensures) none
+  remainder = parts-whole (N start) (length (frames start)) _ _ _ (asked .in-parts .ensures) none
 
   whole : Frames (N start) (frames start)
   whole = record {
     wide = omega (arith, has-width);
     whole = whole-blocks (N start) (frames start) remainder;
-    some = parts-least (N start) (length (frames start)) 1 frameLimit _ (asked .in-parts .ensures) none;
-    few = parts-most (N start) (length (frames start)) 1 frameLimit _ (asked .in-parts .ensures) none;
+    some = parts-least (N start) (length (frames start)) _ _ _ (asked .in-parts .ensures) none;
+    few = parts-most (N start) (length (frames start)) _ _ _ (asked .in-parts .ensures) none;
   }
 
   some : 0 < length (frames start)

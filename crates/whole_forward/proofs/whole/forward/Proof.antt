@@ -43,16 +43,16 @@ module _ (e : tie.Else1) where
   none = sym (e .before .number .ensures) ∙ e .if1 .left
 
   has-width : halfWidth (N start) ≡ 0 → ⊥
-  has-width = parts-width (N start) (length (readings start)) 0 blockLimit _ (asked .in-parts .ensures) none
+  has-width = parts-width (N start) (length (readings start)) _ _ _ (asked .in-parts .ensures) none
 
   wide : 0 < halfWidth (N start)
   wide = omega (arith, has-width)
 
   whole : length (readings start) % N start ≡ 0
-  whole = parts-whole (N start) (length (readings start)) 0 blockLimit _ (asked .in-parts .ensures) none
+  whole = parts-whole (N start) (length (readings start)) _ _ _ (asked .in-parts .ensures) none
 
   few : length (readings start) / N start ≤ blockLimit
-  few = parts-most (N start) (length (readings start)) 0 blockLimit _ (asked .in-parts .ensures) none
+  few = parts-most (N start) (length (readings start)) _ _ _ (asked .in-parts .ensures) none
 
   blocks : Blocks (N start) (readings start)
   blocks = record { wide = wide; whole = whole-blocks (N start) (readings start) whole; some = few }
