@@ -10,12 +10,13 @@ use Rattle.steps.specs.Steps.{lower, held, frame, unfolded}
 use Rattle.steps.proofs.Undo.{width-half, lower-unfolded, held-unfolded}
 use Rattle.steps.proofs.ZeroBlock.{lower-zeros}
 use Rattle.distance.specs.Statement.{IsWidth}
+use Rattle.runs.specs.Answers.{placed}
 use Rattle.runs.specs.Record.{frameLimit, opened}
 use Rattle.runs.specs.Calls.{blockAt}
 use Rattle.runs.specs.Whole.{joined}
 use Rattle.runs.proofs.EveryList.{AllBlocks, blocks-none, blocks-one}
 use Rattle.runs.specs.Back.{takenBack}
-use Rattle.runs.specs.WholeBack.{placed, answerFrom, outputsFrom}
+use Rattle.runs.specs.WholeBack.{answerFrom, outputsFrom}
 use Rattle.runs.proofs.BackLaws.{ReachedBack, back-block, lowHalf, highHalf, frame-long, later-taken, ended-works}
 use Rattle.runs.proofs.OneByOne.{answer-next, outputs-next, here-taken}
 use Rattle.runs.proofs.MadeFrames.{framesAfter}

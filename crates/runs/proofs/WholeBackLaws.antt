@@ -9,13 +9,13 @@ use lib.Dec.{eqb}
 use lib.IntN.{ℤ}
 use lib.ListN.{length, take, drop, length-append, length-take, length-drop}
 use Rattle.tables.specs.Widths.{halfWidth}
-use Rattle.runs.specs.Answers.{told}
+use Rattle.runs.specs.Answers.{told, placed}
 use Rattle.runs.specs.declared.answer.Answer.the-variants.{Width, InputLength, OutputLength}
 use Rattle.runs.specs.declared.record.Run.{Run}
 use Rattle.runs.specs.Record.{frameLimit, zeros}
 use Rattle.runs.specs.Forward.{started}
 use Rattle.runs.specs.Back.{takenBack, endedBack}
-use Rattle.runs.specs.WholeBack.{placed, answerFrom, allOutputs, firstAnswer, oneByOne, wholeBack}
+use Rattle.runs.specs.WholeBack.{answerFrom, allOutputs, firstAnswer, oneByOne, wholeBack}
 use Rattle.runs.proofs.AnswerLaws.{taken-alike}
 
 -- ---- an answer whose number is 0 names no place

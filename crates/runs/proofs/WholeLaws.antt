@@ -14,7 +14,7 @@ use Rattle.integers.specs.Places.{tab, at}
 use Rattle.integers.specs.Vectors.{Rows}
 use Rattle.integers.proofs.PlaceLaws.{length-tab}
 use Rattle.tables.specs.Widths.{halfWidth}
-use Rattle.runs.specs.Answers.{told}
+use Rattle.runs.specs.Answers.{told, placed}
 use Rattle.runs.specs.declared.answer.Answer.the-variants.{Width, InputLength, OutputLength}
 use Rattle.distance.specs.Statement.{IsWidth}
 use Rattle.runs.specs.declared.record.Run.{Run}
@@ -32,12 +32,12 @@ AllWork [] = Unit {0}
 AllWork (m ∷ ms) = (works m ≡ true) × AllWork ms
 
 all-work : (N before : ℕ) (ms : List Made) → firstRefusal N before ms ≡ (0, 0) → AllWork ms
-unfolding firstRefusal works
+unfolding firstRefusal placed works
 all-work N before [] e = tt
 all-work N before (m ∷ ms) e = by (all-work N (before + N) ms) (works m) refl e
   where
     by : (firstRefusal N (before + N) ms ≡ (0, 0) → AllWork ms) → (w : Bool) → works m ≡ w
-        → cond w (firstRefusal N (before + N) ms) (m .given .0 .0, before + m .given .0 .1) ≡ (0, 0) → (works m ≡ true) × AllWork ms
+        → cond w (firstRefusal N (before + N) ms) (placed N before (m .given .0)) ≡ (0, 0) → (works m ≡ true) × AllWork ms
     by rest true d e = (d, rest e)
     by rest false d e = absurd (eqb-false (m .given .0 .0) 0 d (ap (λ p. p .0) e))
 

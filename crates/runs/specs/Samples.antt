@@ -13,7 +13,7 @@ use Rattle.tables.specs.Angles.{halfTurn, reflected, minus, signed}
 use Rattle.tables.specs.Numbers.{sines, halfTangents, halfTangents8, secants, secants8, cosineOf, sineOf, halfTangentOf, secantOf}
 use Rattle.steps.specs.Steps.{rootLog, tangent, sine, cosine, oddOf, secant, alternate, tangentAmount, sineAmount, rotatedA, rotatedB, lower, held, topOf, bottomOf, amount1, amount2, amount3, stage1, stage2, stage3, stage4, stage5, stages, frame, unrotatedA, unrotatedB, unfolded, unstage1, unstage2, unstage3, unstage4, unstage5, interleaved, unstages}
 use Rattle.runs.specs.declared.record.Run.{Run}
-use Rattle.runs.specs.Answers.{first, beyond}
+use Rattle.runs.specs.Answers.{placed, first, beyond}
 use Rattle.runs.specs.Alone.{refusedAt, shaped, stagesAsked, stagesAlone, unstagesAsked, unstagesAlone}
 use Rattle.runs.specs.Record.{zeros, recordOf, nextCount, filled, opened, advanced, closed}
 use Rattle.runs.specs.Gate.{Given, ask, askEach, nothing, inside, every, sound, dead, admitted}
@@ -173,6 +173,11 @@ ends-given : Said {A = Given}
 unfolding halfWidth byWidth first beyond ask askEach nothing inside every sound admitted filled opened closed started firstHeld endedBack
 ends-given = refl
 
+-- ---- places through a run, with 16 numbers before: none, one of this block, one of the block before
+places-given : placed 8 16 (7, 0) ∷ placed 8 16 (8, 3) ∷ placed 8 16 (12, 3) ∷ [] ≡ (7, 0) ∷ (8, 19) ∷ (12, 11) ∷ []
+unfolding placed
+places-given = refl
+
 -- ---- whole runs forward: 1, 6 and 7; a place counted through the run, and nothing written; no block, and one
 whole-given : Said {A = (ℕ × ℕ) × List ℤ}
     ((wholeForward 9 (zeros 9) (ones 18), ((1, 0), ones 18))
@@ -182,7 +187,7 @@ whole-given : Said {A = (ℕ × ℕ) × List ℤ}
     ∷ (wholeForward 8 [] output, ((0, 0), zeros 8))
     ∷ (wholeForward 8 sample (ones 16), ((0, 0), one ++ two))
     ∷ [])
-unfolding wholeForward oneByOne callsOf firstRefusal outputs works made give byWidth halfWidth halfTurn reflected minus signed sines halfTangents halfTangents8 secants secants8 cosineOf sineOf halfTangentOf secantOf round floorDiv tab sum rootLog tangent sine cosine oddOf secant alternate tangentAmount sineAmount rotatedA rotatedB lower held topOf bottomOf amount1 amount2 amount3 stage1 stage2 stage3 stage4 stage5 stages frame first beyond ask askEach nothing inside every sound admitted filled opened advanced closed started frameOn takenIn taken ended dead
+unfolding wholeForward oneByOne callsOf firstRefusal placed outputs works made give byWidth halfWidth halfTurn reflected minus signed sines halfTangents halfTangents8 secants secants8 cosineOf sineOf halfTangentOf secantOf round floorDiv tab sum rootLog tangent sine cosine oddOf secant alternate tangentAmount sineAmount rotatedA rotatedB lower held topOf bottomOf amount1 amount2 amount3 stage1 stage2 stage3 stage4 stage5 stages frame first beyond ask askEach nothing inside every sound admitted filled opened advanced closed started frameOn takenIn taken ended dead
 whole-given = refl
 
 -- ---- whole runs back: 1, 6 and 7; places counted through the run, 12 by blocks and the finish with the last frame; one block, and two
@@ -198,7 +203,7 @@ whole-back-given : Said {A = (ℕ × ℕ) × List ℤ}
     ∷ (Back.wholeBack 8 (one ++ two) output, ((0, 0), sample))
     ∷ (Back.wholeBack 8 (one ++ between ++ two) (ones 16), ((0, 0), sample ++ sample))
     ∷ [])
-unfolding Back.wholeBack Back.oneByOne Back.firstAnswer Back.allOutputs Back.answerFrom Back.outputsFrom Back.placed byWidth halfWidth halfTurn reflected minus signed sines halfTangents halfTangents8 secants secants8 cosineOf sineOf halfTangentOf secantOf round floorDiv tab sum rootLog tangent sine cosine oddOf secant alternate tangentAmount sineAmount unrotatedA unrotatedB unfolded amount1 amount2 amount3 unstage1 unstage2 unstage3 unstage4 unstage5 interleaved unstages first beyond ask askEach nothing inside every sound admitted filled opened closed started framed blockOn firstUpper firstFrame laterFrame unfoldedIn undoneIn takenBack firstHeld endedBack
+unfolding Back.wholeBack Back.oneByOne Back.firstAnswer Back.allOutputs Back.answerFrom Back.outputsFrom placed byWidth halfWidth halfTurn reflected minus signed sines halfTangents halfTangents8 secants secants8 cosineOf sineOf halfTangentOf secantOf round floorDiv tab sum rootLog tangent sine cosine oddOf secant alternate tangentAmount sineAmount unrotatedA unrotatedB unfolded amount1 amount2 amount3 unstage1 unstage2 unstage3 unstage4 unstage5 interleaved unstages first beyond ask askEach nothing inside every sound admitted filled opened closed started framed blockOn firstUpper firstFrame laterFrame unfoldedIn undoneIn takenBack firstHeld endedBack
 whole-back-given = refl
 
 -- ---- there and back: two blocks, their frames, call by call

@@ -10,7 +10,7 @@ use Rattle.integers.specs.Places.{Within}
 use Rattle.integers.proofs.PlaceLaws.{within-all}
 use Rattle.tables.specs.Widths.{halfWidth}
 use Rattle.steps.specs.Limits.{foldedLimit}
-use Rattle.runs.specs.Answers.{told, firstBeyond}
+use Rattle.runs.specs.Answers.{told, placed, firstBeyond}
 use Rattle.runs.specs.declared.answer.Found.{Found}
 use Rattle.runs.specs.declared.answer.Found.the-variants.{At, Nothing}
 use Rattle.runs.specs.declared.record.Run.{Run}
@@ -21,7 +21,6 @@ use Rattle.frames.specs.declared.undo.Fault.{Fault}
 use Rattle.frames.specs.declared.undo.Fault.the-variants.{Range, Folded, Halves, Unfolded, Clear}
 use Rattle.frames.specs.Own.Faults.{toldFault, countAfter, toldHeld}
 use Rattle.runs.specs.Back.{undoneIn, takenBack, firstHeld, endedBack}
-use Rattle.runs.specs.WholeBack.{placed}
 use Rattle.runs.proofs.AnswerLaws.{undone-alike}
 use Rattle.runs.proofs.BackLaws.{ReachedBack, back-sound, taken-undone}
 use Rattle.runs.proofs.AcceptedLaws.{low-long, undone-next}

@@ -8,13 +8,13 @@ ghost use Rattle.tables.specs.Widths.{halfWidth};
 ghost use Rattle.steps.specs.Limits.{foldedLimit};
 ghost use Rattle.width_tables.specs.Filled.{Filled};
 ghost use Rattle.width_tables.specs.Own.Parts.{Halves, Room};
+ghost use Rattle.runs.specs.Answers;
 ghost use Rattle.runs.specs.Answers.{told, firstBeyond};
 ghost use Rattle.runs.specs.Record.{zeros, opened};
 ghost use Rattle.runs.specs.Forward.{started};
 ghost use Rattle.gate.specs.Own.Ready.{Blocks};
 ghost use Rattle.runs.specs.Back.{takenBack};
 ghost use Rattle.frames.specs.Own.Faults.{toldHeld};
-ghost use Rattle.runs.specs.WholeBack;
 ghost use Rattle.runs.specs.WholeBack.{answerFrom, outputsFrom, firstAnswer, allOutputs, oneByOne, wholeBack};
 ghost use Rattle.whole_back.specs.Own.Ready.{Frames};
 use calls_back::back;
@@ -30,7 +30,7 @@ use width_tables::fill;
 // An answer with its place counted through the run; 12 counts by blocks.
 fn placed(width: usize, offset: usize, answer: Answer) -> Answer
     requires { ⌜ (offset ≤ 8388736) × (told answer .1 ≤ 128) ⌝ }
-    ensures { λ r. ⌜ told r ≡ WholeBack.placed width offset (told answer) ⌝ }
+    ensures { λ r. ⌜ told r ≡ Answers.placed width offset (told answer) ⌝ }
 {
     match answer {
         Answer::DeadMark(i) => Answer::DeadMark(offset + i),

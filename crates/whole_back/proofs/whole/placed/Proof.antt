@@ -2,8 +2,7 @@
 use borrow.Author.Needs.{needs}
 use native.Mathlib.Omega.{arith}
 use mathlib.Core.Path.{refl}
-use Rattle.runs.specs.Answers.{told}
-use Rattle.runs.specs.WholeBack.{placed}
+use Rattle.runs.specs.Answers.{told, placed}
 use Rattle.whole_back.proofs.PlacedLaws.{place-le, known, placed-first}
 use Rattle.whole_back.proofs.whole.placed.Statement.{statement}
 use Rattle.whole_back.proofs.whole.placed.Tie as tie
