@@ -1,3 +1,4 @@
+pub mod Sample
 pub mod ByWidth
 pub mod Quadrants
 pub mod Reading
