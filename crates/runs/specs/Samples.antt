@@ -23,8 +23,9 @@ use Rattle.runs.specs.Lists.{madeFrom, blocksTaken}
 use Rattle.runs.specs.Whole.{callsOf, firstRefusal, outputs, oneByOne, wholeForward, partsOf, blocksIn, joined}
 use Rattle.runs.specs.Back.{framed, blockOn, firstUpper, firstFrame, laterFrame, unfoldedIn, undoneIn, takenBack, firstHeld, endedBack}
 use Rattle.runs.specs.WholeBack as Back
-use Rattle.runs.specs.Return.{framesOf, answersBack, outputsBack}
-use Rattle.runs.specs.Cases.{sample, output, start}
+use Rattle.runs.specs.Return.{framesOf}
+use Rattle.runs.specs.CallsReturn.{answersBack, outputsBack}
+use Rattle.runs.specs.Cases.{sample, output, start, one, two}
 
 -- a table of what is computed and what the paper says: in every row the two are the same
 abbrev Said : {A : Type 0} → List (A × A) → Type 0
@@ -36,13 +37,7 @@ less n = negℤ (pos n)
 abbrev ones : ℕ → List ℤ
 ones n = replicate n (pos 1)
 
--- the sample's frames, and the frame between two of its blocks
-abbrev one : List ℤ
-one = pos 39 ∷ less 24 ∷ less 48 ∷ pos 4 ∷ pos 50 ∷ pos 14 ∷ less 44 ∷ less 33 ∷ []
-
-abbrev two : List ℤ
-two = less 3 ∷ pos 4 ∷ pos 2 ∷ less 5 ∷ pos 0 ∷ pos 5 ∷ less 3 ∷ less 3 ∷ []
-
+-- the frame between two of the sample's blocks
 abbrev between : List ℤ
 between = pos 36 ∷ less 20 ∷ less 46 ∷ pos 0 ∷ pos 50 ∷ pos 20 ∷ less 47 ∷ less 36 ∷ []
 

@@ -1,4 +1,4 @@
-pub mod Sample
+pub mod BoxSample
 pub mod ByWidth
 pub mod Quadrants
 pub mod Reading
