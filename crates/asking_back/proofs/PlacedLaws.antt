@@ -2,9 +2,8 @@
 use mathlib.Core.Path.{_≡_, sym, ap, subst}
 use Prim.Native.Nat.{ℕ, _+_, _-_, _≤_, _<_}
 use native.Mathlib.Omega.{arith}
-use Rattle.runs.specs.Answers.{told}
+use Rattle.runs.specs.Answers.{told, placed}
 use Rattle.runs.specs.declared.answer.Answer.{Answer}
-use Rattle.runs.specs.WholeBack.{placed}
 
 -- the place of an answer that is known
 pub place-le : (a b : Answer) → a ≡ b → told a .1 ≤ 128 → told b .1 ≤ 128

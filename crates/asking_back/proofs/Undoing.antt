@@ -21,7 +21,7 @@ use Rattle.runs.proofs.Refusals.{count-raised}
 use Rattle.runs.proofs.RecordLaws.{take-filled}
 use Rattle.asking_back.specs.Own.Ready.{toldHeld}
 use Rattle.runs.specs.Back.{undoneIn, takenBack, firstHeld, endedBack}
-use Rattle.runs.specs.WholeBack.{placed}
+use Rattle.runs.specs.Answers.{placed}
 use Rattle.runs.proofs.AnswerLaws.{undone-alike}
 use Rattle.runs.proofs.BackLaws.{ReachedBack, back-sound, taken-undone}
 use Rattle.runs.proofs.AcceptedLaws.{low-long, undone-next}

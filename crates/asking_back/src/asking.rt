@@ -8,7 +8,7 @@ ghost use Rattle.width_tables.specs.Filled.{Filled};
 ghost use Rattle.width_tables.specs.Own.Parts.{Halves, Room};
 ghost use Rattle.runs.specs.Answers.{told, firstBeyond};
 ghost use Rattle.runs.specs.Record.{frameLimit, zeros};
-ghost use Rattle.runs.specs.WholeBack;
+ghost use Rattle.runs.specs.Answers;
 ghost use Rattle.runs.specs.WholeBack.{firstAnswer};
 ghost use Rattle.asking_back.specs.Own.Ready.{Frames, toldHeld};
 use frames::step;
@@ -22,7 +22,7 @@ use slices::room;
 // An answer with its place counted through the run; 12 counts by blocks.
 fn placed(width: usize, offset: usize, answer: Answer) -> Answer
     requires { ⌜ (offset ≤ frameLimit * 128) × (told answer .1 ≤ 128) ⌝ }
-    ensures { λ r. ⌜ told r ≡ WholeBack.placed width offset (told answer) ⌝ }
+    ensures { λ r. ⌜ told r ≡ Answers.placed width offset (told answer) ⌝ }
 {
     match answer {
         Answer::DeadMark(i) => Answer::DeadMark(offset + i),

@@ -12,7 +12,7 @@ use lib.Seq.{length-take-le}
 use Rattle.tables.specs.Widths.{halfWidth}
 use Rattle.steps.specs.Steps.{held}
 use Rattle.distance.specs.Statement.{IsWidth}
-use Rattle.runs.specs.Answers.{told}
+use Rattle.runs.specs.Answers.{told, placed}
 use Rattle.runs.specs.declared.answer.Answer.{Answer}
 use Rattle.runs.specs.declared.answer.Found.{Found}
 use Rattle.runs.specs.declared.answer.Found.the-variants.{At, Nothing}
@@ -44,7 +44,7 @@ parts-refused N readings out answer a h = Asked.parts-refused N (length readings
 
 -- ---- the first refusal: of the first call, or of those after it
 module _ (N before : ℕ) (run : Run) (c : Call) (calls : List Call) where
-  refusal-here : (n place : ℕ) (after : Run) (out : List ℤ) → give run c ≡ ((suc n, place), after, out) → firstRefusal N before (made run (c ∷ calls)) ≡ (suc n, before + place)
+  refusal-here : (n place : ℕ) (after : Run) (out : List ℤ) → give run c ≡ ((suc n, place), after, out) → firstRefusal N before (made run (c ∷ calls)) ≡ placed N before (suc n, place)
   unfolding made works firstRefusal
   refusal-here n place after out e = rw (e, eqb·suc-zero n)
 
@@ -67,7 +67,7 @@ module _ (N b : ℕ) (previous : List ℤ) (r : Reached N b previous) (xs out : 
   block-refusal : (before : ℕ) (calls : List Call) (rest : Fault)
       → (Reached N (suc b) xs → firstRefusal N (before + N) (made (opened N (suc b) (held N xs)) calls) ≡ toldFault rest)
       → firstRefusal N before (made run (block xs out ∷ calls)) ≡ toldFault (faultFrom before (faultOf xs) rest)
-  unfolding toldFault faultFrom faultOf faultBy give takenIn askEach
+  unfolding toldFault faultFrom faultOf faultBy give takenIn askEach placed
   block-refusal before calls rest later = by (firstDead xs 0) (firstOut xs 0) refl refl
     where
       by : (f g : Found) → firstDead xs 0 ≡ f → firstOut xs 0 ≡ g → firstRefusal N before (made run (block xs out ∷ calls)) ≡ toldFault (faultFrom before (faultBy f g) rest)

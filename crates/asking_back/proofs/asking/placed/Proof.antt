@@ -3,7 +3,7 @@ use borrow.Author.Needs.{needs}
 use native.Mathlib.Omega.{arith}
 use mathlib.Core.Path.{refl}
 use Rattle.runs.specs.Answers.{told}
-use Rattle.runs.specs.WholeBack.{placed}
+use Rattle.runs.specs.Answers.{placed}
 use Rattle.asking_back.proofs.PlacedLaws.{place-le, known, placed-first}
 use Rattle.asking_back.proofs.asking.placed.Statement.{statement}
 use Rattle.asking_back.proofs.asking.placed.Tie as tie
