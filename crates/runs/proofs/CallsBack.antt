@@ -14,7 +14,7 @@ use Rattle.runs.specs.Record.{blockLimit, frameLimit, opened}
 use Rattle.runs.specs.Forward.{started}
 use Rattle.runs.specs.Calls.{Call, block, finish, framesGiven, accepted, countAfter, overAfter, acceptedAll, kept, working, blocksOf, blockAt}
 use Rattle.tables.proofs.ByWidth.{run-width}
-use Rattle.runs.specs.Lists.{madeFrom, blocksTaken, finished}
+use Rattle.runs.specs.Lists.{madeFrom, blocksTaken}
 use Rattle.runs.proofs.CallLaws.{accepted-below}
 use Rattle.runs.proofs.EveryList.{fresh-told, AllBlocks, blocks-kept}
 use Rattle.runs.proofs.ListsOfCalls.{working-counted}

@@ -14,7 +14,7 @@ use Rattle.tables.proofs.ByWidth.{run-width}
 use Rattle.distance.specs.Statement.{IsWidth}
 use Rattle.runs.specs.Record.{zeros}
 use Rattle.runs.specs.Forward.{started}
-use Rattle.runs.specs.CallsReturn.{answersBack, outputsBack, BlocksInRange, framesMade, AllTaken, SomeRefused, blocksGiven, TakenExactly}
+use Rattle.runs.specs.CallsReturn.{answersBack, BlocksInRange, framesMade, AllTaken, SomeRefused, blocksGiven, TakenExactly}
 use Rattle.runs.proofs.MadeFrames.{allFrames, all-frames}
 use Rattle.runs.proofs.Parts.{blocks-rows}
 use Rattle.runs.proofs.CallsBack.{all-taken, all-given}

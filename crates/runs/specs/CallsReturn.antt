@@ -19,8 +19,8 @@ use Rattle.runs.specs.Lists.{madeFrom, blocksTaken, finished}
 use Rattle.runs.specs.Back.{takenBack, endedBack}
 use Rattle.runs.specs.Cases.{sample, output, start, one, two}
 
--- Frames taken back one by one, each with an output of its own, from a record on, and then the finish. What is given are
--- the answers, the finish's last, and each output afterwards.
+-- Frames taken back one by one, each with an output of its own, from a record on, and then the finish: what is given are the answers, the
+-- finish's last, and each output afterwards. They are what `back::take` and `back::finish` promise.
 unfoldable pub answersBack : Run → List (List ℤ) → List (List ℤ) → List (ℕ × ℕ)
 answersBack run [] outs = endedBack run .0 ∷ []
 answersBack run (frame ∷ frames) [] = []
@@ -44,13 +44,13 @@ EachCallReturned =
     → CallByCall N calls first outs
 
 -- 2. Frames of any numbers and lengths are all taken, with the finish, exactly if some blocks in range make them; what is given are those, and no
--- others make them; some call refuses if none do. Blocks that a run takes are not too many, each of N readings in
--- range; block i is zeros behind the last.
+-- others make them; some call refuses if none do.
+-- Blocks in range, as a run takes them: not too many, each of N readings in range (block i is zeros behind the last),
 pub record BlocksInRange (N : ℕ) (blocks : List (List ℤ)) : Type 0 where
   pub some : length blocks ≤ blockLimit
   pub within : (i : ℕ) → Block N readingLimit (blockAt N blocks i)
 
--- the frames that they make
+-- and the frames that they make
 unfoldable pub framesMade : ℕ → List (List ℤ) → List (List ℤ)
 framesMade N blocks = tab (frameAt N blocks) (suc (length blocks)) 0
 

@@ -1,4 +1,4 @@
--- Demand 3, as one claim about every list of calls: document 01, "The lists of demand 3". `proofs/EveryList` proves it.
+-- Demand 3, as one claim about every list of calls: document 01, "The lists of demand 3". `proofs/ListsOfCalls` proves it.
 -- It reaches the code through `Calls.give`: a call gives what `forward::take` and `forward::finish` promise, from what `forward::start` promises.
 use mathlib.Core.Path.{_≡_}
 use mathlib.Core.Bool.{Bool, true, false, cond}

@@ -1,7 +1,7 @@
 -- What is shown of the tables and of the boxes: document 01, "Tables". n is a width; any other number has no half tangents and no secants.
 -- `proofs/Nearest` and `proofs/BoxTable` prove it.
 use mathlib.Core.Path.{_≡_}
-use Prim.Native.Nat.{ℕ, _+_, _*_, _/_, _^_, _≤_, _<_}
+use Prim.Native.Nat.{ℕ, _+_, _*_, _/_, _^_, _<_}
 use lib.ListN.{length, getD}
 use lib.Signed.{_≤ℤ_}
 use Rattle.tables.specs.Widths.{byWidth}
