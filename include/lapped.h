@@ -29,6 +29,9 @@
 extern "C" {
 #endif
 
+/* The project's version, which `lapped --version` tells too. */
+#define LAPPED_VERSION 1
+
 /* The answers: 0, or the number of the question that said no. */
 enum lapped_answer {
     LAPPED_DONE = 0,

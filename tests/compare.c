@@ -177,7 +177,7 @@ static bool same_left(const struct call *c, const int32_t *input)
         to = output_room[1].high;
     return memcmp(from, output_room[0].low + (from - output_room[1].low), (size_t)(to - from)) == 0
         && memcmp(c->run[0], c->run[1], c->run_length * sizeof *c->run[0]) == 0
-        && (c->input_length == 0 || memcmp(c->input, input, c->input_length * sizeof *input) == 0);
+        && (input == NULL || memcmp(c->input, input, c->input_length * sizeof *input) == 0);
 }
 
 uint32_t with_record(enum entry entry, int64_t *run, size_t run_length, const int32_t *input, size_t input_length,
