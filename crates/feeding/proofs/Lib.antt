@@ -1,0 +1,5 @@
+pub mod FeedLaws
+pub mod LineLaws
+pub mod Cuts
+pub mod BudgetLaws
+pub mod BehindLaws
