@@ -1,0 +1,4 @@
+pub mod GatherLaws
+pub mod SliceLaws
+pub mod FedLaws
+pub mod PieceLaws
