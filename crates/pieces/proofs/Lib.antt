@@ -2,3 +2,4 @@ pub mod GatherLaws
 pub mod SliceLaws
 pub mod FedLaws
 pub mod PieceLaws
+pub mod RunLaws
