@@ -3,3 +3,6 @@ pub mod LineLaws
 pub mod Cuts
 pub mod BudgetLaws
 pub mod BehindLaws
+pub mod TextProgram
+pub mod LinesLeft
+pub mod RefusalTold

@@ -3,3 +3,4 @@ pub mod SliceLaws
 pub mod FedLaws
 pub mod PieceLaws
 pub mod RunLaws
+pub mod TurnLaws

@@ -9,25 +9,23 @@ use borrow.Author.Tests.{ne-eqb}
 use lib.ListN.{length, take, drop}
 use lib.Seq.{slice, slice-empty, length-take-le}
 use Rattle.text_runs.specs.Line.{lineLimit}
-use Rattle.decimal.specs.Own.Put.{Put}
 use Rattle.feeding.specs.Program.{Program, handed}
 use Rattle.feeding.specs.Feed.{Reader, handedOn, fed, restFed, ended}
 use Rattle.feeding.proofs.FeedLaws.{fed-over, fed-twice}
 use Rattle.pieces.specs.declared.line.Gathered.{Gathered}
 use Rattle.pieces.specs.Own.Gathers.{Gathers}
-use Rattle.pieces.specs.Piece.{Limits, Place, reader, readerOf, Buffers, HandsOn, Goes, Took, Rests, Ends}
+use Rattle.pieces.specs.Piece.{Limits, Place, reader, readerOf, Buffers, Gives, HandsOn, Goes, Took, Rests, Ends}
 use Rattle.pieces.proofs.SliceLaws.{le-or-lt, slice-append}
 use Rattle.pieces.proofs.FedLaws.{open-is, ended-is, handed-is}
 
 -- ---- a line handed on
-pub hands-on : (P : Program) (L : Limits P) (whole : Bool) (line out : List ℕ) (p : Place P) (next : ℕ) {s : P .State} {text : List ℕ} {n : ℕ} {out′ : List ℕ}
-    → (s, text) ≡ handed P (p .state) whole line → Put (p .waiting) out text n out′ → length text ≤ L .most
-    → HandsOn P L whole line out p next (record { state = s; had = 0; waiting = n; at = next }) out′
-hands-on P L whole line out p next e put short = record {
-  is = handed-is P (p .state) whole line (take (p .waiting) out) e (put .is);
-  none = refl;
-  place = refl;
-  room = omega (arith, put .count);
+pub hands-on : (P : Program) {L : Limits P} (whole : Bool) (line out : List ℕ) (p : Place P) (next : ℕ) {given : P .State × List ℕ} {r : Place P} {out′ : List ℕ}
+    → Gives P L given out (p .waiting) next r out′ → given ≡ handed P (p .state) whole line → HandsOn P L whole line out p next r out′
+hands-on P whole line out p next {r = r} {out′ = out′} g e = record {
+  is = ap (λ (s : P .State). reader P s [] (take (r .waiting) out′)) (g .state) ∙ handed-is P (p .state) whole line (take (p .waiting) out) e (g .put .is);
+  none = g .none;
+  place = g .place;
+  room = omega (arith, g .put .count, g .short);
 }
 
 module _ {P : Program} {L : Limits P} {whole : Bool} {line out : List ℕ} {p : Place P} {next : ℕ} {r : Place P} {out′ : List ℕ} (h : HandsOn P L whole line out p next r out′) where
@@ -154,12 +152,13 @@ module _ (P : Program) {L : Limits P} {line out : List ℕ} {p : Place P} where
         let l : length (take (p .had) line) ≡ p .had = length-take-le (p .had) line fits in
         record { is = handed-reader h line ∙ rw (on, l, ne-eqb (p .had) 0 e); room = h .room }
 
-pub ends : (P : Program) {L : Limits P} {line out out₁ out′ : List ℕ} {p r : Place P} {n at : ℕ} {s : P .State} {text : List ℕ} → Rests P L line out p r out₁
-    → (s, text) ≡ P .end (r .state) → Put (r .waiting) out₁ text n out′ → n ≤ length out → Ends P line out p (record { state = s; had = 0; waiting = n; at = at }) out′
+pub ends : (P : Program) {L : Limits P} {line out out₁ out′ : List ℕ} {p m r : Place P} {given : P .State × List ℕ} {next : ℕ} → Rests P L line out p m out₁
+    → Gives P L given out₁ (m .waiting) next r out′ → given ≡ P .end (m .state) → p .waiting + L .most + L .most ≤ length out → Ends P line out p r out′
 unfolding readerOf ended
-ends P {out₁ = out₁} {r = r} {s = s} h e put room = record {
-  is = ap (λ (t : List ℕ). (s, t)) (put .is)
-      ∙ ap (λ (g : P .State × List ℕ). (g .0, take (r .waiting) out₁ ++ g .1)) e
+ends P {out₁ = out₁} {out′ = out′} {m = m} {r = r} {given = given} h g e room = record {
+  is = ap (λ (s : P .State). (s, take (r .waiting) out′)) (g .state)
+      ∙ ap (λ (t : List ℕ). (given .0, t)) (g .put .is)
+      ∙ ap (λ (x : P .State × List ℕ). (x .0, take (m .waiting) out₁ ++ x .1)) e
       ∙ ap (λ (x : Reader P). (P .end (x .state) .0, x .printed ++ P .end (x .state) .1)) (h .is);
-  room = room;
+  room = omega (arith, g .put .count, g .short, h .room);
 }

@@ -19,7 +19,7 @@ use Rattle.feeding.proofs.Cuts.{all-printed}
 use Rattle.pieces.specs.declared.reading.Filled.{Filled}
 use Rattle.pieces.specs.Own.Refills.{Refills}
 use Rattle.pieces.specs.Piece.{Limits, Place, reader, readerOf, Took, Ends}
-use Rattle.pieces.specs.Run.{Ran, Whole}
+use Rattle.pieces.specs.Run.{Came, Ran, Whole}
 use Rattle.pieces.proofs.SliceLaws.{le-or-lt, take-slice}
 
 -- nothing waits, and the place is another
@@ -76,22 +76,23 @@ ran-took P {s = s} {piece} {line} {out} {line′} {out′} {p} {r} ran none t =
           ∙ ap (fed P (begun P s)) (append-assoc (ran .before) (take (p .at) piece) part ∙ ap (λ (l : List ℕ). ran .before ++ l) (take-slice piece (p .at) (r .at) (t .goes)));
     }
 
+pub ran-came : (P : Program) {s : P .State} {piece line : List ℕ} {p : Place P} → Ran P s piece line p → Came P s line p
+ran-came P {piece = piece} {p = p} ran = record { read = ran .before ++ take (p .at) piece; written = ran .written; is = ran .is }
+
 -- ---- the end
-pub whole : (P : Program) {s : P .State} {piece line out out′ : List ℕ} {p r : Place P} → Ran P s piece line p → p .waiting ≡ 0 → Ends P line out p r out′
-    → Whole P s r out′
+pub whole : (P : Program) {s : P .State} {line out out′ : List ℕ} {p r : Place P} → Came P s line p → p .waiting ≡ 0 → Ends P line out p r out′ → Whole P s r out′
 unfolding readerOf
-whole P {s = s} {piece} {line} {out} {out′} {p} {r} ran none e =
+whole P {s = s} {line} {out} {out′} {p} {r} came none e =
     let h : List ℕ = take (p .had) line in
-    let read : List ℕ = ran .before ++ take (p .at) piece in
-    let all : (r .state, ran .written ++ take (r .waiting) out′) ≡ ended P (fed P (begun P s) read) =
-    ap (λ (x : P .State × List ℕ). (x .0, ran .written ++ x .1)) (e .is ∙ ap (λ (n : ℕ). ended P (reader P (p .state) h (take n out))) none)
-    ∙ sym (ended-behind P (ran .written) (reader P (p .state) h []))
-    ∙ ap (ended P) (fresh P (p .state) h (ran .written) ∙ ran .is)
+    let all : (r .state, came .written ++ take (r .waiting) out′) ≡ ended P (fed P (begun P s) (came .read)) =
+    ap (λ (x : P .State × List ℕ). (x .0, came .written ++ x .1)) (e .is ∙ ap (λ (n : ℕ). ended P (reader P (p .state) h (take n out))) none)
+    ∙ sym (ended-behind P (came .written) (reader P (p .state) h []))
+    ∙ ap (ended P) (fresh P (p .state) h (came .written) ∙ came .is)
     in
     record {
-      read = read;
-      written = ran .written;
-      prints = ap (λ (x : P .State × List ℕ). x .1) all ∙ all-printed P s read;
+      read = came .read;
+      written = came .written;
+      prints = ap (λ (x : P .State × List ℕ). x .1) all ∙ all-printed P s (came .read);
       ends = ap (λ (x : P .State × List ℕ). x .0) all;
     }
 

@@ -6,6 +6,7 @@ use Prim.Native.Nat.{ℕ, _+_, _≤_, _<_}
 use lib.ListN.{length, take, drop}
 use lib.Seq.{slice}
 use Rattle.text_runs.specs.Line.{lineLimit}
+use Rattle.decimal.specs.Own.Put.{Put}
 use Rattle.feeding.specs.Program.{Program, handed}
 use Rattle.feeding.specs.Feed.{Reader, handedOn, fed, restFed, ended}
 
@@ -36,6 +37,14 @@ pub record Buffers (P : Program) (L : Limits P) (piece line out : List ℕ) (p :
   pub fits : p .had ≤ lineLimit
   pub room : p .waiting ≤ length out
   pub sound : L .Sound (p .state)
+
+-- What a program gives for a line or for the end is put behind what waits, and `next` is where to go on.
+pub record Gives (P : Program) (L : Limits P) (given : P .State × List ℕ) (out : List ℕ) (waiting next : ℕ) (r : Place P) (out′ : List ℕ) : Type 0 where
+  pub state : r .state ≡ given .0
+  pub put : Put waiting out (given .1) (r .waiting) out′
+  pub short : length (given .1) ≤ L .most
+  pub none : r .had ≡ 0
+  pub place : r .at ≡ next
 
 -- The line is handed on, and `next` is where to go on.
 pub record HandsOn (P : Program) (L : Limits P) (whole : Bool) (line out : List ℕ) (p : Place P) (next : ℕ) (r : Place P) (out′ : List ℕ) : Type 0 where

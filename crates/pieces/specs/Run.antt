@@ -8,8 +8,13 @@ use Rattle.feeding.specs.Feed.{begun, fed, ended}
 use Rattle.feeding.specs.Lines.{printedOf}
 use Rattle.pieces.specs.Piece.{Place, reader}
 
--- A run that began in s has come to p: it was fed with the pieces before and with this one up to its place, one after another, and has written
--- all that they print.
+-- A run that began in s has come to p by the bytes that it read, and has written all that they print.
+pub record Came (P : Program) (s : P .State) (line : List ℕ) (p : Place P) : Type 0 where
+  pub read : List ℕ
+  pub written : List ℕ
+  pub is : reader P (p .state) (take (p .had) line) written ≡ fed P (begun P s) read
+
+-- What it read are the pieces before and this one up to its place, one after another.
 pub record Ran (P : Program) (s : P .State) (piece line : List ℕ) (p : Place P) : Type 0 where
   pub before : List ℕ
   pub written : List ℕ

@@ -79,7 +79,7 @@ pub fn goes_on(count: usize, lost: bool, over: bool) -> bool
 
 // Whether a read has failed or a write.
 pub fn lost(failed: bool, written: bool) -> bool
-    ensures { λ r. ⌜ (r ≡ false → written ≡ true) ⌝ }
+    ensures { λ r. ⌜ (r ≡ false → (failed ≡ false) × (written ≡ true)) ⌝ }
 {
     if failed {
         return true;

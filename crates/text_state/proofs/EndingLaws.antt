@@ -14,9 +14,9 @@ use Rattle.text_runs.specs.declared.state.Phase.{Phase}
 use Rattle.text_runs.specs.State.{goesOn}
 use Rattle.text_runs.proofs.UpToLaws.{part-length, part-is}
 use Rattle.decimal.proofs.CompareLaws.{same-length}
-use Rattle.text_state.specs.declared.ending.Ending.{Ending}
-use Rattle.text_state.specs.declared.ending.Ending.the-variants.{Open, Whole, Refused}
-use Rattle.text_state.specs.Ending.{refusedBy, lastSaid, told}
+use Rattle.feeding.specs.declared.session.Ending.{Ending}
+use Rattle.feeding.specs.declared.session.Ending.the-variants.{Open, Whole, Refused}
+use Rattle.feeding.specs.Ending.{refusedBy, lastSaid, told}
 
 pub refused-as : {a b c a′ b′ c′ : ℤ} → a ≡ a′ → b ≡ b′ → c ≡ c′ → Refused a b c ≡ Refused a′ b′ c′
 refused-as p q r = cc

@@ -4,21 +4,15 @@ ghost use Prim.Native.Nat.{_≤_};
 ghost use lib.ListN.{length};
 ghost use Rattle.decimal.specs.Own.Put.{Put};
 ghost use Rattle.text_runs.specs.Lines.{numbersIn};
-ghost use Rattle.text_state.specs.Ending.{refusedBy, lastSaid, told, refusalLine};
+ghost use Rattle.feeding.specs.Ending.{refusedBy, lastSaid, told, refusalLine};
 use crate::state;
 use decimal::compare;
 use decimal::print;
 use decimal::read;
 use decimal::read::Fields;
 use decimal::search;
+use feeding::session::Ending;
 use text_runs::state::State;
-
-// A refusal has the number, the line and the place that its line names.
-pub enum Ending {
-    Open,
-    Whole,
-    Refused(i32, i32, i32),
-}
 
 // What the numbers of a line say, once it begins as a refusal.
 fn refused_by(line: &[u8]) -> Ending
@@ -67,7 +61,7 @@ pub fn after(before: Ending, state: State, text: &[u8]) -> Ending
 // The line of a refusal, as it was printed.
 pub fn refusal_line(ending: Ending, text: &mut [u8]) -> usize
     requires { ⌜ 64 ≤ length (now text) ⌝ }
-    ensures { λ r. ⌜ Put 0 (now (text .entry)) (refusalLine ending) r (now (text .exit)) ⌝ }
+    ensures { λ r. ⌜ Put 0 (now (text .entry)) (refusalLine ending) r (now (text .exit)) × (r ≤ 64) ⌝ }
 {
     match ending {
         Ending::Open => 0,

@@ -8,7 +8,7 @@ use lib.ListN.{length, drop, length-drop, length-take}
 use lib.Seq.{length-take-le}
 use Rattle.text_runs.specs.Lines.{refusedTag, numbersIn}
 use Rattle.text_runs.proofs.UpToLaws.{part-length}
-use Rattle.text_state.specs.Ending.{refusedBy}
+use Rattle.feeding.specs.Ending.{refusedBy}
 use Rattle.text_state.proofs.EndingLaws.{said-short, said-other, said-refused, said-part}
 use Rattle.text_state.proofs.ending.last_said.Statement.{statement}
 use Rattle.text_state.proofs.ending.last_said.Tie as tie

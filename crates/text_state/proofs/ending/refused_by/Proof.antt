@@ -6,7 +6,7 @@ use Prim.Native.Nat.{_≤_}
 use mir.Syntax.{w32}
 use Rattle.integers.proofs.Held.{held-ok}
 use Rattle.decimal.specs.Own.Reading.{shownAs, countWithin}
-use Rattle.text_state.specs.Ending.{refusedBy}
+use Rattle.feeding.specs.Ending.{refusedBy}
 use Rattle.text_state.proofs.EndingLaws.{refused-as, by-three, by-others}
 use Rattle.text_state.proofs.ending.refused_by.Statement.{statement}
 use Rattle.text_state.proofs.ending.refused_by.Tie as tie

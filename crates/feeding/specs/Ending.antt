@@ -9,8 +9,8 @@ use lib.ListN.{length, take, drop, getD}
 use Rattle.text_runs.specs.Lines.{lineFeed, refusedTag, row, numbersIn, upTo, same}
 use Rattle.text_runs.specs.declared.state.Phase.{Phase}
 use Rattle.text_runs.specs.State.{goesOn}
-use Rattle.text_state.specs.declared.ending.Ending.{Ending}
-use Rattle.text_state.specs.declared.ending.Ending.the-variants.{Open, Whole, Refused}
+use Rattle.feeding.specs.declared.session.Ending.{Ending}
+use Rattle.feeding.specs.declared.session.Ending.the-variants.{Open, Whole, Refused}
 
 -- a refusal's number, line and place
 unfoldable pub refusedBy : Option (List ℤ) → Ending
