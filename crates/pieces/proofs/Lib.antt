@@ -4,3 +4,4 @@ pub mod FedLaws
 pub mod PieceLaws
 pub mod RunLaws
 pub mod TurnLaws
+pub mod FilledLaws

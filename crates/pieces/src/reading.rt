@@ -3,7 +3,7 @@ ghost use mathlib.Core.Path.{_≡_};
 ghost use mathlib.Core.Bool.{true, false};
 ghost use Prim.Native.Nat.{_≤_, _<_};
 ghost use lib.ListN.{length};
-ghost use Rattle.pieces.specs.Own.Refills.{Refills};
+ghost use Rattle.pieces.specs.Own.Refills.{filledBy, Refills};
 
 // How often a read that a signal interrupted is tried again: a proved loop ends, and nothing says that signals do.
 const MOST_TRIES: usize = 1000;
@@ -35,6 +35,19 @@ fn read(input: i32, buffer: &mut [u8]) -> isize {
     got
 }
 
+// What a read answered: a failed one is no end of the input.
+fn filled_by(got: isize, buffer: &[u8]) -> Filled
+    ensures { λ r. ⌜ r ≡ filledBy got (length (now (buffer .entry))) ⌝ }
+{
+    let count = io::count(got, buffer);
+    let failed = got < 0;
+    Filled {
+        count: count,
+        at: 0,
+        failed: failed,
+    }
+}
+
 // Goes on in a piece, or reads the next one where it is used up. A read that fails is told on standard error, with its reason.
 pub fn refill(input: i32, buffer: &mut [u8], count: usize, at: usize) -> Filled
     requires { ⌜ (at ≤ count) × (count ≤ length (now buffer)) ⌝ }
@@ -48,20 +61,11 @@ pub fn refill(input: i32, buffer: &mut [u8], count: usize, at: usize) -> Filled
         };
     }
     let got = read(input, buffer);
-    if got < 0 {
+    let filled = filled_by(got, buffer);
+    if filled.failed {
         os::fail(b"the input cannot be read");
-        return Filled {
-            count: 0,
-            at: 0,
-            failed: true,
-        };
     }
-    let count = io::count(got, buffer);
-    Filled {
-        count: count,
-        at: 0,
-        failed: false,
-    }
+    filled
 }
 
 // Whether a program reads on: there was a byte, nothing was lost, and it is not over.

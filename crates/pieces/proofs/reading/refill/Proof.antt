@@ -1,7 +1,7 @@
 -- `pieces::reading::refill` meets its contract.
-use mathlib.Core.Path.{refl}
-use native.Mathlib.Omega.{arith}
 use borrow.Author.Needs.{needs}
+use native.Mathlib.Omega.{arith}
+use Rattle.pieces.proofs.FilledLaws.{refills-next}
 use Rattle.pieces.proofs.reading.refill.Statement.{statement}
 use Rattle.pieces.proofs.reading.refill.Tie as tie
 
@@ -10,6 +10,9 @@ returns c = search needs
 
 read-requires : tie.Need-read-requires
 read-requires c κs = search needs
+
+filled-by-requires : tie.Need-filled-by-requires
+filled-by-requires c κs = search needs
 
 slice-aggregate-fail : tie.Need-slice-aggregate-fail
 slice-aggregate-fail c = search needs
@@ -21,28 +24,13 @@ same-length : tie.Need-same-length
 same-length c = search needs
 
 returns-2 : tie.Need-returns-2
-returns-2 c = record {
-  stays = λ h. absurd (omega arith);
-  next = λ _. refl;
-  fits = omega arith;
-  place = omega arith;
-  more = λ h. omega arith;
-}
-
-count-requires : tie.Need-count-requires
-count-requires c κs = search needs
+returns-2 c = let f = c .before .before .before in refills-next _ (f .filled-by .ensures) (f .before .before .before .buffer .given) (omega arith)
 
 same-length-2 : tie.Need-same-length-2
 same-length-2 c = search needs
 
 returns-3 : tie.Need-returns-3
-returns-3 c = record {
-  stays = λ h. absurd (omega arith);
-  next = λ _. refl;
-  fits = omega arith;
-  place = omega arith;
-  more = λ h. omega arith;
-}
+returns-3 c = let f = c .before in refills-next _ (f .filled-by .ensures) (f .before .before .before .buffer .given) (omega arith)
 
 pub refill-spec : {M : Type 1} → statement M
 refill-spec =
@@ -50,10 +38,10 @@ refill-spec =
     (tie.spec
     returns
     read-requires
+    filled-by-requires
     slice-aggregate-fail
     fail-requires
     same-length
     returns-2
-    count-requires
     same-length-2
     returns-3)
