@@ -1,5 +1,7 @@
 -- A whole run, for every program: what its loop keeps, and what holds where it ends.
 use mathlib.Core.Path.{_≡_}
+use mathlib.Core.Bool.{Bool, true, false}
+use mathlib.Core.Logic.{_⊎_}
 use mathlib.Core.List.{List, _++_}
 use Prim.Native.Nat.{ℕ}
 use lib.ListN.{take}
@@ -7,6 +9,7 @@ use Rattle.feeding.specs.Program.{Program}
 use Rattle.feeding.specs.Feed.{begun, fed, ended}
 use Rattle.feeding.specs.Lines.{printedOf}
 use Rattle.pieces.specs.Piece.{Place, reader}
+use Rattle.pieces.specs.declared.reading.Filled.{Filled}
 
 -- A run that began in s has come to p by the bytes that it read, and has written all that they print.
 pub record Came (P : Program) (s : P .State) (line : List ℕ) (p : Place P) : Type 0 where
@@ -26,3 +29,8 @@ pub record Whole (P : Program) (s : P .State) (r : Place P) (out : List ℕ) : T
   pub written : List ℕ
   pub prints : written ++ take (r .waiting) out ≡ printedOf P s read
   pub ends : r .state ≡ ended P (fed P (begun P s) read) .0
+
+-- Why a run reads no further: it is lost, or the input has no byte more, or the program is over. Where a read has failed, it is lost.
+pub record Stopped (last : Filled) (lost over : Bool) : Type 0 where
+  pub why : (lost ≡ true) ⊎ (last .count ≡ 0) ⊎ (over ≡ true)
+  pub whole : lost ≡ false → last .failed ≡ false

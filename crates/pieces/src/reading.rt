@@ -1,6 +1,7 @@
 // The input, piece by piece.
 ghost use mathlib.Core.Path.{_≡_};
 ghost use mathlib.Core.Bool.{true, false};
+ghost use mathlib.Core.Logic.{_⊎_};
 ghost use Prim.Native.Nat.{_≤_, _<_};
 ghost use lib.ListN.{length};
 ghost use Rattle.pieces.specs.Own.Refills.{filledBy, Refills};
@@ -71,6 +72,7 @@ pub fn refill(input: i32, buffer: &mut [u8], count: usize, at: usize) -> Filled
 // Whether a program reads on: there was a byte, nothing was lost, and it is not over.
 pub fn goes_on(count: usize, lost: bool, over: bool) -> bool
     ensures { λ r. ⌜ (r ≡ true → (0 < count) × (lost ≡ false) × (over ≡ false)) ⌝ }
+    ensures { λ r. ⌜ (r ≡ false → (lost ≡ true) ⊎ (count ≡ 0) ⊎ (over ≡ true)) ⌝ }
 {
     if count == 0 {
         return false;
@@ -84,6 +86,7 @@ pub fn goes_on(count: usize, lost: bool, over: bool) -> bool
 // Whether a read has failed or a write.
 pub fn lost(failed: bool, written: bool) -> bool
     ensures { λ r. ⌜ (r ≡ false → (failed ≡ false) × (written ≡ true)) ⌝ }
+    ensures { λ r. ⌜ (r ≡ true → (failed ≡ true) ⊎ (written ≡ false)) ⌝ }
 {
     if failed {
         return true;

@@ -9,11 +9,12 @@ ghost use Rattle.stream.specs.Run.{Finished, EndedAs};
 use crate::piece;
 use crate::piece::Progress;
 use crate::session;
+use feeding::session::Ending;
 use pieces::reading;
+use pieces::reading::Filled;
 use pieces::writing;
 use text_runs::state::Way;
 use text_state::ending;
-use feeding::session::Ending;
 
 // The end of the input. Where the last of it cannot be written, the run did not end.
 fn finish(way: Way, output: i32, line: &[u8], out: &mut [u8], progress: Progress) -> Ending
@@ -43,12 +44,16 @@ pub fn run(way: Way, input: i32, output: i32, buffer: &mut [u8]) -> Ending
         waiting: 0,
         at: 0,
     };
-    let mut count = 0;
+    let mut filled = Filled {
+        count: 0,
+        at: 0,
+        failed: false,
+    };
     let mut lost = false;
     let mut on = true;
     while on {
-        let filled = reading::refill(input, buffer, count, progress.at);
-        count = filled.count;
+        filled = reading::refill(input, buffer, filled.count, progress.at);
+        let count = filled.count;
         let session = progress.session;
         let begun = Progress {
             session: session,

@@ -2,9 +2,11 @@
 use borrow.Author.Needs.{needs}
 use native.Mathlib.Omega.{arith}
 use mathlib.Core.Path.{_≡_, refl, sym, _∙_}
-use mathlib.Core.Logic.{inl, inr, ⊎-elim}
+use mathlib.Core.Bool.{true, false, false≢true}
+use mathlib.Core.Logic.{_⊎_, inl, inr, ⊎-elim}
 use lib.ListN.{length}
-use Rattle.feeding.specs.Text.{sessionBegun, textProgram}
+use Rattle.feeding.specs.Text.{sessionBegun, isOver, textProgram}
+use Rattle.pieces.specs.Run.{Stopped}
 use Rattle.feeding.proofs.LinesLeft.{text-bounded}
 use Rattle.pieces.proofs.SliceLaws.{part-long}
 use Rattle.pieces.proofs.TurnLaws.{Turns, turnsLeft, turns-first, turns-came, turn-begins, turn-again, turn-less}
@@ -13,11 +15,14 @@ use Rattle.stream.proofs.run.run.Statement.{statement}
 use Rattle.stream.proofs.run.run.Tie as tie
 
 abbrev Inv-loop : tie.InvT-loop
-Inv-loop way input output buffer₀ line₀ out₀ progress₀ count₀ lost₀ on₀ buffer line out progress count lost on =
-    Turns textProgram textLimits (sessionBegun way) buffer line out (placeOf progress) count lost on × (length buffer ≡ length buffer₀) × (length out ≡ 65536)
+Inv-loop way input output buffer₀ line₀ out₀ progress₀ filled₀ lost₀ on₀ buffer line out progress filled lost on =
+    Turns textProgram textLimits (sessionBegun way) buffer line out (placeOf progress) (filled .count) lost on
+    × (length buffer ≡ length buffer₀)
+    × (length out ≡ 65536)
+    × (on ≡ false → Stopped filled lost (isOver (progress .session)))
 
 abbrev μ-loop : tie.MeasureT-loop
-μ-loop way input output buffer₀ line₀ out₀ progress₀ count₀ lost₀ on₀ buffer line out progress count lost on =
+μ-loop way input output buffer₀ line₀ out₀ progress₀ filled₀ lost₀ on₀ buffer line out progress filled lost on =
     turnsLeft textProgram text-bounded line (placeOf progress) on
 
 large-buffer-requires : tie.Need-large-buffer-requires Inv-loop μ-loop
@@ -27,7 +32,7 @@ begin-requires : tie.Need-begin-requires Inv-loop μ-loop
 begin-requires c κs = search needs
 
 loop-holds : tie.Need-loop-holds Inv-loop μ-loop
-loop-holds c = (turns-first textProgram _ _ _ (c .begin .ensures) tt (search needs) (search needs), refl, search needs)
+loop-holds c = (turns-first textProgram _ _ _ (c .begin .ensures) tt (search needs) (search needs), refl, search needs, λ e. absurd (false≢true (sym e)))
 
 refill-requires : tie.Need-refill-requires Inv-loop μ-loop
 refill-requires c κs = search needs
@@ -74,20 +79,25 @@ turned c = c .before .before .before .before .before .before .before .before
 abbrev filled : tie.After-take Inv-loop μ-loop → tie.After-refill Inv-loop μ-loop
 filled t = t .before .before .before .before .before .before .before
 
+-- why no further turn comes
+stopped-why : (c : tie.After-goes-on Inv-loop μ-loop) → c .goes-on .result ≡ false → (c .before .before .lost .result ≡ true) ⊎ (filled (turned c) .refill .result .count ≡ 0) ⊎ (isOver (turned c .take .result .session) ≡ true)
+stopped-why c e = ⊎-elim inl (λ r. inr (⊎-elim inl (λ o. inr (sym (c .before .is-over .ensures) ∙ o)) r)) (c .goes-on .ensures .1 e)
+
 loop-less : tie.Need-loop-less Inv-loop μ-loop
 loop-less c =
     let t = turned c in
     let f = filled t in
     turn-less textProgram (f .before .before .before .loop .inv .0) (f .refill .ensures) (t .before .before .before .before .before .before .buffer .given) (f .before .before .loop-test .taken) (t .take .ensures) text-bounded
-    (λ e. let g = c .goes-on .ensures e in (g .0, sym (c .before .is-over .ensures) ∙ g .2))
+    (λ e. let g = c .goes-on .ensures .0 e in (g .0, sym (c .before .is-over .ensures) ∙ g .2))
 
 loop-again : tie.Need-loop-again Inv-loop μ-loop
 loop-again c =
     let t = turned c in
     let f = filled t in (
-      turn-again textProgram (f .before .before .before .loop .inv .0) (f .refill .ensures) (t .before .before .before .before .before .before .buffer .given) (f .before .before .loop-test .taken) (t .take .ensures) (search needs) (search needs) (λ e. c .goes-on .ensures e .1),
+      turn-again textProgram (f .before .before .before .loop .inv .0) (f .refill .ensures) (t .before .before .before .before .before .before .buffer .given) (f .before .before .loop-test .taken) (t .take .ensures) (search needs) (search needs) (λ e. c .goes-on .ensures .0 e .1),
       search needs,
       search needs,
+      λ e. record { why = stopped-why c e; whole = λ l. c .before .before .lost .ensures .0 l .0 },
     )
 
 same-length : tie.Need-same-length Inv-loop μ-loop
