@@ -1,5 +1,5 @@
-// A frame from its folded values by the five stages, and its way back. t has what the width takes; top and bottom are room for the halves, y and z
-// for a product each.
+// A frame from its folded values by the five stages, and its way back, with the questions about their numbers. t has what the width takes; top and
+// bottom are room for the halves, y and z for a product each.
 ghost use mathlib.Core.Bool.{cond};
 ghost use mathlib.Core.Path.{_≡_};
 ghost use Prim.Native.Nat.{_+_, _*_, _<_};
@@ -7,9 +7,16 @@ ghost use lib.ListN.{length};
 ghost use Rattle.integers.specs.Places.{places, at, Within};
 ghost use Rattle.tables.specs.Widths.{halfWidth};
 ghost use Rattle.width_tables.specs.Filled.{Filled};
-ghost use Rattle.steps.specs.Steps.{stages, unstages};
+ghost use Rattle.steps.specs.Limits.{foldedLimit};
+ghost use Rattle.steps.specs.Steps.{stages};
 ghost use Rattle.width_tables.specs.Own.Parts.{Halves, Room};
+ghost use Rattle.runs.specs.Answers.{told};
+ghost use Rattle.runs.specs.Alone.{stagesAsked, unstagesAsked};
 use frames::transform;
+use gate::limits;
+use gate::questions;
+use runs::answer::Answer;
+use runs::answer::Found;
 use slices::room;
 use slices::vectors;
 use width_tables::fill;
@@ -26,8 +33,7 @@ fn every_second(x: &[i32], first: usize, out: &mut [i64])
     }
 }
 
-// Folded values to the frame.
-pub fn stages(
+fn stages(
     width: usize,
     t: &[i64],
     given: &[i32],
@@ -42,7 +48,7 @@ pub fn stages(
     requires { ⌜ Halves width (now top) (now bottom) ⌝ }
     requires { ⌜ Room width (now y) (now z) ⌝ }
     requires { ⌜ (length (now given) ≡ width) × (length (now out) ≡ width) ⌝ }
-    requires { ⌜ Within 50000 (now given) ⌝ }
+    requires { ⌜ Within foldedLimit (now given) ⌝ }
     ensures { λ _. ⌜ now (out .exit) ≡ Rattle.steps.specs.Steps.stages width (now (given .entry)) ⌝ }
 {
     let half = width / 2;
@@ -53,7 +59,33 @@ pub fn stages(
     vectors::copy(bottom, &mut out[half..]);
 }
 
-// One or the other.
+// Question 10, then the stages: folded values to the frame. Where it is answered no, frame is left as it happens to be.
+fn staged(
+    width: usize,
+    t: &[i64],
+    folded: &[i32],
+    frame: &mut [i64],
+    top: &mut [i64],
+    bottom: &mut [i64],
+    y: &mut [i64],
+    z: &mut [i64],
+) -> Answer
+    requires { ⌜ 0 < halfWidth width ⌝ }
+    requires { ⌜ Filled width (now t) ⌝ }
+    requires { ⌜ Halves width (now top) (now bottom) ⌝ }
+    requires { ⌜ Room width (now y) (now z) ⌝ }
+    requires { ⌜ (length (now folded) ≡ width) × (length (now frame) ≡ width) ⌝ }
+    ensures { λ r. ⌜ (told r, now (frame .exit)) ≡ stagesAsked width (now (folded .entry)) (now (frame .exit)) ⌝ }
+{
+    let value = questions::seldom_beyond(folded, limits::FOLDED_LIMIT, frame);
+    if let Found::At(place) = value {
+        return Answer::Folded(place);
+    }
+    stages(width, t, folded, frame, top, bottom, y, z);
+    Answer::Done
+}
+
+// One way or the other.
 fn either_way(
     undo: bool,
     width: usize,
@@ -64,28 +96,25 @@ fn either_way(
     bottom: &mut [i64],
     y: &mut [i64],
     z: &mut [i64],
-)
+) -> Answer
     requires { ⌜ 0 < halfWidth width ⌝ }
     requires { ⌜ Filled width (now t) ⌝ }
     requires { ⌜ Halves width (now top) (now bottom) ⌝ }
     requires { ⌜ Room width (now y) (now z) ⌝ }
     requires { ⌜ (length (now given) ≡ width) × (length (now out) ≡ width) ⌝ }
-    requires { ⌜ Within (cond undo 1048576 50000) (now given) ⌝ }
-    ensures { λ _. ⌜ now (out .exit) ≡ cond undo (Rattle.steps.specs.Steps.unstages width (now (given .entry))) (Rattle.steps.specs.Steps.stages width (now (given .entry))) ⌝ }
+    ensures { λ r. ⌜ (told r, now (out .exit)) ≡ cond undo (unstagesAsked width (now (given .entry)) (now (out .exit))) (stagesAsked width (now (given .entry)) (now (out .exit))) ⌝ }
 {
     if undo {
-        transform::unstages(width, t, given, out, top, bottom, y, z);
-        return;
+        return transform::unstaged(width, t, given, out, top, bottom, y, z);
     }
-    stages(width, t, given, out, top, bottom, y, z);
+    staged(width, t, given, out, top, bottom, y, z)
 }
 
-// The stages alone, in room of their own.
-pub fn alone(undo: bool, width: usize, given: &[i32], out: &mut [i64])
+// In room of its own.
+pub fn in_room(undo: bool, width: usize, given: &[i32], out: &mut [i64]) -> Answer
     requires { ⌜ 0 < halfWidth width ⌝ }
     requires { ⌜ (length (now given) ≡ width) × (length (now out) ≡ width) ⌝ }
-    requires { ⌜ Within (cond undo 1048576 50000) (now given) ⌝ }
-    ensures { λ _. ⌜ now (out .exit) ≡ cond undo (Rattle.steps.specs.Steps.unstages width (now (given .entry))) (Rattle.steps.specs.Steps.stages width (now (given .entry))) ⌝ }
+    ensures { λ r. ⌜ (told r, now (out .exit)) ≡ cond undo (unstagesAsked width (now (given .entry)) (now (out .exit))) (stagesAsked width (now (given .entry)) (now (out .exit))) ⌝ }
 {
     let half = width / 2;
     let long = fill::tables_long(width);
@@ -105,5 +134,5 @@ pub fn alone(undo: bool, width: usize, given: &[i32], out: &mut [i64])
         &mut bottom[..half],
         &mut y,
         &mut z,
-    );
+    )
 }

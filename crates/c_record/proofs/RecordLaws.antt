@@ -119,6 +119,31 @@ module _ (numbers : List ℤ) where
       → recordOf w c held f ≡ unpacked numbers
   lent-is r w c held f h e = ap (λ (xs : List ℤ). recordOf w c xs f) (h ∙ rest-is numbers (has-room numbers r)) ∙ e
 
+-- ---- there and back: a record with 64 held values, and numbers that are those of a record
+pub unpacked-packed : (run : Run) → length (run .held) ≡ 64 → unpacked (packed run) ≡ run
+unfolding unpacked packed isRecord every
+unpacked-packed run l = by (run .finished)
+  where
+    by : (f : Bool) → unpacked (packed (record { width = run .width; count = run .count; held = run .held; finished = f })) ≡ record { width = run .width; count = run .count; held = run .held; finished = f }
+    by true = rw l
+    by false = rw l
+
+bit-of : (n : ℕ) → n ≤ 1 → cond (eqb n 1) 1 0 ≡ n
+bit-of zero h = refl
+bit-of (suc zero) h = refl
+bit-of (suc (suc n)) h = absurd (omega arith)
+
+pub packed-unpacked : (numbers : List ℤ) → isRecord numbers ≡ true → packed (unpacked numbers) ≡ numbers
+unfolding unpacked packed isRecord
+packed-unpacked numbers r = rw r (by numbers (has-room numbers r) (every-answer _ r))
+  where
+    by : (l : List ℤ) → length l ≡ runLength → ((i : ℕ) → getD (eqb (length l) runLength ∷ nonNeg (at l 0) ∷ nonNeg (at l 1) ∷ nonNeg (at l 2) ∷ leb (natAbs (at l 2)) 1 ∷ []) i true ≡ true)
+        → pos (natAbs (at l 0)) ∷ pos (natAbs (at l 1)) ∷ pos (cond (eqb (natAbs (at l 2)) 1) 1 0) ∷ drop 3 l ≡ l
+    by [] h e = absurd (omega arith)
+    by (x ∷ []) h e = absurd (omega arith)
+    by (x ∷ y ∷ []) h e = absurd (omega arith)
+    by (x ∷ y ∷ z ∷ l) h e = let p = natural x (e 1) in let q = natural y (e 2) in let b = ap pos (bit-of (natAbs z) (leb-true (natAbs z) 1 (e 4))) ∙ sym (natural z (e 3)) in cc
+
 -- ---- packing
 pub number : (n : ℕ) → n < 2 ^ 63 → toZ w64 n ≡ pos n
 number n h = held-ok w64 (pos n) h .is
@@ -146,28 +171,3 @@ module _ (run : Run) (numbers : List ℤ) (p : Packable run numbers) where
       let c = number (run .count) (p .few) in
       let f = bit (run .finished) in
       held-put begun held (simp length-set (p .room)) ∙ three numbers _ _ _ held (p .room) ∙ cc
-
--- ---- there and back: a record with 64 held values, and numbers that are those of a record
-pub unpacked-packed : (run : Run) → length (run .held) ≡ 64 → unpacked (packed run) ≡ run
-unfolding unpacked packed isRecord every
-unpacked-packed run l = by (run .finished)
-  where
-    by : (f : Bool) → unpacked (packed (record { width = run .width; count = run .count; held = run .held; finished = f })) ≡ record { width = run .width; count = run .count; held = run .held; finished = f }
-    by true = rw l
-    by false = rw l
-
-bit-of : (n : ℕ) → n ≤ 1 → cond (eqb n 1) 1 0 ≡ n
-bit-of zero h = refl
-bit-of (suc zero) h = refl
-bit-of (suc (suc n)) h = absurd (omega arith)
-
-pub packed-unpacked : (numbers : List ℤ) → isRecord numbers ≡ true → packed (unpacked numbers) ≡ numbers
-unfolding unpacked packed isRecord
-packed-unpacked numbers r = rw r (by numbers (has-room numbers r) (every-answer _ r))
-  where
-    by : (l : List ℤ) → length l ≡ runLength → ((i : ℕ) → getD (eqb (length l) runLength ∷ nonNeg (at l 0) ∷ nonNeg (at l 1) ∷ nonNeg (at l 2) ∷ leb (natAbs (at l 2)) 1 ∷ []) i true ≡ true)
-        → pos (natAbs (at l 0)) ∷ pos (natAbs (at l 1)) ∷ pos (cond (eqb (natAbs (at l 2)) 1) 1 0) ∷ drop 3 l ≡ l
-    by [] h e = absurd (omega arith)
-    by (x ∷ []) h e = absurd (omega arith)
-    by (x ∷ y ∷ []) h e = absurd (omega arith)
-    by (x ∷ y ∷ z ∷ l) h e = let p = natural x (e 1) in let q = natural y (e 2) in let b = ap pos (bit-of (natAbs z) (leb-true (natAbs z) 1 (e 4))) ∙ sym (natural z (e 3)) in cc

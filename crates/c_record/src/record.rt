@@ -12,22 +12,12 @@ ghost use Rattle.c_record.specs.Ready.{Packable};
 use runs::answer::Answer;
 use runs::record;
 use runs::record::Run;
+use slices::vectors;
 
 pub struct Head {
     pub width: usize,
     pub count: usize,
     pub finished: bool,
-}
-
-fn copy(x: &[i64], out: &mut [i64])
-    requires { ⌜ length (now x) ≡ length (now out) ⌝ }
-    ensures { λ _. ⌜ now (out .exit) ≡ now (x .entry) ⌝ }
-{
-    let mut i = 0;
-    while i < out.len() {
-        out[i] = x[i];
-        i += 1;
-    }
 }
 
 pub fn is_record(numbers: &[i64]) -> bool
@@ -81,7 +71,7 @@ pub fn unpack(numbers: &[i64]) -> Run
     if !is_record(numbers) {
         return record::make(0, 0, held, false);
     }
-    copy(&numbers[3..], &mut held);
+    vectors::copy(&numbers[3..], &mut held);
     let head = front(numbers);
     record::make(head.width, head.count, held, head.finished)
 }
@@ -94,5 +84,5 @@ pub fn pack(run: Run, numbers: &mut [i64])
     numbers[0] = run.width as i64;
     numbers[1] = run.count as i64;
     numbers[2] = run.finished as i64;
-    copy(&held, &mut numbers[3..]);
+    vectors::copy(&held, &mut numbers[3..]);
 }

@@ -4,28 +4,15 @@ ghost use mathlib.Core.List.{[]};
 ghost use Rattle.runs.specs.Answers.{told};
 ghost use Rattle.gate.specs.Own.Ready.{Ready};
 ghost use Rattle.runs.specs.Back.{takenBack, firstHeld, endedBack};
-ghost use Rattle.frames.specs.Own.Faults.{toldFault};
 use crate::in_place;
 use constants::widths;
-use frames::undo::Fault;
+use gate::limits;
 use gate::questions;
 use runs::answer::Answer;
 use runs::answer::Found;
 use runs::record;
 use runs::record::Outcome;
 use runs::record::Run;
-
-pub fn answered(fault: Fault) -> Answer
-    ensures { λ r. ⌜ told r ≡ toldFault fault ⌝ }
-{
-    match fault {
-        Fault::Range(place) => Answer::Range(place),
-        Fault::Folded(place) => Answer::Folded(place),
-        Fault::Halves(place) => Answer::Halves(place),
-        Fault::Unfolded(place) => Answer::Unfolded(place),
-        Fault::Clear => Answer::Done,
-    }
-}
 
 // Take a frame: its coefficients in, the block before it out. The first frame writes nothing.
 pub fn take(run: Run, frame: &[i32], block: &mut [i32]) -> Outcome
@@ -50,17 +37,22 @@ fn first_held(run: Run, half: usize) -> Found
 pub fn finish(run: Run) -> Outcome
     ensures { λ r. ⌜ (told (r .answer), r .run, []) ≡ endedBack run ⌝ }
 {
-    if !questions::sound(65537, run) {
-        return record::hand_back(run, Answer::Record);
-    }
-    if run.finished {
-        return record::hand_back(run, Answer::Closed);
+    let held = run.held;
+    let asked = questions::still_open(
+        limits::FRAME_LIMIT,
+        run.width,
+        run.count,
+        run.finished,
+        &held,
+    );
+    if runs::answer::number(asked) != 0 {
+        return record::hand_back(run, asked);
     }
     if run.count == 0 {
         return record::hand_back(run, Answer::Empty);
     }
-    let held = first_held(run, widths::half_width(run.width));
-    if let Found::At(place) = held {
+    let lower = first_held(run, widths::half_width(run.width));
+    if let Found::At(place) = lower {
         return record::hand_back(run, Answer::Halves(place));
     }
     record::hand_back(

@@ -8,10 +8,8 @@ ghost use Rattle.steps.specs.Limits.{foldedLimit};
 ghost use Rattle.runs.specs.Answers.{told};
 ghost use Rattle.runs.specs.Record.{recordOf, nextCount, opened};
 ghost use Rattle.runs.specs.Back.{undoneIn, takenBack};
-ghost use Rattle.frames.specs.Own.Faults.{toldFault, countAfter};
-use crate::back;
 use frames::undo;
-use frames::undo::Fault;
+use gate::limits;
 use gate::questions;
 use runs::answer::Answer;
 use slices::room;
@@ -24,12 +22,12 @@ fn in_small_room(
     frame: &[i32],
     held: &mut [i64],
     block: &mut [i32],
-) -> Fault
+) -> Answer
     requires { ⌜ width ≤ 32 ⌝ }
     requires { ⌜ 0 < halfWidth width ⌝ }
     requires { ⌜ (length (now frame) ≡ width) × (length (now held) ≡ halfWidth width) × (length (now block) ≡ width) ⌝ }
     requires { ⌜ Within foldedLimit (now held) ⌝ }
-    ensures { λ r. ⌜ (toldFault r, opened width (countAfter count r) (now (held .exit)), now (block .exit)) ≡ undoneIn (opened width count (now (held .entry))) (now (frame .entry)) (now (block .entry)) ⌝ }
+    ensures { λ r. ⌜ (told r, opened width (nextCount (told r .0) count) (now (held .exit)), now (block .exit)) ≡ undoneIn (opened width count (now (held .entry))) (now (frame .entry)) (now (block .entry)) ⌝ }
 {
     let half = width / 2;
     let long = fill::tables_long(width);
@@ -63,12 +61,12 @@ fn in_large_room(
     frame: &[i32],
     held: &mut [i64],
     block: &mut [i32],
-) -> Fault
+) -> Answer
     requires { ⌜ width ≤ 128 ⌝ }
     requires { ⌜ 0 < halfWidth width ⌝ }
     requires { ⌜ (length (now frame) ≡ width) × (length (now held) ≡ halfWidth width) × (length (now block) ≡ width) ⌝ }
     requires { ⌜ Within foldedLimit (now held) ⌝ }
-    ensures { λ r. ⌜ (toldFault r, opened width (countAfter count r) (now (held .exit)), now (block .exit)) ≡ undoneIn (opened width count (now (held .entry))) (now (frame .entry)) (now (block .entry)) ⌝ }
+    ensures { λ r. ⌜ (told r, opened width (nextCount (told r .0) count) (now (held .exit)), now (block .exit)) ≡ undoneIn (opened width count (now (held .entry))) (now (frame .entry)) (now (block .entry)) ⌝ }
 {
     let half = width / 2;
     let long = fill::tables_long(width);
@@ -96,11 +94,11 @@ fn in_large_room(
     )
 }
 
-fn undo_in(width: usize, count: usize, frame: &[i32], held: &mut [i64], block: &mut [i32]) -> Fault
+fn undo_in(width: usize, count: usize, frame: &[i32], held: &mut [i64], block: &mut [i32]) -> Answer
     requires { ⌜ 0 < halfWidth width ⌝ }
     requires { ⌜ (length (now frame) ≡ width) × (length (now held) ≡ halfWidth width) × (length (now block) ≡ width) ⌝ }
     requires { ⌜ Within foldedLimit (now held) ⌝ }
-    ensures { λ r. ⌜ (toldFault r, opened width (countAfter count r) (now (held .exit)), now (block .exit)) ≡ undoneIn (opened width count (now (held .entry))) (now (frame .entry)) (now (block .entry)) ⌝ }
+    ensures { λ r. ⌜ (told r, opened width (nextCount (told r .0) count) (now (held .exit)), now (block .exit)) ≡ undoneIn (opened width count (now (held .entry))) (now (frame .entry)) (now (block .entry)) ⌝ }
 {
     if width <= 32 {
         return in_small_room(width, count, frame, held, block);
@@ -120,22 +118,18 @@ pub fn take(
     requires { ⌜ length (now held) ≡ 64 ⌝ }
     ensures { λ r. ⌜ (told r, recordOf width (nextCount (told r .0) count) (now (held .exit)) finished, now (block .exit)) ≡ takenBack (recordOf width count (now (held .entry)) finished) (now (frame .entry)) (now (block .entry)) ⌝ }
 {
-    if !questions::sound_held(65537, width, count, finished, held) {
-        return Answer::Record;
-    }
-    if finished {
-        return Answer::Closed;
-    }
-    if count == 65537 {
-        return Answer::Full;
-    }
-    if frame.len() != width {
-        return Answer::InputLength;
-    }
-    if block.len() != width {
-        return Answer::OutputLength;
+    let asked = questions::admitted(
+        limits::FRAME_LIMIT,
+        width,
+        count,
+        finished,
+        held,
+        frame.len(),
+        block.len(),
+    );
+    if runs::answer::number(asked) != 0 {
+        return asked;
     }
     let half = width / 2;
-    let fault = undo_in(width, count, frame, &mut held[..half], block);
-    back::answered(fault)
+    undo_in(width, count, frame, &mut held[..half], block)
 }

@@ -8,6 +8,7 @@ ghost use Rattle.runs.specs.Forward.{started, frameOn, taken, ended};
 use crate::in_place;
 use constants::widths;
 use frames::step;
+use gate::limits;
 use gate::questions;
 use runs::answer::Answer;
 use runs::record;
@@ -53,11 +54,10 @@ pub fn finish(run: Run, frame: &mut [i32]) -> Outcome
     ensures { λ r. ⌜ (told (r .answer), r .run, now (frame .exit)) ≡ ended run (now (frame .entry)) ⌝ }
 {
     let width = run.width;
-    if !questions::sound(65536, run) {
-        return record::hand_back(run, Answer::Record);
-    }
-    if run.finished {
-        return record::hand_back(run, Answer::Closed);
+    let held = run.held;
+    let asked = questions::still_open(limits::BLOCK_LIMIT, width, run.count, run.finished, &held);
+    if runs::answer::number(asked) != 0 {
+        return record::hand_back(run, asked);
     }
     if frame.len() != width {
         return record::hand_back(run, Answer::OutputLength);

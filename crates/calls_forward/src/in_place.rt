@@ -10,6 +10,7 @@ ghost use Rattle.runs.specs.Answers.{told};
 ghost use Rattle.runs.specs.Record.{recordOf, nextCount};
 ghost use Rattle.runs.specs.Forward.{taken};
 use frames::step;
+use gate::limits;
 use gate::questions;
 use gate::questions::Fault;
 use runs::answer::Answer;
@@ -100,20 +101,17 @@ pub fn take(
     requires { ⌜ length (now held) ≡ 64 ⌝ }
     ensures { λ r. ⌜ (told r, recordOf width (nextCount (told r .0) count) (now (held .exit)) finished, now (frame .exit)) ≡ taken (recordOf width count (now (held .entry)) finished) (now (block .entry)) (now (frame .entry)) ⌝ }
 {
-    if !questions::sound_held(65536, width, count, finished, held) {
-        return Answer::Record;
-    }
-    if finished {
-        return Answer::Closed;
-    }
-    if count == 65536 {
-        return Answer::Full;
-    }
-    if block.len() != width {
-        return Answer::InputLength;
-    }
-    if frame.len() != width {
-        return Answer::OutputLength;
+    let asked = questions::admitted(
+        limits::BLOCK_LIMIT,
+        width,
+        count,
+        finished,
+        held,
+        block.len(),
+        frame.len(),
+    );
+    if runs::answer::number(asked) != 0 {
+        return asked;
     }
     let fault = questions::fault_of(block);
     match fault {

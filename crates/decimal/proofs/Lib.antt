@@ -3,4 +3,3 @@ pub mod PrintLaws
 pub mod CompareLaws
 pub mod ReadLaws
 pub mod FieldsRead
-pub mod GatherLaws

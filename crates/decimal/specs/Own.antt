@@ -1,4 +1,3 @@
 -- Serves the code; no promise cites it.
 pub mod Put
 pub mod Reading
-pub mod Gathers

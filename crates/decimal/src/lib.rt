@@ -1,6 +1,5 @@
 // A line of text: whole numbers in decimal, parted by commas, printed and read.
 pub mod compare;
-pub mod gather;
 pub mod print;
 pub mod read;
 pub mod search;

@@ -18,8 +18,9 @@ use Rattle.steps.specs.Limits.{readingLimit, rotatedLimit, coefficientLimit}
 use Rattle.steps.specs.Steps.{lower, held, stages, frame}
 use Rattle.steps.specs.RowForm.{weave, widthOf, high, rowFrame}
 use Rattle.steps.proofs.Rotation.{lower-size, held-size}
-use Rattle.steps.proofs.Undo.{length-lower, length-held, width-half}
-use Rattle.steps.proofs.RowForms.{good, M-of, held-rows, stages-rows, frame-rows}
+use Rattle.steps.proofs.Lengths.{length-lower, length-held, width-half}
+use Rattle.steps.proofs.RowLengths.{good, M-of}
+use Rattle.steps.proofs.RowForms.{held-rows, stages-rows, frame-rows}
 use Rattle.distance.specs.Exact.{anySine, anyCosine, lesser, greater, total, least, greatest, rootM, denominator}
 use Rattle.distance.specs.Statement.{IsWidth, Block, coefficient, Near, DistanceAt, promised, Promised, shown, Shown, requested, Requested, gain, rounding, SizesAt, Sizes, Folded, FrameSizes}
 use Rattle.distance.proofs.Carried.{Row, rowOf, columns, currentRow, previousRow, nearBy, sizedBy, sineBoxes, cosineBoxes, passes}

@@ -11,7 +11,7 @@ use Rattle.integers.proofs.Order.{near-add}
 use Rattle.integers.proofs.Products.{dot-zeros, dot-append}
 use Rattle.steps.specs.RowForm.{rev, Width, rotA, rotB, low, high}
 use Rattle.steps.proofs.Lists.{Len, len-rev, len-take, len-drop}
-use Rattle.steps.proofs.RowForms.{Good, len-rotA, len-rotB}
+use Rattle.steps.proofs.RowLengths.{Good, len-rotA, len-rotB}
 use Rattle.distance.proofs.Transposed.{zeros, dot-rev, dot-halves, dot-joined}
 use Rattle.distance.proofs.Carried.{Row, downA, downB, rowA, rowB, rowRot, lowRow, highRow, currentRow, previousRow, flat}
 use Rattle.distance.proofs.Closeness.{Close, Fit, re-read, exact}

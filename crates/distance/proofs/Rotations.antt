@@ -4,7 +4,7 @@ use mathlib.Core.List.{List}
 use lib.IntN.{ℤ}
 use Rattle.steps.specs.RowForm.{times, Width, tanAmounts, sinAmounts, rotA, rotB}
 use Rattle.steps.proofs.Lists.{Len, len-times}
-use Rattle.steps.proofs.RowForms.{Good, liftA, liftB, len-liftB, len-rotA}
+use Rattle.steps.proofs.RowLengths.{Good, liftA, liftB, len-liftB, len-rotA}
 use Rattle.distance.proofs.Transposed.{dot-times}
 use Rattle.distance.proofs.Carried.{Row, rowA, rowB, rowRot}
 use Rattle.distance.proofs.Closeness.{Close, Fit, closeA, closeB, fitA, fitB}

@@ -16,7 +16,7 @@ use Rattle.tables.specs.Boxes.{Box}
 use Rattle.steps.specs.Places.{at, sum}
 use Rattle.steps.specs.RowForm.{evens, odds, weave, Width, high, rowStages, rowFrame}
 use Rattle.steps.proofs.Lists.{len-weave}
-use Rattle.steps.proofs.RowForms.{Good}
+use Rattle.steps.proofs.RowLengths.{Good}
 use Rattle.distance.specs.Exact.{sineAngle, cosineAngle, denominator, term}
 use Rattle.distance.proofs.Transposed.{dot-weave}
 use Rattle.distance.proofs.Carried.{Row, Limits, rowOf, columns, currentRow, previousRow, flat, fars, nearBy, sizedBy, sineBoxes, cosineBoxes}

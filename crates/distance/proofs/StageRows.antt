@@ -11,7 +11,7 @@ use Rattle.integers.proofs.Products.{dot-plus, dot-plus-r}
 use Rattle.steps.specs.Places.{at}
 use Rattle.steps.specs.RowForm.{rev, negative, alt, evens, odds, Width, one, two, three, four, five, rowStages}
 use Rattle.steps.proofs.Lists.{Len, len-lift, len-plus, len-mul, len-rev, len-alt, len-negative, len-evens, len-odds, len-take, len-drop}
-use Rattle.steps.proofs.RowForms.{Good, liftA, liftB, len-liftA, len-liftB}
+use Rattle.steps.proofs.RowLengths.{Good, liftA, liftB, len-liftA, len-liftB}
 use Rattle.distance.proofs.Transposed.{unit, len-unit, dot-unit, dot-rev, dot-alt, dot-signs, dot-halves}
 use Rattle.distance.proofs.Columns.{cols, len-cols, mulParts, mulSparse, len-parts, len-sparse, dot-parts, dot-sparse}
 use Rattle.distance.proofs.Carried.{Row, downA, downB, rowA, rowB, rowAt, turned, row3, signed, row2, added, row1, rowOf, columns}

@@ -22,7 +22,7 @@ use Rattle.integers.proofs.Fills.{Filling, filling-next, filling-here}
 use Rattle.tables.specs.Widths.{halfWidth}
 use Rattle.tables.proofs.ByWidth.{at-each}
 use Rattle.steps.specs.Steps.{tangent, sine, tangentAmount, sineAmount, rotatedA, rotatedB, unrotatedA, unrotatedB, lower}
-use Rattle.steps.proofs.Undo.{length-lower}
+use Rattle.steps.proofs.Lengths.{length-lower}
 use Rattle.slices.specs.Own.Moves.{moved}
 use Rattle.width_tables.specs.Own.Parts.{Tangents, Sines}
 use Rattle.slices.proofs.MoveLaws.{moved-size}

@@ -7,6 +7,7 @@ ghost use lib.ListN.{length, set};
 ghost use Rattle.integers.specs.Floor.{round};
 ghost use Rattle.integers.specs.Places.{at, Within};
 ghost use Rattle.tables.specs.Widths.{halfWidth};
+ghost use Rattle.steps.specs.Limits.{foldedLimit};
 ghost use Rattle.steps.specs.Steps;
 ghost use Rattle.steps.specs.Steps.{lower, topOf, bottomOf, rotatedA, rotatedB};
 ghost use Rattle.slices.specs.Own.Moves.{moved};
@@ -28,7 +29,7 @@ fn lift(undo: bool, c: i64, x: i64, y: i64) -> i64
 
 // The pair (a, b) rotated, or rotated back: t is −t(n), s is s(n).
 fn rotated(undo: bool, t: i64, s: i64, a: i64, b: i64) -> Pair
-    requires { ⌜ (natAbs t ≤ 2 ^ 28) × (natAbs s ≤ 2 ^ 28) × (natAbs a ≤ 50000) × (natAbs b ≤ 50000) ⌝ }
+    requires { ⌜ (natAbs t ≤ 2 ^ 28) × (natAbs s ≤ 2 ^ 28) × (natAbs a ≤ foldedLimit) × (natAbs b ≤ foldedLimit) ⌝ }
     ensures { λ r. ⌜ r .a ≡ moved undo a (round 28 (s *ℤ moved undo b (round 28 (t *ℤ a)))) ⌝ }
     ensures { λ r. ⌜ r .b ≡ moved undo (moved undo b (round 28 (t *ℤ a))) (round 28 (t *ℤ r .a)) ⌝ }
 {
@@ -46,7 +47,7 @@ fn pair_of(width: usize, tangents: &[i64], sines: &[i64], block: &[i32], n: usiz
     requires { ⌜ Tangents width (now tangents) ⌝ }
     requires { ⌜ Sines width (now sines) ⌝ }
     requires { ⌜ length (now block) ≡ width ⌝ }
-    requires { ⌜ Within 50000 (now block) ⌝ }
+    requires { ⌜ Within foldedLimit (now block) ⌝ }
     ensures { λ r. ⌜ (r .a ≡ rotatedA width n (at (now (block .entry)) n) (at (now (block .entry)) (width - 1 - n))) × (r .b ≡ rotatedB width n (at (now (block .entry)) n) (at (now (block .entry)) (width - 1 - n))) ⌝ }
 {
     let mirrored = width - 1 - n;
@@ -84,7 +85,7 @@ pub fn fold(
     requires { ⌜ Sines width (now sines) ⌝ }
     requires { ⌜ (length (now block) ≡ width) × (length (now held) ≡ halfWidth width) ⌝ }
     requires { ⌜ Halves width (now top) (now bottom) ⌝ }
-    requires { ⌜ Within 50000 (now block) ⌝ }
+    requires { ⌜ Within foldedLimit (now block) ⌝ }
     ensures { λ _. ⌜ now (held .exit) ≡ Rattle.steps.specs.Steps.held width (now (block .entry)) ⌝ }
     ensures { λ _. ⌜ (now (top .exit) ≡ topOf width (lower width (now (block .entry)) ++ now (held .entry))) × (now (bottom .exit) ≡ bottomOf width (lower width (now (block .entry)) ++ now (held .entry))) ⌝ }
 {
@@ -115,8 +116,8 @@ pub fn unfold(
     requires { ⌜ Sines width (now sines) ⌝ }
     requires { ⌜ Halves width (now lower) (now held) ⌝ }
     requires { ⌜ length (now block) ≡ width ⌝ }
-    requires { ⌜ Within 50000 (now lower) ⌝ }
-    requires { ⌜ Within 50000 (now held) ⌝ }
+    requires { ⌜ Within foldedLimit (now lower) ⌝ }
+    requires { ⌜ Within foldedLimit (now held) ⌝ }
     ensures { λ _. ⌜ now (block .exit) ≡ Rattle.steps.specs.Steps.unfolded width (now (lower .entry)) (now (held .entry)) ⌝ }
 {
     let half = tangents.len();

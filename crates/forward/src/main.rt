@@ -1,6 +1,8 @@
 // Readings on standard input to frames on standard output.
+use stream::run;
 use text_runs::state::Way;
 
 fn main() {
-    stream::run(Way::Forward, 0, 1);
+    let mut buffer = io::large_buffer();
+    run::tell(run::run(Way::Forward, 0, 1, &mut buffer));
 }

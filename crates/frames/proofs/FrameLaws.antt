@@ -9,9 +9,10 @@ use lib.Seq.{getD-drop}
 use Rattle.integers.specs.Places.{places, at, Within}
 use Rattle.integers.proofs.PlaceLaws.{places-ext, within-places, within-up}
 use Rattle.tables.specs.Widths.{halfWidth}
+use Rattle.steps.specs.Limits.{foldedLimit}
 use Rattle.steps.specs.Steps.{topOf, bottomOf, stages, unstages, interleaved}
 use Rattle.slices.specs.Own.Moves.{wovenAt}
-use Rattle.steps.proofs.Undo.{width-half}
+use Rattle.steps.proofs.Lengths.{width-half}
 use Rattle.stages.proofs.PartLaws.{half-in-fours}
 use Rattle.stages.proofs.FrameSizes.{within4, within5}
 use Rattle.stages.specs.Own.Stages.{bottom1, top2, bottom3, top4, bottom5, unbottom5, untop4, unbottom3, untop2, unbottom1}
@@ -64,10 +65,10 @@ appended B (x ∷ xs) ys h k zero = h .size 0
 appended B (x ∷ xs) ys h k (suc i) = appended B xs ys (record { size = λ j. h .size (suc j) }) k i
 
 -- a coefficient of folded values in range fits 32 bits
-pub stages-within : (N : ℕ) (f : List ℤ) → length f ≡ N → halfWidth N + halfWidth N ≡ N → Within 50000 f → Within (2 ^ 30) (stages N f)
+pub stages-within : (N : ℕ) (f : List ℤ) → length f ≡ N → halfWidth N + halfWidth N ≡ N → Within foldedLimit f → Within (2 ^ 30) (stages N f)
 stages-within N f l e h =
-    let t = top-within N 50000 f h in
-    let b = bottom-within N 50000 f h in
+    let t = top-within N foldedLimit f h in
+    let b = bottom-within N foldedLimit f h in
     subst (Within (2 ^ 30)) (stages-halves N f)
     (record { size = appended (2 ^ 30) _ _ (within-up (within4 N _ _ t b) (omega arith)) (within-up (within5 N _ _ t b) (omega arith)) })
 

@@ -9,7 +9,7 @@ use lib.ListN.{length, take, drop}
 use Rattle.tables.specs.Widths.{halfWidth}
 use Rattle.tables.proofs.ByWidth.{at-each, half-width-le}
 use Rattle.tables.proofs.Reading.{half-is}
-use Rattle.steps.proofs.Undo.{width-half}
+use Rattle.steps.proofs.Lengths.{width-half}
 use Rattle.width_tables.specs.Filled.{leavesLong, tablesLong, listRoom, productRoom, Filled}
 use Rattle.width_tables.specs.Own.Parts.{Tangents, Sines, Halves}
 use Rattle.slices.proofs.Parts.{part-long, front, front-long, front-le}

@@ -1,4 +1,4 @@
--- What questions 9 to 12 decide of a frame, test by test, where a run holds the lower half of the frame before.
+-- What questions 11 and 12 decide of a frame, test by test, where a run holds the lower half of the frame before.
 use mathlib.Core.Path.{_≡_, refl, sym, ap, ap₂, _∙_}
 use mathlib.Core.Bool.{Bool, true, false, cond}
 use mathlib.Core.List.{List, [], _∷_}
@@ -8,9 +8,9 @@ use borrow.Author.Tests.{eq-eqb, ne-eqb}
 use lib.IntN.{ℤ, pos}
 use lib.ListN.{length, take, drop}
 use Rattle.tables.specs.Widths.{halfWidth}
-use Rattle.steps.specs.Limits.{foldedLimit, coefficientLimit}
-use Rattle.steps.specs.Steps.{unstages, unfolded}
-use Rattle.runs.specs.Answers.{first, firstBeyond}
+use Rattle.steps.specs.Steps.{unfolded}
+use Rattle.runs.specs.Answers.{told, first, firstBeyond}
+use Rattle.runs.specs.declared.answer.Answer.the-variants.{Done, Halves, Unfolded}
 use Rattle.runs.specs.declared.answer.Found.{Found}
 use Rattle.runs.specs.declared.answer.Found.the-variants.{At, Nothing}
 use Rattle.runs.specs.declared.record.Run.{Run}
@@ -18,10 +18,7 @@ use Rattle.runs.specs.Record.{nextCount, opened}
 use Rattle.runs.specs.Gate.{askEach, firstOut}
 use Rattle.runs.proofs.RecordLaws.{take-filled}
 use Rattle.runs.proofs.BackLaws.{length-block}
-use Rattle.frames.specs.declared.undo.Fault.{Fault}
-use Rattle.frames.specs.declared.undo.Fault.the-variants.{Range, Folded, Halves, Unfolded, Clear}
-use Rattle.frames.specs.Own.Faults.{toldFault, countAfter}
-use Rattle.runs.specs.Back.{framed, blockOn, firstUpper, firstFrame, laterFrame, unfoldedIn, undoneIn}
+use Rattle.runs.specs.Back.{framed, blockOn, firstUpper, firstFrame, laterFrame, unfoldedIn}
 
 -- ---- a search whose places count from elsewhere
 from : ℕ → Found → Found
@@ -59,12 +56,12 @@ module _ (N count : ℕ) (low folded out : List ℤ) where
     is-first = rw (eq-eqb _ _ z)
 
     pub upper-refused : (half place : ℕ) → half ≡ halfWidth N → firstBeyond (pos 0) upper 0 ≡ At place
-        → (toldFault (Halves (half + place)), opened N (countAfter count (Halves (half + place))) low, out) ≡ unfoldedIn run folded out
-    unfolding toldFault countAfter firstFrame askEach from
+        → (told (Halves (half + place)), opened N (nextCount (told (Halves (half + place)) .0) count) low, out) ≡ unfoldedIn run folded out
+    unfolding told nextCount firstFrame askEach from
     upper-refused half place h e = sym (ap (λ f. askEach 11 f run out ((0, 0), framed run folded, out)) (upper-at (At place) e) ∙ ap (λ n. ((11, n + place), run, out)) (sym h)) ∙ is-first
 
-    pub first-done : (kept : List ℤ) → kept ≡ take (halfWidth N) folded → firstBeyond (pos 0) upper 0 ≡ Nothing → (toldFault Clear, opened N (countAfter count Clear) kept, out) ≡ unfoldedIn run folded out
-    unfolding toldFault countAfter firstFrame askEach from
+    pub first-done : (kept : List ℤ) → kept ≡ take (halfWidth N) folded → firstBeyond (pos 0) upper 0 ≡ Nothing → (told Done, opened N (nextCount (told Done .0) count) kept, out) ≡ unfoldedIn run folded out
+    unfolding told nextCount firstFrame askEach from
     first-done kept k e = ap (λ (r : Run). ((0, 0), r, out)) (framed-is kept k) ∙ sym (ap (λ f. askEach 11 f run out ((0, 0), framed run folded, out)) (upper-at Nothing e)) ∙ is-first
 
   -- the block between what is held and the frame's upper half
@@ -81,39 +78,12 @@ module _ (N count : ℕ) (low folded out : List ℤ) where
     unfolding unfoldedIn opened
     is-later = rw (ne-eqb _ _ n)
 
-    pub later-refused : (place : ℕ) → firstOut (blockOn run folded) 0 ≡ At place → (toldFault (Unfolded place), opened N (countAfter count (Unfolded place)) low, out) ≡ unfoldedIn run folded out
-    unfolding toldFault countAfter laterFrame askEach
+    pub later-refused : (place : ℕ) → firstOut (blockOn run folded) 0 ≡ At place → (told (Unfolded place), opened N (nextCount (told (Unfolded place) .0) count) low, out) ≡ unfoldedIn run folded out
+    unfolding told nextCount laterFrame askEach
     later-refused place e = sym (ap (λ f. askEach 12 f run out ((0, 0), framed run folded, blockOn run folded)) e) ∙ is-later
 
     pub later-done : (kept block : List ℤ) → kept ≡ take (halfWidth N) folded → block ≡ blockOn run folded → firstOut (blockOn run folded) 0 ≡ Nothing
-        → (toldFault Clear, opened N (countAfter count Clear) kept, block) ≡ unfoldedIn run folded out
-    unfolding toldFault countAfter laterFrame askEach
+        → (told Done, opened N (nextCount (told Done .0) count) kept, block) ≡ unfoldedIn run folded out
+    unfolding told nextCount laterFrame askEach
     later-done kept block k b e =
         ap₂ (λ (r : Run) (w : List ℤ). ((0, 0), r, w)) (framed-is kept k) b ∙ sym (ap (λ f. askEach 12 f run out ((0, 0), framed run folded, blockOn run folded)) e) ∙ is-later
-
--- ---- 9 and 10
-module _ (N count : ℕ) (low frame out : List ℤ) where
-  abbrev asked : Run
-  asked = opened N count low
-
-  pub range-refused : (place : ℕ) → firstBeyond (pos coefficientLimit) frame 0 ≡ At place → (toldFault (Range place), opened N (countAfter count (Range place)) low, out) ≡ undoneIn asked frame out
-  unfolding toldFault countAfter undoneIn askEach
-  range-refused place e = rw e
-
-  module _ (e : firstBeyond (pos coefficientLimit) frame 0 ≡ Nothing) where
-    pub folded-refused : (place : ℕ) → firstBeyond (pos foldedLimit) (unstages N frame) 0 ≡ At place → (toldFault (Folded place), opened N (countAfter count (Folded place)) low, out) ≡ undoneIn asked frame out
-    unfolding toldFault countAfter undoneIn askEach opened
-    folded-refused place d = rw (e, d)
-
-    pub folded-passed : firstBeyond (pos foldedLimit) (unstages N frame) 0 ≡ Nothing → unfoldedIn asked (unstages N frame) out ≡ undoneIn asked frame out
-    unfolding undoneIn askEach opened
-    folded-passed d = rw (e, d)
-
--- ---- the count, by the answer's number
-pub count-told : (count : ℕ) (f : Fault) → nextCount (toldFault f .0) count ≡ countAfter count f
-unfolding nextCount toldFault countAfter
-count-told count (Range place) = refl
-count-told count (Folded place) = refl
-count-told count (Halves place) = refl
-count-told count (Unfolded place) = refl
-count-told count Clear = refl

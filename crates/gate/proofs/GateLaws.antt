@@ -112,7 +112,7 @@ pub rest-part : (all m n : ℕ) (xs : List ℤ) → length xs ≡ all → m ≡ 
 rest-part all m n xs l e = take-all (all - m) (drop m xs) (omega (arith, length-drop m xs, l)) ∙ ap (λ k. drop k xs) e
 
 -- the numbers up to place n decide, where those behind them are zero
-same-answer : (a b : Bool) → (a ≡ true → b ≡ true) → (b ≡ true → a ≡ true) → a ≡ b
+pub same-answer : (a b : Bool) → (a ≡ true → b ≡ true) → (b ≡ true → a ≡ true) → a ≡ b
 same-answer true b h k = sym (h refl)
 same-answer false true h k = k refl
 same-answer false false h k = refl

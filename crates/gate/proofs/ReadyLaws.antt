@@ -14,7 +14,7 @@ use Rattle.tables.specs.Widths.{halfWidth}
 use Rattle.tables.proofs.ByWidth.{half-width-le}
 use Rattle.steps.specs.Limits.{readingLimit, foldedLimit}
 use Rattle.steps.specs.Steps.{held, frame}
-use Rattle.steps.proofs.Undo.{length-held}
+use Rattle.steps.proofs.Lengths.{length-held}
 use Rattle.distance.proofs.ZeroBlock.{zero-block}
 use Rattle.runs.specs.declared.record.Run.{Run}
 use Rattle.runs.specs.Record.{frameLimit, zeros, recordOf, filled, opened, advanced}

@@ -1,18 +1,19 @@
-// The gate's questions about a run record and about the readings of a block.
+// The gate's questions about a run record, about lengths, and about the numbers of a block or a frame.
 ghost use mathlib.Core.Path.{_≡_};
 ghost use mathlib.Core.Bool.{cond};
-ghost use Prim.Native.Nat.{_%_, _≤_, _<_, _^_};
-ghost use lib.IntN.{pos, natAbs};
+ghost use Prim.Native.Nat.{_*_, _%_, _≤_, _<_};
+ghost use lib.IntN.{pos};
 ghost use lib.ListN.{length};
 ghost use lib.Signed.{_≤ℤ_};
 ghost use Rattle.runs.specs.Answers.{told, beyond, firstBeyond};
-ghost use Rattle.runs.specs.Record.{recordOf, nextCount};
+ghost use Rattle.runs.specs.Record.{blockLimit, frameLimit, recordOf, nextCount};
 ghost use Rattle.runs.specs.Gate.{firstDead};
+ghost use Rattle.gate.specs.Own.Asked.{StillOpen, Admitted, inParts};
 ghost use Rattle.gate.specs.Own.Faults.{faultOf};
+use crate::limits;
 use constants::widths;
 use runs::answer::Answer;
 use runs::answer::Found;
-use runs::record::Run;
 use slices::room;
 use slices::vectors;
 
@@ -24,15 +25,16 @@ pub enum Fault {
 }
 
 // The first number beyond ±limit.
-pub fn first_beyond(x: &[i64], limit: i64) -> Found
-    requires { ⌜ (pos 0 ≤ℤ limit) × (natAbs limit < 2 ^ 62) ⌝ }
+pub fn first_beyond(x: &[i64], limit: i32) -> Found
+    requires { ⌜ pos 0 ≤ℤ limit ⌝ }
     ensures { λ r. ⌜ r ≡ firstBeyond limit (now (x .entry)) 0 ⌝ }
 {
-    let low = 0 - limit;
+    let high = limit as i64;
+    let low = 0 - high;
     let mut i = 0;
     while i < x.len() {
         let value = x[i];
-        if limit < value {
+        if high < value {
             return Found::At(i);
         }
         if value < low {
@@ -43,8 +45,8 @@ pub fn first_beyond(x: &[i64], limit: i64) -> Found
     Found::Nothing
 }
 
-fn inside(x: &[i64], limit: i64) -> bool
-    requires { ⌜ (pos 0 ≤ℤ limit) × (natAbs limit < 2 ^ 62) ⌝ }
+fn inside(x: &[i64], limit: i32) -> bool
+    requires { ⌜ pos 0 ≤ℤ limit ⌝ }
     ensures { λ r. ⌜ r ≡ Rattle.runs.specs.Gate.inside limit (now (x .entry)) ⌝ }
 {
     let beyond = first_beyond(x, limit);
@@ -67,8 +69,8 @@ fn clear(x: &[i64]) -> bool
     any == 0
 }
 
-// Question 2, where the held values of the record are lent.
-pub fn sound_held(top: usize, width: usize, count: usize, finished: bool, held: &[i64]) -> bool
+// Question 2. The held values of the record are lent.
+fn sound(top: usize, width: usize, count: usize, finished: bool, held: &[i64]) -> bool
     requires { ⌜ length (now held) ≡ 64 ⌝ }
     ensures { λ r. ⌜ r ≡ Rattle.runs.specs.Gate.sound top (recordOf width count (now (held .entry)) finished) ⌝ }
 {
@@ -88,15 +90,70 @@ pub fn sound_held(top: usize, width: usize, count: usize, finished: bool, held: 
     if finished {
         return clear(&held[..half]);
     }
-    inside(&held[..half], 50000)
+    inside(&held[..half], limits::FOLDED_LIMIT)
 }
 
-// Question 2.
-pub fn sound(top: usize, run: Run) -> bool
-    ensures { λ r. ⌜ r ≡ Rattle.runs.specs.Gate.sound top run ⌝ }
+// Questions 2 and 3, to every call on a record.
+pub fn still_open(top: usize, width: usize, count: usize, finished: bool, held: &[i64]) -> Answer
+    requires { ⌜ length (now held) ≡ 64 ⌝ }
+    ensures { λ r. ⌜ StillOpen top (recordOf width count (now (held .entry)) finished) r ⌝ }
 {
-    let held = run.held;
-    sound_held(top, run.width, run.count, run.finished, &held)
+    if !sound(top, width, count, finished, held) {
+        return Answer::Record;
+    }
+    if finished {
+        return Answer::Closed;
+    }
+    Answer::Done
+}
+
+// Questions 2, 3, 4, 6 and 7, to a block or a frame: given numbers are handed in, and out lent for the output.
+pub fn admitted(
+    top: usize,
+    width: usize,
+    count: usize,
+    finished: bool,
+    held: &[i64],
+    given: usize,
+    out: usize,
+) -> Answer
+    requires { ⌜ length (now held) ≡ 64 ⌝ }
+    ensures { λ r. ⌜ Admitted top (recordOf width count (now (held .entry)) finished) given out r ⌝ }
+{
+    let open = still_open(top, width, count, finished, held);
+    if runs::answer::number(open) != 0 {
+        return open;
+    }
+    if count == top {
+        return Answer::Full;
+    }
+    if given != width {
+        return Answer::InputLength;
+    }
+    if out != width {
+        return Answer::OutputLength;
+    }
+    Answer::Done
+}
+
+// Questions 1 and 6, where there is no record: a good width, and an input of whole blocks or frames, from least to most of them.
+pub fn in_parts(width: usize, given: usize, least: usize, most: usize) -> Answer
+    ensures { λ r. ⌜ told r ≡ inParts width given least most ⌝ }
+{
+    if widths::half_width(width) == 0 {
+        return Answer::Width;
+    }
+    if given % width != 0 {
+        return Answer::InputLength;
+    }
+    let parts = given / width;
+    if most < parts {
+        return Answer::InputLength;
+    }
+    if parts < least {
+        return Answer::InputLength;
+    }
+    Answer::Done
 }
 
 fn first_dead(x: &[i64]) -> Found
@@ -104,7 +161,7 @@ fn first_dead(x: &[i64]) -> Found
 {
     let mut i = 0;
     while i < x.len() {
-        if x[i] == -32768 {
+        if x[i] == limits::DEAD_MARK {
             return Found::At(i);
         }
         i += 1;
@@ -119,7 +176,7 @@ fn fault_in(block: &[i64]) -> Fault
     if let Found::At(place) = dead {
         return Fault::Dead(place);
     }
-    let beyond = first_beyond(block, 32767);
+    let beyond = first_beyond(block, limits::READING_LIMIT);
     if let Found::At(place) = beyond {
         return Fault::Beyond(place);
     }
@@ -153,7 +210,7 @@ fn out_of_range(value: i32, limit: i32) -> u32
 
 // Those beyond are counted without a branch, which the machine does several at a time.
 pub fn in_range(x: &[i32], limit: i32) -> bool
-    requires { ⌜ (length (now x) ≤ 8388608) × (pos 0 ≤ℤ limit) ⌝ }
+    requires { ⌜ (length (now x) ≤ blockLimit * 128) × (pos 0 ≤ℤ limit) ⌝ }
     ensures { λ r. ⌜ r ≡ Rattle.runs.specs.Gate.inside limit (now (x .entry)) ⌝ }
 {
     let mut out: u32 = 0;
@@ -165,12 +222,25 @@ pub fn in_range(x: &[i32], limit: i32) -> bool
     out == 0
 }
 
+// The first number beyond ±limit, of numbers that are seldom out of range; wide is room for the search.
+pub fn seldom_beyond(x: &[i32], limit: i32, wide: &mut [i64]) -> Found
+    requires { ⌜ (length (now x) ≤ 128) × (length (now x) % 4 ≡ 0) × (length (now x) ≡ length (now wide)) ⌝ }
+    requires { ⌜ pos 0 ≤ℤ limit ⌝ }
+    ensures { λ r. ⌜ r ≡ firstBeyond limit (now (x .entry)) 0 ⌝ }
+{
+    if in_range(x, limit) {
+        return Found::Nothing;
+    }
+    vectors::widen(x, wide);
+    first_beyond(wide, limit)
+}
+
 // Questions 8 and 9. The dead mark is out of range too, so that readings in range have no fault.
 pub fn fault_of(block: &[i32]) -> Fault
     requires { ⌜ (length (now block) ≤ 128) × (length (now block) % 4 ≡ 0) ⌝ }
     ensures { λ r. ⌜ r ≡ faultOf (now (block .entry)) ⌝ }
 {
-    if in_range(block, 32767) {
+    if in_range(block, limits::READING_LIMIT) {
         return Fault::Clear;
     }
     searched(block)
@@ -178,7 +248,7 @@ pub fn fault_of(block: &[i32]) -> Fault
 
 // The count after a call that gave this answer.
 pub fn next_count(count: usize, answer: Answer) -> usize
-    requires { ⌜ (told answer .0 ≡ 0 → count < 65537) ⌝ }
+    requires { ⌜ (told answer .0 ≡ 0 → count < frameLimit) ⌝ }
     ensures { λ r. ⌜ r ≡ nextCount (told answer .0) count ⌝ }
 {
     if runs::answer::number(answer) != 0 {

@@ -10,14 +10,14 @@ use lib.Signed.{mag}
 use mir.Syntax.{w64}
 use mir.Val.{toZ, ofZ}
 use Rattle.integers.specs.Floor.{round}
-use Rattle.integers.specs.Places.{places, at, Within}
+use Rattle.integers.specs.Places.{tab, places, at, Within}
 use Rattle.integers.proofs.PlaceLaws.{within-all}
 use Rattle.integers.proofs.Fills.{Filling, filling-none, filling-four, filling-all}
 use Rattle.slices.specs.declared.fours.Four.{Four}
 use Rattle.slices.specs.Own.Fours.{listed, stored}
-use Rattle.slices.proofs.FourLaws.{stored-out}
+use Rattle.slices.proofs.FourLaws.{stored-out, listed-within}
 use Rattle.slices.specs.Own.Moves.{moved}
-use Rattle.lifts.specs.Own.Moves.{movedFour}
+use Rattle.lifts.specs.Own.Moves.{movedFour, products}
 use Rattle.lifts.proofs.NumLaws.{call-is}
 
 -- F n j z is what takes the place of z at j, in a list of n numbers
@@ -85,8 +85,11 @@ pub record Gave (r a : ℤ) : Type 0 where
 gave-is : {r a : ℤ} → Gave r a → toZ w64 (ofZ w64 r) ≡ a
 gave-is g = call-is w64 (g .ok) (g .is)
 
-gave-size : {r a : ℤ} → Gave r a → natAbs (toZ w64 (ofZ w64 r)) ≤ 2 ^ 61
+pub gave-size : {r a : ℤ} → Gave r a → natAbs (toZ w64 (ofZ w64 r)) ≤ 2 ^ 61
 gave-size {r} g = subst (λ z. natAbs z ≤ 2 ^ 61) (sym (call-is w64 {r = r} (g .ok) refl)) (g .small)
+
+pub called-is : (f : Four) {p q r s : ℤ} → Gave p (f .a) → Gave q (f .b) → Gave r (f .c) → Gave s (f .d) → called p q r s ≡ f
+called-is f a b c d = rw (gave-is a, gave-is b, gave-is c, gave-is d)
 
 -- four calls gave the amounts of a turn
 pub record Gaves (A : ℕ → ℤ) (i : ℕ) (p q r s : ℤ) : Type 0 where
@@ -117,12 +120,31 @@ module _ (undo : Bool) (A : ℕ → ℕ → ℤ) {d₀ : List ℤ} {i : ℕ} (d 
 abbrev pub Factors : List ℤ → List ℤ → List ℤ → Type 0
 Factors c x y = ((length c ≡ length y) × (length x ≡ length y)) × (Within (2 ^ 28) c × (Within (2 ^ 34) x × Within (2 ^ 60) y))
 
-abbrev pub products : (ℕ → ℕ → ℕ) → List ℤ → List ℤ → ℕ → ℕ → ℤ
-products place c x n j = round 28 (at c (place n j) *ℤ at x (n - 1 - j))
+abbrev pub productAt : (ℕ → ℕ → ℕ) → List ℤ → List ℤ → ℕ → ℕ → ℤ
+productAt place c x n j = round 28 (at c (place n j) *ℤ at x (n - 1 - j))
 
--- what a call is asked, and what it gave
-pub product-asked : (c x y : List ℤ) → Factors c x y → {n : ℕ} → n ≡ length y → {p q : ℕ} → p < n → q < n → ((p < length c) × (q < length x)) × (Within (2 ^ 28) c × Within (2 ^ 34) x)
-product-asked c x y f l a b = ((omega (arith, f .0), omega (arith, f .0)), (f .1 .0, f .1 .1 .0))
+-- what a turn is asked, with four numbers of each
+pub products-asked : {F : Rule} {d₀ : List ℤ} {i : ℕ} {d : List ℤ} → Turns F d₀ i d → length d₀ % 4 ≡ 0 → i < length d → (c x : List ℤ) → Factors c x d₀
+    → (f g : Four) (u v : ℕ → ℕ) → listed f ≡ places 4 (λ j. at c (u j)) → listed g ≡ places 4 (λ j. at x (v j))
+    → (i + 4 ≤ length d) × (((j : ℕ) → natAbs (at d (i + j)) ≤ 2 ^ 60) × (Within (2 ^ 28) (listed f) × Within (2 ^ 34) (listed g)))
+products-asked {i = i} h e l c x p f g u v a b = (
+  turns-left h e l,
+  (λ j. turns-size h (p .1 .1 .1) (i + j) (omega arith), (listed-within f _ (2 ^ 28) a (λ j m. p .1 .0 .size (u j)), listed-within g _ (2 ^ 34) b (λ j m. p .1 .1 .0 .size (v j)))),
+)
 
-pub product-gave : (place : ℕ → ℕ → ℕ) (c x : List ℤ) (n j p q : ℕ) {r : ℤ} → p ≡ place n j → q ≡ n - 1 - j → mag r < 2 ^ 63 → (r ≡ round 28 (at c p *ℤ at x q)) × (natAbs r ≤ 2 ^ 61) → Gave r (products place c x n j)
-product-gave place c x n j p q a b ok e = record { ok = ok; is = e .0 ∙ ap₂ (λ p q. round 28 (at c p *ℤ at x q)) a b; small = e .1 }
+-- and what it comes to
+module _ (undo : Bool) (place : ℕ → ℕ → ℕ) (c x : List ℤ) {d₀ : List ℤ} {i : ℕ} (d : List ℤ) (h : Turns (λ n j z. moved undo z (productAt place c x n j)) d₀ i d) (e : length d₀ % 4 ≡ 0) (l : i < length d) (f g : Four) (a : listed f ≡ places 4 (λ j. at c (place (length d) (i + j)))) (b : listed g ≡ places 4 (λ j. at x (length d - 4 - i + j))) where
+  product-is : {u v : ℤ} (p j : ℕ) → u ≡ at c (place (length d) j) → v ≡ at x p → p ≡ length d - 1 - j → round 28 (u *ℤ v) ≡ productAt place c x (length d) j
+  product-is p j q r s = ap₂ (λ u v. round 28 (u *ℤ v)) q (r ∙ ap (at x) s)
+
+  pub products-next : {d′ : List ℤ} → d′ ≡ stored d i (movedFour undo d i (products f g)) → Turns (λ n j z. moved undo z (productAt place c x n j)) d₀ (i + 4) d′
+  unfolding tab
+  products-next same =
+      let n = turns-left h e l in
+      let zero : i + 0 ≡ i = omega arith in
+      subst (Turns _ d₀ (i + 4)) (sym same)
+      (turns-four h e l (movedFour undo d i (products f g))
+      (ap (moved undo (at d i)) (product-is (length d - 4 - i + 3) i (ap (λ t. at t 0) a ∙ ap (λ j. at c (place (length d) j)) zero) (ap (λ t. at t 3) b) (omega (arith, n))))
+      (ap (moved undo (at d (i + 1))) (product-is (length d - 4 - i + 2) (i + 1) (ap (λ t. at t 1) a) (ap (λ t. at t 2) b) (omega (arith, n))))
+      (ap (moved undo (at d (i + 2))) (product-is (length d - 4 - i + 1) (i + 2) (ap (λ t. at t 2) a) (ap (λ t. at t 1) b) (omega (arith, n))))
+      (ap (moved undo (at d (i + 3))) (product-is (length d - 4 - i + 0) (i + 3) (ap (λ t. at t 3) a) (ap (λ t. at t 0) b) (omega (arith, n)))))

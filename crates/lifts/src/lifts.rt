@@ -59,21 +59,15 @@ pub fn first(undo: bool, back: &[i64], flips: &[i64], y: &[i64], top: &[i64], bo
     }
 }
 
-// −d(i)·x, or else d(i)·x.
-fn flipped(even: bool, i: usize, x: i64) -> i64
+// −d(i)·x.
+fn flipped(i: usize, x: i64) -> i64
     requires { ⌜ natAbs x ≤ 2 ^ 61 ⌝ }
-    ensures { λ r. ⌜ r ≡ Moves.flipped even i x ⌝ }
+    ensures { λ r. ⌜ r ≡ Moves.flipped i x ⌝ }
 {
     if i % 2 == 1 {
-        if even {
-            return x;
-        }
-        return 0 - x;
+        return x;
     }
-    if even {
-        return 0 - x;
-    }
-    x
+    0 - x
 }
 
 // Stage 2 at a place: −d·top, and the rounded sum added; or the sum taken off, and then the sign.
@@ -87,9 +81,9 @@ fn second_at(undo: bool, back: &[i64], flips: &[i64], y: &[i64], top: &[i64], i:
 {
     let amount = integers::rounded(order::row(back, flips, y, i), 31);
     if undo {
-        return flipped(true, i, top[i] - amount);
+        return flipped(i, top[i] - amount);
     }
-    flipped(true, i, top[i]) + amount
+    flipped(i, top[i]) + amount
 }
 
 pub fn second(undo: bool, back: &[i64], flips: &[i64], y: &[i64], top: &mut [i64])
@@ -183,13 +177,28 @@ pub fn third(
 }
 
 // A rounded product.
-fn product_at(c: &[i64], x: &[i64], i: usize, j: usize) -> i64
-    requires { ⌜ (i < length (now c)) × (j < length (now x)) ⌝ }
-    requires { ⌜ Within (2 ^ 28) (now c) ⌝ }
-    requires { ⌜ Within (2 ^ 34) (now x) ⌝ }
-    ensures { λ r. ⌜ (r ≡ round 28 (at (now (c .entry)) i *ℤ at (now (x .entry)) j)) × (natAbs r ≤ 2 ^ 61) ⌝ }
+fn product(c: i64, x: i64) -> i64
+    requires { ⌜ (natAbs c ≤ 2 ^ 28) × (natAbs x ≤ 2 ^ 34) ⌝ }
+    ensures { λ r. ⌜ (r ≡ round 28 (c *ℤ x)) × (natAbs r ≤ 2 ^ 61) ⌝ }
 {
-    integers::rounded(c[i] * x[j], 28)
+    integers::rounded(c * x, 28)
+}
+
+// The four numbers from place i on take the rounded products of c and of x, x from its end, or give them back.
+fn move_by_products(undo: bool, c: Four, x: Four, y: &mut [i64], i: usize)
+    requires { ⌜ i + 4 ≤ length (now y) ⌝ }
+    requires { ⌜ ((j : ℕ) → natAbs (at (now y) (i + j)) ≤ 2 ^ 60) ⌝ }
+    requires { ⌜ Within (2 ^ 28) (listed c) ⌝ }
+    requires { ⌜ Within (2 ^ 34) (listed x) ⌝ }
+    ensures { λ _. ⌜ now (y .exit) ≡ stored (now (y .entry)) i (movedFour undo (now (y .entry)) i (Moves.products c x)) ⌝ }
+{
+    let amounts = Four {
+        a: product(c.a, x.d),
+        b: product(c.b, x.c),
+        c: product(c.c, x.b),
+        d: product(c.d, x.a),
+    };
+    move_four(undo, y, i, amounts);
 }
 
 // Stage 4: y takes the rounded products of c and x, x from its end; or y gives them back.
@@ -204,13 +213,7 @@ pub fn fourth(undo: bool, c: &[i64], x: &[i64], y: &mut [i64])
     let mut i = 0;
     while i < y.len() {
         let far = y.len() - 4 - i;
-        let amounts = Four {
-            a: product_at(c, x, i, far + 3),
-            b: product_at(c, x, i + 1, far + 2),
-            c: product_at(c, x, i + 2, far + 1),
-            d: product_at(c, x, i + 3, far),
-        };
-        move_four(undo, y, i, amounts);
+        move_by_products(undo, fours::taken(c, i), fours::taken(x, far), y, i);
         i += 4;
     }
 }
@@ -227,13 +230,8 @@ pub fn fifth(undo: bool, c: &[i64], x: &[i64], y: &mut [i64])
     let mut i = 0;
     while i < y.len() {
         let far = y.len() - 4 - i;
-        let amounts = Four {
-            a: product_at(c, x, far + 3, far + 3),
-            b: product_at(c, x, far + 2, far + 2),
-            c: product_at(c, x, far + 1, far + 1),
-            d: product_at(c, x, far, far),
-        };
-        move_four(undo, y, i, amounts);
+        let factors = fours::turned(fours::taken(c, far));
+        move_by_products(undo, factors, fours::taken(x, far), y, i);
         i += 4;
     }
 }

@@ -23,7 +23,7 @@ use Rattle.product_lists.specs.Own.Tables.{middles, Tabled, Halved}
 use Rattle.slices.proofs.FourLaws.{next-four, length-stored}
 use Rattle.products.proofs.RoomLaws.{written-none, written-next, next-one, all-written-next}
 use Rattle.products.proofs.LevelLaws.{wide-top, wide-leaf, wide-times, differing-size}
-use Rattle.products.proofs.WholeLaws.{level-room, wide-some, laid-small, top-level, half-is, half, next-level, next-room, next-count, last-level}
+use Rattle.products.proofs.LevelRooms.{level-room, wide-some, laid-small, top-level, half-is, half, next-level, next-room, next-count, last-level}
 
 -- ---- nine numbers stored one behind the other: four, four and one
 pub written-nine : (f : ℕ → ℤ) {r r′ r″ : List ℤ} {p : ℕ} {low high : Four} {z : ℤ} → r′ ≡ stored r p low → r″ ≡ stored r′ (p + 4) high → p + 9 ≤ length r

@@ -52,16 +52,7 @@ fn subtract(room: &mut [i64], k: usize, h: usize)
     requires { ⌜ Small 0 (k * (h + h) + k * h) (now room) ⌝ }
     ensures { λ _. ⌜ AllSpread _-ℤ_ h k k (now (room .entry)) (now (room .exit)) ⌝ }
 {
-    let n = h + h;
-    let mut to = 0;
-    let mut from = k * n;
-    let mut v = 0;
-    while v < k {
-        levels::spread_list(true, room, to, from, h);
-        to += n;
-        from += h;
-        v += 1;
-    }
+    levels::spread_lists(true, room, k, h);
 }
 
 // k lists of 4q numbers become 3k of 2q.

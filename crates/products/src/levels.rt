@@ -5,8 +5,8 @@ ghost use lib.IntN.{_+ℤ_};
 ghost use lib.ListN.{length};
 ghost use Rattle.integers.specs.Places.{at};
 ghost use Rattle.products.specs.Own.Products.{Lists, Laid, down, up};
-ghost use Rattle.products.specs.Own.Rooms.{Small, Written, Spread};
-ghost use Rattle.slices.specs.Own.Fours.{signed};
+ghost use Rattle.products.specs.Own.Rooms.{Small, Written, Spread, AllSpread};
+ghost use Rattle.slices.specs.Own.Moves.{moved};
 use slices::fours;
 
 // The sums of the halves of one list.
@@ -43,10 +43,10 @@ pub fn append(room: &mut [i64], k: usize, h: usize)
 }
 
 // What stands from `from` on, added to both halves of one list, or taken off.
-pub fn spread_list(less: bool, room: &mut [i64], to: usize, from: usize, h: usize)
+fn spread_list(less: bool, room: &mut [i64], to: usize, from: usize, h: usize)
     requires { ⌜ (h % 4 ≡ 0) × (to + (h + h) ≤ from) × (from + h ≤ length (now room)) ⌝ }
     requires { ⌜ Small to (from + h) (now room) ⌝ }
-    ensures { λ _. ⌜ Spread (signed less) to h from h (now (room .entry)) (now (room .exit)) ⌝ }
+    ensures { λ _. ⌜ Spread (moved less) to h from h (now (room .entry)) (now (room .exit)) ⌝ }
 {
     let mut i = 0;
     while i < h {
@@ -59,20 +59,29 @@ pub fn spread_list(less: bool, room: &mut [i64], to: usize, from: usize, h: usiz
     }
 }
 
-// The last k of 3k lists, added to the halves of every list.
-pub fn spread(room: &mut [i64], k: usize, h: usize)
+// The last k of 3k lists, added to the halves of every list, or taken off.
+pub fn spread_lists(less: bool, room: &mut [i64], k: usize, h: usize)
     requires { ⌜ (h % 4 ≡ 0) × (1 ≤ k) × (k * (h + h) + k * h ≤ length (now room)) ⌝ }
     requires { ⌜ Small 0 (k * (h + h) + k * h) (now room) ⌝ }
-    ensures { λ _. ⌜ ((y : Lists) → Laid h (3 * k) y (now (room .entry)) → Laid (h + h) k (up h k y) (now (room .exit))) ⌝ }
+    ensures { λ _. ⌜ AllSpread (moved less) h k k (now (room .entry)) (now (room .exit)) ⌝ }
 {
     let n = h + h;
     let mut to = 0;
     let mut from = k * n;
     let mut v = 0;
     while v < k {
-        spread_list(false, room, to, from, h);
+        spread_list(less, room, to, from, h);
         to += n;
         from += h;
         v += 1;
     }
+}
+
+// The lists of a level from those of the level below.
+pub fn spread(room: &mut [i64], k: usize, h: usize)
+    requires { ⌜ (h % 4 ≡ 0) × (1 ≤ k) × (k * (h + h) + k * h ≤ length (now room)) ⌝ }
+    requires { ⌜ Small 0 (k * (h + h) + k * h) (now room) ⌝ }
+    ensures { λ _. ⌜ ((y : Lists) → Laid h (3 * k) y (now (room .entry)) → Laid (h + h) k (up h k y) (now (room .exit))) ⌝ }
+{
+    spread_lists(false, room, k, h);
 }

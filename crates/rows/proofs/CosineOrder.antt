@@ -19,7 +19,7 @@ use Rattle.tables.proofs.ByWidth.{at-each, half-width-le}
 use Rattle.tables.proofs.Sizes.{cosine-size}
 use Rattle.tables.proofs.Quadrants.{signed-size}
 use Rattle.steps.specs.Steps.{cosine, alternate}
-use Rattle.steps.proofs.Undo.{width-half}
+use Rattle.steps.proofs.Lengths.{width-half}
 use Rattle.products.specs.Own.Products.{product, Sizes}
 use Rattle.products.specs.Own.Whole.{LeafLists, Given}
 use Rattle.width_tables.specs.Orders.{angleAt, placeIn, signIn, placesOut, placeOut}

@@ -11,7 +11,7 @@ use Rattle.integers.specs.Places.{places}
 use Rattle.tables.specs.Widths.{byWidth, halfWidth}
 use Rattle.tables.proofs.ByWidth.{at-each, half-width-le}
 use Rattle.tables.proofs.Reading.{half-is}
-use Rattle.steps.proofs.Undo.{width-half}
+use Rattle.steps.proofs.Lengths.{width-half}
 use Rattle.products.specs.Own.Whole.{LeafLists}
 use Rattle.width_tables.specs.Orders.{placeIn}
 use Rattle.width_tables.specs.Filled.{Filled, part, tablesLong, leavesLong, cosineList, secantList, productRoom}

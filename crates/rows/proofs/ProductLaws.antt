@@ -15,7 +15,7 @@ use Rattle.tables.proofs.ByWidth.{at-each}
 use Rattle.products.specs.Own.Products.{product, Power, Sizes}
 use Rattle.products.specs.Own.Whole.{LeafLists, Given}
 use Rattle.products.proofs.LevelLaws.{product-size}
-use Rattle.products.proofs.WholeLaws.{power-same}
+use Rattle.products.proofs.LevelRooms.{power-same}
 use Rattle.width_tables.specs.Filled.{productRoom}
 
 -- there is room for every level

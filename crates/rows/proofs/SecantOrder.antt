@@ -21,7 +21,7 @@ use Rattle.tables.specs.Numbers.{secants, secants8, secants32, secants128, seca
 use Rattle.tables.proofs.ByWidth.{at-each, half-width-le}
 use Rattle.tables.proofs.Quadrants.{signed-size}
 use Rattle.steps.specs.Steps.{secant, oddOf}
-use Rattle.steps.proofs.Undo.{width-half}
+use Rattle.steps.proofs.Lengths.{width-half}
 use Rattle.width_tables.specs.Filled.{secantList, productRoom}
 use Rattle.products.specs.Own.Products.{product, Sizes}
 use Rattle.products.specs.Own.Whole.{LeafLists, Given}

@@ -1,10 +1,11 @@
 -- What a frame, and a finish, that a run back accepts tell.
 use mathlib.Core.Path.{_≡_, refl, ap, _∙_}
 use mathlib.Core.Bool.{Bool, true, false}
-use mathlib.Core.List.{List}
+use mathlib.Core.List.{List, [], _∷_}
 use Prim.Native.Nat.{ℕ, zero, suc, _<_}
 use native.Mathlib.Omega.{arith}
-use borrow.Author.Tests.{eqb-false}
+use borrow.Author.Tests.{ltb-true, eqb-true, eqb-false}
+use lib.Dec.{eqb, ltb}
 use lib.IntN.{ℤ, pos}
 use lib.ListN.{length, length-drop, take-append-drop}
 use lib.Seq.{length-take-le}
@@ -12,22 +13,39 @@ use Rattle.integers.specs.Vectors.{AllAbs}
 use Rattle.tables.specs.Widths.{halfWidth}
 use Rattle.steps.specs.Limits.{readingLimit, foldedLimit}
 use Rattle.steps.specs.Steps.{lower, held, frame, unstages, unfolded}
-use Rattle.steps.proofs.Undo.{length-unstages, length-unfolded, stages-unstages, width-half}
+use Rattle.steps.proofs.Lengths.{length-unstages, length-unfolded, width-half}
+use Rattle.steps.proofs.Undo.{stages-unstages}
 use Rattle.runs.specs.Answers.{beyond}
 use Rattle.distance.specs.Statement.{IsWidth, Block}
 use Rattle.runs.specs.declared.record.Run.{Run}
 use Rattle.runs.specs.Record.{frameLimit, zeros, opened}
-use Rattle.runs.specs.Gate.{Given, inside}
+use Rattle.runs.specs.Gate.{Given, ask, every, inside, admitted}
 use Rattle.runs.proofs.Searches.{all-inside}
 use Rattle.runs.proofs.RecordLaws.{all-take, zeros-are}
-use Rattle.runs.proofs.CallLaws.{Decided, every-answer}
+use Rattle.runs.proofs.CallLaws.{Decided, granted, asked, every-answer}
 use Rattle.runs.specs.Back.{undoneIn, takenBack, endedBack}
-use Rattle.runs.proofs.BackLaws.{ReachedBack, back-first, back-next, taken-undone, lowHalf, highHalf, first-undone, later-undone, ended-decided, nothing-anywhere}
+use Rattle.runs.proofs.BackLaws.{ReachedBack, back-sound, back-first, back-next, taken-undone, lowHalf, highHalf, first-undone, later-undone, ended-decided, nothing-anywhere}
 
 -- what gives an answer 0 was answered yes
 answered-yes : {yes : Bool} {run : Run} {out : List ℤ} {good given : Given} → Decided yes run out good given → given .0 .0 ≡ 0 → yes ≡ true
 answered-yes {yes = true} d e = refl
 answered-yes {yes = false} {given} d e = absurd (eqb-false (given .0 .0) 0 (d .when-no refl .numbered) e)
+
+-- a frame that is taken has N numbers, its output too, and fewer than the greatest count were taken before
+pub record Admitted (N b : ℕ) (c out : List ℤ) : Type 0 where
+  pub below : b < frameLimit
+  pub long : length c ≡ N
+  pub room : length out ≡ N
+
+module _ (N b : ℕ) (low : List ℤ) (r : ReachedBack N b low) (c out : List ℤ) where
+  taken-asked : Decided (every (ltb b frameLimit ∷ eqb (length c) N ∷ eqb (length out) N ∷ [])) (opened N b low) out (undoneIn (opened N b low) c out) (takenBack (opened N b low) c out)
+  unfolding takenBack admitted ask opened every
+  taken-asked = rw (back-sound N b low r) (asked 3 (ltb b frameLimit) (asked 5 (eqb (length c) N) (asked 6 (eqb (length out) N) (granted _ refl))))
+
+  pub taken-admitted : takenBack (opened N b low) c out .0 .0 ≡ 0 → Admitted N b c out
+  taken-admitted e =
+      let yes = answered-yes taken-asked e in
+      record { below = ltb-true b frameLimit (every-answer _ yes 0); long = eqb-true (length c) N (every-answer _ yes 1); room = eqb-true (length out) N (every-answer _ yes 2) }
 
 zeros-inside : (n : ℕ) (xs : List ℤ) → length xs ≡ n → inside (pos 0) xs ≡ true → xs ≡ zeros n
 unfolding inside

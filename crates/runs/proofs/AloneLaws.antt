@@ -6,8 +6,9 @@ use borrow.Author.Tests.{eq-eqb, ne-eqb}
 use lib.IntN.{ℤ, pos}
 use lib.ListN.{length}
 use Rattle.tables.specs.Widths.{halfWidth}
+use Rattle.steps.specs.Limits.{foldedLimit, coefficientLimit}
 use Rattle.steps.specs.Steps.{stages, unstages}
-use Rattle.runs.specs.declared.answer.Answer.the-variants.{Done, Width, InputLength, OutputLength, Range, Folded}
+use Rattle.runs.specs.declared.answer.Answer.the-variants.{Done, OutputLength, Range, Folded}
 use Rattle.runs.specs.declared.answer.Found.{Found}
 use Rattle.runs.specs.declared.answer.Found.the-variants.{At, Nothing}
 use Rattle.runs.specs.Answers.{told, firstBeyond}
@@ -23,43 +24,33 @@ unfolding refusedAt
 passed n f out next e = sym (ap (λ g. refusedAt n g out next) e)
 
 module _ (N : ℕ) (values out : List ℤ) where
-  pub stages-refused : (i : ℕ) → firstBeyond (pos 50000) values 0 ≡ At i → (told (Folded i), out) ≡ stagesAsked N values out
+  pub stages-refused : (i : ℕ) → firstBeyond (pos foldedLimit) values 0 ≡ At i → (told (Folded i), out) ≡ stagesAsked N values out
   unfolding told stagesAsked
   stages-refused i e = refused 10 i _ out _ e
 
-  pub stages-done : firstBeyond (pos 50000) values 0 ≡ Nothing → (told Done, stages N values) ≡ stagesAsked N values out
+  pub stages-done : firstBeyond (pos foldedLimit) values 0 ≡ Nothing → (told Done, stages N values) ≡ stagesAsked N values out
   unfolding told stagesAsked
   stages-done e = passed 10 _ out _ e
 
-  pub unstages-refused : (i : ℕ) → firstBeyond (pos 1048576) values 0 ≡ At i → (told (Range i), out) ≡ unstagesAsked N values out
+  pub unstages-refused : (i : ℕ) → firstBeyond (pos coefficientLimit) values 0 ≡ At i → (told (Range i), out) ≡ unstagesAsked N values out
   unfolding told unstagesAsked
   unstages-refused i e = refused 9 i _ out _ e
 
-  module _ (e : firstBeyond (pos 1048576) values 0 ≡ Nothing) where
-    pub unstaged-refused : (i : ℕ) → firstBeyond (pos 50000) (unstages N values) 0 ≡ At i → (told (Folded i), out) ≡ unstagesAsked N values out
+  module _ (e : firstBeyond (pos coefficientLimit) values 0 ≡ Nothing) where
+    pub unstaged-refused : (i : ℕ) → firstBeyond (pos foldedLimit) (unstages N values) 0 ≡ At i → (told (Folded i), out) ≡ unstagesAsked N values out
     unfolding told unstagesAsked
     unstaged-refused i d = refused 10 i _ out _ d ∙ passed 9 _ out _ e
 
-    pub unstages-done : firstBeyond (pos 50000) (unstages N values) 0 ≡ Nothing → (told Done, unstages N values) ≡ unstagesAsked N values out
+    pub unstages-done : firstBeyond (pos foldedLimit) (unstages N values) 0 ≡ Nothing → (told Done, unstages N values) ≡ unstagesAsked N values out
     unfolding told unstagesAsked
     unstages-done d = passed 10 _ out _ d ∙ passed 9 _ out _ e
 
--- ---- questions 1, 6 and 7
-module _ (N : ℕ) (given out : List ℤ) (next : Given) where
-  pub width-refused : halfWidth N ≡ 0 → (told Width, out) ≡ shaped N given out next
+-- ---- question 7, where 1 and 6 are passed
+module _ (N : ℕ) (given out : List ℤ) (next : Given) (w : halfWidth N ≡ 0 → ⊥) (g : length given ≡ N) where
+  pub output-refused : (length out ≡ N → ⊥) → (told OutputLength, out) ≡ shaped N given out next
   unfolding told shaped
-  width-refused e = rw (eq-eqb _ _ e)
+  output-refused e = rw (ne-eqb _ _ w, eq-eqb _ _ g, ne-eqb _ _ e)
 
-  module _ (w : halfWidth N ≡ 0 → ⊥) where
-    pub input-refused : (length given ≡ N → ⊥) → (told InputLength, out) ≡ shaped N given out next
-    unfolding told shaped
-    input-refused e = rw (ne-eqb _ _ w, ne-eqb _ _ e)
-
-    module _ (g : length given ≡ N) where
-      pub output-refused : (length out ≡ N → ⊥) → (told OutputLength, out) ≡ shaped N given out next
-      unfolding told shaped
-      output-refused e = rw (ne-eqb _ _ w, eq-eqb _ _ g, ne-eqb _ _ e)
-
-      pub shape-passed : length out ≡ N → next ≡ shaped N given out next
-      unfolding shaped
-      shape-passed e = rw (ne-eqb _ _ w, eq-eqb _ _ g, eq-eqb _ _ e)
+  pub shape-passed : length out ≡ N → next ≡ shaped N given out next
+  unfolding shaped
+  shape-passed e = rw (ne-eqb _ _ w, eq-eqb _ _ g, eq-eqb _ _ e)

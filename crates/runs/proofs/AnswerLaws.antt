@@ -11,7 +11,7 @@ use lib.ListN.{length, drop, length-drop}
 use Rattle.tables.specs.Widths.{halfWidth}
 use Rattle.steps.specs.Limits.{readingLimit, foldedLimit, coefficientLimit}
 use Rattle.steps.specs.Steps.{unstages}
-use Rattle.steps.proofs.Undo.{length-unstages, width-half}
+use Rattle.steps.proofs.Lengths.{length-unstages, width-half}
 use Rattle.runs.specs.Answers.{beyond}
 use Rattle.runs.specs.declared.answer.Found.{Found}
 use Rattle.runs.specs.declared.answer.Found.the-variants.{At, Nothing}

@@ -14,7 +14,8 @@ use Rattle.integers.proofs.Products.{all-append, all-getD}
 use Rattle.tables.specs.Widths.{halfWidth}
 use Rattle.steps.specs.Limits.{readingLimit, foldedLimit, coefficientLimit}
 use Rattle.steps.specs.Steps.{lower, held, frame, unstages, unfolded}
-use Rattle.steps.proofs.Undo.{length-lower, length-held, length-unfolded, unstages-stages, unfolded-fold, width-half}
+use Rattle.steps.proofs.Lengths.{length-lower, length-held, length-unfolded, width-half}
+use Rattle.steps.proofs.Undo.{unstages-stages, unfolded-fold}
 use Rattle.steps.proofs.Rotation.{lower-gate, held-gate}
 use Rattle.steps.proofs.ZeroBlock.{lower-zeros, held-zeros}
 use Rattle.runs.specs.Answers.{first, beyond, firstBeyond}

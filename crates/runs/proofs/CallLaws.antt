@@ -10,7 +10,7 @@ use lib.ListN.{length, getD}
 use Rattle.tables.specs.Widths.{halfWidth}
 use Rattle.steps.specs.Limits.{readingLimit}
 use Rattle.steps.specs.Steps.{held, frame}
-use Rattle.steps.proofs.Undo.{length-held}
+use Rattle.steps.proofs.Lengths.{length-held}
 use Rattle.runs.specs.declared.answer.Found.{Found}
 use Rattle.runs.specs.declared.answer.Found.the-variants.{At, Nothing}
 use Rattle.distance.specs.Statement.{Block}

@@ -2,7 +2,7 @@
 use mathlib.Core.Path.{_≡_, refl, ap, _∙_}
 use mathlib.Core.Bool.{Bool, true, false, cond, _||_}
 use mathlib.Core.List.{List, [], _∷_}
-use Prim.Native.Nat.{ℕ, suc, _+_, _≤_, zero-le}
+use Prim.Native.Nat.{ℕ, zero, suc, _+_, _≤_, zero-le}
 use native.Mathlib.Omega.{arith}
 use lib.IntN.{ℤ}
 use lib.ListN.{length}
@@ -13,10 +13,12 @@ use Rattle.distance.specs.Statement.{IsWidth}
 use Rattle.runs.specs.Record.{blockLimit, frameLimit, opened}
 use Rattle.runs.specs.Forward.{started}
 use Rattle.runs.specs.Calls.{Call, block, finish, framesGiven, accepted, countAfter, overAfter, acceptedAll, kept, working, blocksOf, blockAt}
+use Rattle.tables.proofs.ByWidth.{run-width}
 use Rattle.runs.specs.Lists.{madeFrom, blocksTaken}
 use Rattle.runs.proofs.CallLaws.{accepted-below}
-use Rattle.runs.proofs.EveryList.{every-list, AllBlocks, blocks-kept}
-use Rattle.runs.specs.Return.{answersBack, outputsBack, EachCallReturned}
+use Rattle.runs.proofs.EveryList.{fresh-told, AllBlocks, blocks-kept}
+use Rattle.runs.proofs.ListsOfCalls.{working-counted}
+use Rattle.runs.specs.CallsReturn.{answersBack, outputsBack, AllTaken, EachCallReturned}
 use Rattle.runs.proofs.BackLaws.{started-back, ReachedBack, back-block, back-one, later-taken, first-taken, ended-works}
 use Rattle.runs.proofs.MadeFrames.{framesAfter, allFrames, all-frames}
 
@@ -61,6 +63,11 @@ module _ (N : ℕ) (w : IsWidth N) where
         blocks = rw e (ap (λ (l : List (List ℤ)). x ∷ l) (rest .blocks));
       }
 
+zeros-taken : (n j : ℕ) → AllTaken (tab (λ i. (0, 0)) n j)
+unfolding tab AllTaken
+zeros-taken zero j = tt
+zeros-taken (suc n) j = (refl, zeros-taken n (suc j))
+
 -- and with the first, from a fresh start
 module _ (N : ℕ) (w : IsWidth N) (xs outs : List (List ℤ)) (first : List ℤ) (hs : AllBlocks N xs) (few : length xs ≤ blockLimit) (rows : Rows N (first ∷ outs)) (l : length outs ≡ length xs) where
   rest : ReturnedFrom N 0 xs outs
@@ -70,17 +77,22 @@ module _ (N : ℕ) (w : IsWidth N) (xs outs : List (List ℤ)) (first : List ℤ
   unfolding answersBack tab
   all-answered = rw (started-back N w, first-taken N w (blockAt N xs 0) (hs 0) first (rows .0)) (ap (λ (l : List (ℕ × ℕ)). (0, 0) ∷ l) (rest .answers 1))
 
-  all-given : outputsBack (started N .1) (allFrames N xs) (first ∷ outs) ≡ first ∷ xs
+  pub all-taken : AllTaken (answersBack (started N .1) (allFrames N xs) (first ∷ outs))
+  all-taken = rw all-answered (zeros-taken (suc (suc (length xs))) 0)
+
+  pub all-given : outputsBack (started N .1) (allFrames N xs) (first ∷ outs) ≡ first ∷ xs
   unfolding outputsBack
   all-given = rw (started-back N w, first-taken N w (blockAt N xs 0) (hs 0) first (rows .0)) (ap (λ (ys : List (List ℤ)). first ∷ ys) (rest .blocks))
 
 pub each-call-returned : EachCallReturned
 unfolding blocksTaken working
-each-call-returned N w calls first outs worked rows l =
+each-call-returned N v calls first outs over rows l =
+    let w = run-width N v in
     let xs = blocksTaken N calls in
     let hs : AllBlocks N xs = blocks-kept N calls 0 false in
     let few : length xs ≤ blockLimit = omega (arith, few-kept N calls 0 false zero-le) in
-    let given : framesGiven (madeFrom N calls) ≡ allFrames N xs = every-list N w calls .frames-are ∙ rw worked (all-frames N xs) in
+    let worked : length (working N calls) ≡ suc (length xs) = working-counted N w calls ∙ rw over (omega arith) in
+    let given : framesGiven (madeFrom N calls) ≡ allFrames N xs = fresh-told N w calls .frames-are ∙ rw worked (all-frames N xs) in
     record {
       all-taken = rw given (all-answered N w xs outs first hs few rows l);
       blocks-given = rw given (all-given N w xs outs first hs few rows l);

@@ -1,4 +1,4 @@
--- Demand 3: what every list of calls gives from a fresh start, over the width as a letter.
+-- What every list of calls gives from a fresh start: which calls work, the frames of those that do, and how near they are.
 use mathlib.Core.Path.{_≡_, refl, ap}
 use mathlib.Core.Bool.{Bool, true, false, cond, _||_, true≢false}
 use mathlib.Core.List.{List, [], _∷_}
@@ -15,23 +15,22 @@ use Rattle.integers.proofs.PlaceLaws.{at-tab}
 use Rattle.tables.specs.Widths.{halfWidth}
 use Rattle.steps.specs.Limits.{readingLimit}
 use Rattle.steps.specs.Steps.{held, frame}
-use Rattle.distance.specs.Statement.{IsWidth, Block, DistanceAt, coefficient, Near, promised, shown}
+use Rattle.distance.specs.Statement.{IsWidth, Block, DistanceAt, coefficient, Near}
 use Rattle.distance.proofs.ZeroBlock.{zero-block}
-use Rattle.distance_runs.proofs.Theorems.{promised-distance, shown-distance}
 use Rattle.runs.specs.declared.record.Run.{Run}
 use Rattle.runs.specs.Record.{zeros, opened, closed}
 use Rattle.runs.specs.Gate.{every}
 use Rattle.runs.specs.Forward.{started}
 use Rattle.runs.specs.Calls.{Call, block, finish, outputOf, give, Made, made, works, workings, framesGiven, accepted, countAfter, overAfter, acceptedAll, kept, working, blocksOf, blockAt, blockBefore, frameAt}
-use Rattle.runs.specs.Lists.{madeFrom, blocksTaken, AllUntouched, EveryListOfCalls}
+use Rattle.runs.specs.Lists.{madeFrom, blocksTaken, AllUntouched}
 use Rattle.runs.proofs.RecordLaws.{opened-zeros, Reached, reached-first, reached-next}
 use Rattle.runs.proofs.CallLaws.{Refused, accepted-below, accepted-block, taken-decided, ended-decided, closed-refused}
 
 -- ---- which calls work, what the others leave, and the frames of those that do
-record Told (ms : List Made) (ws : List Bool) (frames : List (List ℤ)) : Type 0 where
-  told : workings ms ≡ ws
-  untouched : AllUntouched ms
-  frames-are : framesGiven ms ≡ frames
+pub record Told (ms : List Made) (ws : List Bool) (frames : List (List ℤ)) : Type 0 where
+  pub told : workings ms ≡ ws
+  pub untouched : AllUntouched ms
+  pub frames-are : framesGiven ms ≡ frames
 
 told-none : (run : Run) → Told (made run []) [] []
 unfolding made workings framesGiven AllUntouched
@@ -67,7 +66,7 @@ frames-from N blocks zero i = refl
 frames-from N blocks (suc n) i = rw (getD-drop i blocks 0 (zeros N), drop-drop 1 i blocks, add-zero, add-one) (ap (λ l. frameAt N blocks i ∷ l) (frames-from N blocks n (suc i)))
 
 -- ---- after a finish that worked no call works
-nothing-kept : (N b : ℕ) (calls : List Call) → kept (acceptedAll N b true calls) calls ≡ []
+pub nothing-kept : (N b : ℕ) (calls : List Call) → kept (acceptedAll N b true calls) calls ≡ []
 unfolding kept acceptedAll accepted every countAfter overAfter
 nothing-kept N b [] = refl
 nothing-kept N b (block xs out ∷ calls) = nothing-kept N b calls
@@ -158,26 +157,15 @@ pub started-open : (N : ℕ) → IsWidth N → started N .1 ≡ opened N 0 (held
 unfolding started
 started-open N w = rw (ne-eqb (halfWidth N) 0 (λ e. omega arith)) (opened-zeros N)
 
-fresh-told : (N : ℕ) → IsWidth N → (calls : List Call)
+pub fresh-told : (N : ℕ) → IsWidth N → (calls : List Call)
     → Told (madeFrom N calls) (acceptedAll N 0 false calls) (tab (frameAt N (blocksTaken N calls)) (length (working N calls)) 0)
 unfolding madeFrom blocksTaken working blockBefore
 fresh-told N w calls = rw (started-open N w, ← frames-from N (blocksTaken N calls) (length (working N calls)) 0) (opened-told N calls 0 (zeros N) (reached-first N w))
 
 module _ (N : ℕ) (w : IsWidth N) (calls : List Call) where
-  list-near : (d : ℕ) → DistanceAt N readingLimit d → (i k : ℕ) → i < length (working N calls) → k < N
+  pub list-near : (d : ℕ) → DistanceAt N readingLimit d → (i k : ℕ) → i < length (working N calls) → k < N
       → Near d N (blockBefore N (blocksTaken N calls) i) (blockAt N (blocksTaken N calls) i) k (at (getD (framesGiven (madeFrom N calls)) i []) k)
   unfolding blocksTaken working
   list-near d near i k h l =
       rw (fresh-told N w calls .frames-are, at-tab (frameAt N (blocksTaken N calls)) (length (working N calls)) 0 i [] h, zero-add)
       (frame-near N (blocksTaken N calls) (blocks-kept N calls 0 false) d near i k l)
-
-pub every-list : EveryListOfCalls
-every-list N w calls =
-    let t = fresh-told N w calls in
-    record {
-      told-alone = t .told;
-      refused = t .untouched;
-      frames-are = t .frames-are;
-      near = list-near N w calls (promised N) (promised-distance N w);
-      near-shown = list-near N w calls (shown N) (shown-distance N w);
-    }

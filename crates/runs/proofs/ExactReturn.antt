@@ -1,10 +1,12 @@
 -- Demand 2: a run goes back to the very readings that it came from, over the width as a letter.
 use mathlib.Core.Path.{_≡_, refl, sym, ap, _∙_}
+use mathlib.Core.Logic.{⊎-elim}
 use mathlib.Core.List.{List}
-use Prim.Native.Nat.{ℕ, _+_, _*_, _/_, _≤_}
+use Prim.Native.Nat.{ℕ, _+_, _*_, _/_, _≤_, _<_}
 use native.Mathlib.Omega.{arith}
 use lib.IntN.{ℤ}
 use lib.ListN.{length}
+use Rattle.tables.proofs.ByWidth.{run-width}
 use Rattle.distance.specs.Statement.{IsWidth}
 use Rattle.runs.specs.Record.{blockLimit}
 use Rattle.runs.specs.Whole.{partsOf, blocksIn, joined}
@@ -14,6 +16,7 @@ use Rattle.runs.specs.Return.{Readings, framesOf, Returned, AcceptedExac
 use Rattle.runs.proofs.MadeFrames.{allFrames, all-frames}
 use Rattle.runs.proofs.Parts.{length-joined, parts-joined, length-parts, joined-parts, parts-blocks, blocks-rows, blocks-within}
 use Rattle.runs.proofs.WholeReturn.{parts-counted, frames-length, made-whole, accepted-whole}
+use Rattle.runs.proofs.WholeBackLaws.{whole-either}
 use Rattle.runs.proofs.ForwardWorked.{worked-readings, worked-frames}
 
 -- ---- blocks one behind the other are readings,
@@ -55,7 +58,9 @@ module _ (N : ℕ) (w : IsWidth N) (readings : List ℤ) (r : Readings N reading
 
 -- ---- 1
 pub returned : Returned
-returned N w readings frames out worked l = rw (worked-frames N w readings frames worked) (readings-returned N w readings (worked-readings N w readings frames worked) out l)
+returned N v readings frames out worked l =
+    let w = run-width N v in
+    rw (worked-frames N w readings frames worked) (readings-returned N w readings (worked-readings N w readings frames worked) out l)
 
 -- ---- 2
 module _ (N : ℕ) (w : IsWidth N) (frames : List ℤ) where
@@ -70,9 +75,15 @@ module _ (N : ℕ) (w : IsWidth N) (frames : List ℤ) where
       let m = accepted-whole N w frames out e in
       (rw (m .given) (joined-readings N w (m .xs) (m .blocks) (m .few)), rw (m .given) (joined-frames N w (m .xs) (m .blocks) ∙ sym (m .frames-are)))
 
+  none-refused : (out : List ℤ) → ((readings : List ℤ) → Readings N readings → framesOf N readings ≡ frames → ⊥) → (0 < wholeBack N frames out .0 .0) × (wholeBack N frames out .1 ≡ out)
+  none-refused out none = ⊎-elim (λ e. let p = accepted-made out e in absurd (none (wholeBack N frames out .1) (p .0) (p .1))) (λ p. p) (whole-either N frames out)
+
 pub accepted-exactly : AcceptedExactly
-accepted-exactly N w frames out = record {
-  accepted-made = accepted-made N w frames out;
-  made-accepted = λ readings r e l. rw (← e) (readings-returned N w readings r out l);
-  only = only-one N w frames;
-}
+accepted-exactly N v frames out =
+    let w = run-width N v in
+    record {
+      accepted-made = accepted-made N w frames out;
+      made-accepted = λ readings r e l. rw (← e) (readings-returned N w readings r out l);
+      only = only-one N w frames;
+      none-refused = none-refused N w frames out;
+    }

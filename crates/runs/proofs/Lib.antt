@@ -1,9 +1,12 @@
+pub mod ToldLaws
 pub mod Cases
+pub mod AcceptedCalls
 pub mod Searches
 pub mod AloneLaws
 pub mod RecordLaws
 pub mod CallLaws
 pub mod EveryList
+pub mod ListsOfCalls
 pub mod Refusals
 pub mod AskLaws
 pub mod WholeLaws
@@ -13,6 +16,7 @@ pub mod AnswerLaws
 pub mod AcceptedLaws
 pub mod MadeFrames
 pub mod CallsBack
+pub mod TakenBack
 pub mod OneByOne
 pub mod WholeBackLaws
 pub mod Parts
@@ -20,3 +24,4 @@ pub mod FrameByFrame
 pub mod WholeReturn
 pub mod ForwardWorked
 pub mod ExactReturn
+pub mod CallsExact

@@ -9,6 +9,7 @@ use lib.IntN.{ℤ, pos}
 use lib.ListN.{length, take, drop, length-replicate}
 use lib.Seq.{take-at, drop-at}
 use Rattle.tables.specs.Widths.{halfWidth}
+use Rattle.runs.specs.Answers.{placed}
 use Rattle.runs.specs.declared.answer.Found.{Found}
 use Rattle.runs.specs.declared.answer.Found.the-variants.{At, Nothing}
 use Rattle.runs.specs.declared.record.Run.{Run}
@@ -16,7 +17,7 @@ use Rattle.runs.specs.Record.{zeros, opened}
 use Rattle.runs.specs.Gate.{Given, ask, askEach, admitted}
 use Rattle.runs.specs.Forward.{started}
 use Rattle.runs.specs.Back.{firstFrame, unfoldedIn, undoneIn, takenBack, endedBack}
-use Rattle.runs.specs.WholeBack.{placed, answerFrom, outputsFrom, allOutputs, firstAnswer}
+use Rattle.runs.specs.WholeBack.{answerFrom, outputsFrom, allOutputs, firstAnswer}
 
 -- ---- one call, and those behind it
 module _ {left : ℕ} {given : Given} (N b : ℕ) (run : Run) (frames out : List ℤ) (l : left ≡ suc b) (e : takenBack run (take N frames) (take N out) ≡ given) where

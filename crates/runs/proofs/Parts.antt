@@ -29,6 +29,11 @@ unfolding partsOf
 length-parts N zero xs = refl
 length-parts N (suc b) xs = ap suc (length-parts N b (drop N xs))
 
+pub rows-parts : (N b : ℕ) (xs : List ℤ) → length xs ≡ b * N → Rows N (partsOf N b xs)
+unfolding partsOf
+rows-parts N zero xs l = tt
+rows-parts N (suc b) xs l = (length-take-le N xs (omega arith), rows-parts N b (drop N xs) (omega (arith, length-drop N xs)))
+
 pub joined-parts : (N b : ℕ) (xs : List ℤ) → length xs ≡ b * N → joined (partsOf N b xs) ≡ xs
 unfolding joined partsOf
 joined-parts N zero xs l = sym (drop-of-length-le xs {i = 0} (omega arith))

@@ -16,7 +16,7 @@ use Rattle.tables.specs.Widths.{halfWidth}
 use Rattle.tables.proofs.ByWidth.{half-width-le}
 use Rattle.steps.specs.Limits.{readingLimit, foldedLimit}
 use Rattle.steps.specs.Steps.{lower, held, frame}
-use Rattle.steps.proofs.Undo.{width-half, length-stages, length-held}
+use Rattle.steps.proofs.Lengths.{width-half, length-stages, length-held}
 use Rattle.steps.proofs.Rotation.{held-gate}
 use Rattle.steps.proofs.ZeroBlock.{held-zeros}
 use Rattle.distance.specs.Statement.{IsWidth, Block}

@@ -1,21 +1,22 @@
 -- What the gate says of a whole run back; and its answer does not depend on what the output holds.
 use mathlib.Core.Path.{_≡_, refl, _∙_}
-use mathlib.Core.Bool.{Bool, true, false, cond, and-false}
-use mathlib.Core.List.{List, _++_}
+use mathlib.Core.Bool.{Bool, true, false, cond, _&&_}
+use mathlib.Core.List.{List, [], _++_}
 use Prim.Native.Nat.{ℕ, zero, suc, _+_, _/_, _%_, _≤_, _<_}
 use native.Mathlib.Omega.{arith}
-use borrow.Author.Tests.{le-leb, lt-leb, lt-ltb, le-ltb, eq-eqb, ne-eqb}
-use lib.Dec.{eqb}
+use borrow.Author.Tests.{le-leb, lt-ltb, eq-eqb, ne-eqb, eqb-true, eqb-false}
+use lib.Dec.{eqb, ltb, leb}
 use lib.IntN.{ℤ}
 use lib.ListN.{length, take, drop, length-append, length-take, length-drop}
 use Rattle.tables.specs.Widths.{halfWidth}
-use Rattle.runs.specs.Answers.{told}
-use Rattle.runs.specs.declared.answer.Answer.the-variants.{Width, InputLength, OutputLength}
+use Rattle.runs.specs.Answers.{told, placed}
+use Rattle.runs.specs.declared.answer.Answer.the-variants.{OutputLength}
+use mathlib.Core.Logic.{_⊎_, inl, inr}
 use Rattle.runs.specs.declared.record.Run.{Run}
 use Rattle.runs.specs.Record.{frameLimit, zeros}
 use Rattle.runs.specs.Forward.{started}
 use Rattle.runs.specs.Back.{takenBack, endedBack}
-use Rattle.runs.specs.WholeBack.{placed, answerFrom, allOutputs, firstAnswer, oneByOne, wholeBack}
+use Rattle.runs.specs.WholeBack.{answerFrom, allOutputs, firstAnswer, oneByOne, wholeBack}
 use Rattle.runs.proofs.AnswerLaws.{taken-alike}
 
 -- ---- an answer whose number is 0 names no place
@@ -61,33 +62,33 @@ module _ {answer : ℕ × ℕ} (N : ℕ) (frames out : List ℤ) (e : answer ≡
   ones-done w z d = rw (← e, eq-eqb _ _ z, d)
 
 -- ---- the gate
-module _ (N : ℕ) (frames out : List ℤ) where
-  pub whole-width-refused : halfWidth N ≡ 0 → (told Width, out) ≡ wholeBack N frames out
+module _ (N : ℕ) (frames out : List ℤ) (w : halfWidth N ≡ 0 → ⊥) (e : length frames % N ≡ 0) (few : length frames / N ≤ frameLimit) (some : 0 < length frames) where
+  pub whole-output-refused : (length out + N ≡ length frames → ⊥) → (told OutputLength, out) ≡ wholeBack N frames out
   unfolding told wholeBack
-  whole-width-refused e = rw (eq-eqb _ _ e)
+  whole-output-refused m = rw (ne-eqb _ _ w, eq-eqb _ _ e, le-leb _ _ few, lt-ltb _ _ some, ne-eqb _ _ m)
 
-  module _ (w : halfWidth N ≡ 0 → ⊥) where
-    pub remainder-refused : (length frames % N ≡ 0 → ⊥) → (told InputLength, out) ≡ wholeBack N frames out
-    unfolding told wholeBack
-    remainder-refused e = rw (ne-eqb _ _ w, ne-eqb _ _ e)
+  module _ (room : length out + N ≡ length frames) where
+    pub lengths-passed : oneByOne N frames out ≡ wholeBack N frames out
+    unfolding wholeBack
+    lengths-passed = rw (ne-eqb _ _ w, eq-eqb _ _ e, le-leb _ _ few, lt-ltb _ _ some, eq-eqb _ _ room)
 
-    pub count-refused : frameLimit < length frames / N → (told InputLength, out) ≡ wholeBack N frames out
-    unfolding told wholeBack
-    count-refused h = rw (ne-eqb _ _ w, lt-leb _ _ h, and-false)
+    pub whole-done : firstAnswer N frames out .0 ≡ 0 → (firstAnswer N frames out, drop N (allOutputs N frames out)) ≡ wholeBack N frames out
+    whole-done n = ones-done N frames out refl _ n refl ∙ lengths-passed
 
-    pub empty-refused : length frames ≡ 0 → (told InputLength, out) ≡ wholeBack N frames out
-    unfolding told wholeBack
-    empty-refused e = rw (ne-eqb _ _ w, le-ltb 0 (length frames) (omega arith)) (simp and-false)
+-- ---- a whole run back works, or it is refused and nothing is written
+abbrev Either : List ℤ → (ℕ × ℕ) × List ℤ → Type 0
+Either out given = (given .0 ≡ (0, 0)) ⊎ ((0 < given .0 .0) × (given .1 ≡ out))
 
-    module _ (e : length frames % N ≡ 0) (few : length frames / N ≤ frameLimit) (some : 0 < length frames) where
-      pub whole-output-refused : (length out + N ≡ length frames → ⊥) → (told OutputLength, out) ≡ wholeBack N frames out
-      unfolding told wholeBack
-      whole-output-refused m = rw (ne-eqb _ _ w, eq-eqb _ _ e, le-leb _ _ few, lt-ltb _ _ some, ne-eqb _ _ m)
-
-      module _ (room : length out + N ≡ length frames) where
-        pub lengths-passed : oneByOne N frames out ≡ wholeBack N frames out
-        unfolding wholeBack
-        lengths-passed = rw (ne-eqb _ _ w, eq-eqb _ _ e, le-leb _ _ few, lt-ltb _ _ some, eq-eqb _ _ room)
-
-        pub whole-done : firstAnswer N frames out .0 ≡ 0 → (firstAnswer N frames out, drop N (allOutputs N frames out)) ≡ wholeBack N frames out
-        whole-done n = ones-done N frames out refl _ n refl ∙ lengths-passed
+pub whole-either : (N : ℕ) (frames out : List ℤ) → Either out (wholeBack N frames out)
+unfolding wholeBack oneByOne
+whole-either N frames out =
+    by (eqb (halfWidth N) 0) (eqb (length frames % N) 0 && leb (length frames / N) frameLimit && ltb 0 (length frames)) (eqb (length out + N) (length frames))
+    (eqb (firstAnswer N frames out .0) 0) refl
+  where
+    by : (a b c d : Bool) → eqb (firstAnswer N frames out .0) 0 ≡ d
+        → Either out (cond a ((1, 0), out) (cond b (cond c (firstAnswer N frames out, cond d (drop N (allOutputs N frames out)) out) ((7, 0), out)) ((6, 0), out)))
+    by true b c d e = inr (omega arith, refl)
+    by false true true true e = inl (first-zero N frames out (eqb-true (firstAnswer N frames out .0) 0 e))
+    by false true true false e = inr (omega (arith, eqb-false (firstAnswer N frames out .0) 0 e), refl)
+    by false true false d e = inr (omega arith, refl)
+    by false false c d e = inr (omega arith, refl)

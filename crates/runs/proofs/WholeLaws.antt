@@ -1,11 +1,11 @@
 -- The whole run forward: one without a refusal took blocks in range and gives the frames of its blocks and its finish, each near the exact one; and what the gate says.
 use mathlib.Core.Path.{_≡_, refl, ap, subst, _∙_}
-use mathlib.Core.Bool.{Bool, true, false, cond, and-false}
+use mathlib.Core.Bool.{Bool, true, false, cond}
 use mathlib.Core.List.{List, [], _∷_, _++_}
 use Prim.Native.Nat.{ℕ, zero, suc, _+_, _*_, _/_, _%_, _≤_, _<_}
 use native.Mathlib.Nat.{div-add-mod'}
 use native.Mathlib.Omega.{arith}
-use borrow.Author.Tests.{le-leb, lt-leb, eq-eqb, ne-eqb, eqb-false}
+use borrow.Author.Tests.{le-leb, eq-eqb, ne-eqb, eqb-false}
 use lib.Dec.{eqb}
 use lib.IntN.{ℤ, pos}
 use lib.ListN.{length, getD, take, drop, List·getD-append}
@@ -14,9 +14,10 @@ use Rattle.integers.specs.Places.{tab, at}
 use Rattle.integers.specs.Vectors.{Rows}
 use Rattle.integers.proofs.PlaceLaws.{length-tab}
 use Rattle.tables.specs.Widths.{halfWidth}
-use Rattle.runs.specs.Answers.{told}
-use Rattle.runs.specs.declared.answer.Answer.the-variants.{Width, InputLength, OutputLength}
-use Rattle.distance.specs.Statement.{IsWidth}
+use Rattle.runs.specs.Answers.{told, placed}
+use Rattle.runs.specs.declared.answer.Answer.the-variants.{OutputLength}
+use Rattle.distance.specs.Statement.{IsWidth, promised}
+use Rattle.distance_runs.proofs.Theorems.{promised-distance}
 use Rattle.runs.specs.declared.record.Run.{Run}
 use Rattle.runs.specs.Record.{blockLimit}
 use Rattle.runs.specs.Forward.{started}
@@ -24,7 +25,7 @@ use Rattle.runs.specs.Calls.{Call, Made, made, works, workings, framesGi
 use Rattle.runs.specs.Whole.{callsOf, firstRefusal, outputs, oneByOne, wholeForward, partsOf, blocksIn, joined, WholeRun}
 use Rattle.runs.specs.Lists.{madeFrom, blocksTaken}
 use Rattle.runs.proofs.RecordLaws.{length-frame}
-use Rattle.runs.proofs.EveryList.{every-list, AllBlocks, blocks-kept}
+use Rattle.runs.proofs.EveryList.{fresh-told, list-near, AllBlocks, blocks-kept}
 
 -- ---- without a refusal every call works
 abbrev pub AllWork : List Made → Type 0
@@ -32,12 +33,12 @@ AllWork [] = Unit {0}
 AllWork (m ∷ ms) = (works m ≡ true) × AllWork ms
 
 all-work : (N before : ℕ) (ms : List Made) → firstRefusal N before ms ≡ (0, 0) → AllWork ms
-unfolding firstRefusal works
+unfolding firstRefusal placed works
 all-work N before [] e = tt
 all-work N before (m ∷ ms) e = by (all-work N (before + N) ms) (works m) refl e
   where
     by : (firstRefusal N (before + N) ms ≡ (0, 0) → AllWork ms) → (w : Bool) → works m ≡ w
-        → cond w (firstRefusal N (before + N) ms) (m .given .0 .0, before + m .given .0 .1) ≡ (0, 0) → (works m ≡ true) × AllWork ms
+        → cond w (firstRefusal N (before + N) ms) (placed N before (m .given .0)) ≡ (0, 0) → (works m ≡ true) × AllWork ms
     by rest true d e = (d, rest e)
     by rest false d e = absurd (eqb-false (m .given .0 .0) 0 d (ap (λ p. p .0) e))
 
@@ -93,7 +94,7 @@ module _ (N : ℕ) (w : IsWidth N) (readings out : List ℤ) where
 
     all-working : working N calls ≡ calls
     unfolding working madeFrom
-    all-working = rw (← every-list N w calls .told-alone) (all-kept _ calls every-call)
+    all-working = rw (← fresh-told N w calls .told) (all-kept _ calls every-call)
 
     taken-parts : blocksTaken N calls ≡ blocksIn N readings
     unfolding blocksTaken blocksIn
@@ -108,7 +109,7 @@ module _ (N : ℕ) (w : IsWidth N) (readings out : List ℤ) where
     calls-working = rw all-working (length-calls N (length readings / N) readings out)
 
     frames-given : framesGiven (madeFrom N calls) ≡ tab (frameAt N (blocksIn N readings)) (suc (length readings / N)) 0
-    frames-given = every-list N w calls .frames-are ∙ rw (taken-parts, calls-working)
+    frames-given = fresh-told N w calls .frames-are ∙ rw (taken-parts, calls-working)
 
     pub whole-run : WholeRun N readings (outputs (made (started N .1) calls))
     unfolding madeFrom
@@ -119,7 +120,7 @@ module _ (N : ℕ) (w : IsWidth N) (readings out : List ℤ) where
         let is : outputs (madeFrom N calls) ≡ joined fs = outputs-joined _ every-call in
         record {
           frames-are = is ∙ ap joined frames-given;
-          near = λ i k h l. rw (is, at-joined N fs rows i k (omega arith) l) (rw taken-parts at (every-list N w calls .near i k (omega (arith, calls-working)) l));
+          near = λ i k h l. rw (is, at-joined N fs rows i k (omega arith) l) (rw taken-parts at (list-near N w calls (promised N) (promised-distance N w) i k (omega (arith, calls-working)) l));
         }
 
 -- ---- what the gate says of a whole run
@@ -141,30 +142,16 @@ some-blocks N xs = by (length xs / N)
 abbrev pub callsMade : ℕ → List ℤ → List ℤ → List Made
 callsMade N readings out = made (started N .1) (callsOf N (length readings / N) readings out)
 
-module _ (N : ℕ) (readings out : List ℤ) where
-  pub whole-width-refused : halfWidth N ≡ 0 → (told Width, out) ≡ wholeForward N readings out
+module _ (N : ℕ) (readings out : List ℤ) (w : halfWidth N ≡ 0 → ⊥) (e : length readings % N ≡ 0) (few : length readings / N ≤ blockLimit) where
+  pub whole-output-refused : (length out ≡ length readings + N → ⊥) → (told OutputLength, out) ≡ wholeForward N readings out
   unfolding told wholeForward
-  whole-width-refused e = rw (eq-eqb _ _ e)
+  whole-output-refused m = rw (ne-eqb _ _ w, eq-eqb _ _ e, le-leb _ _ few, ne-eqb _ _ m)
 
-  module _ (w : halfWidth N ≡ 0 → ⊥) where
-    pub remainder-refused : (length readings % N ≡ 0 → ⊥) → (told InputLength, out) ≡ wholeForward N readings out
-    unfolding told wholeForward
-    remainder-refused e = rw (ne-eqb _ _ w, ne-eqb _ _ e)
+  module _ (room : length out ≡ length readings + N) where
+    lengths-passed : oneByOne N readings out ≡ wholeForward N readings out
+    unfolding wholeForward
+    lengths-passed = rw (ne-eqb _ _ w, eq-eqb _ _ e, le-leb _ _ few, eq-eqb _ _ room)
 
-    pub count-refused : blockLimit < length readings / N → (told InputLength, out) ≡ wholeForward N readings out
-    unfolding told wholeForward
-    count-refused h = rw (ne-eqb _ _ w, lt-leb _ _ h, and-false)
-
-    module _ (e : length readings % N ≡ 0) (few : length readings / N ≤ blockLimit) where
-      pub whole-output-refused : (length out ≡ length readings + N → ⊥) → (told OutputLength, out) ≡ wholeForward N readings out
-      unfolding told wholeForward
-      whole-output-refused m = rw (ne-eqb _ _ w, eq-eqb _ _ e, le-leb _ _ few, ne-eqb _ _ m)
-
-      module _ (room : length out ≡ length readings + N) where
-        lengths-passed : oneByOne N readings out ≡ wholeForward N readings out
-        unfolding wholeForward
-        lengths-passed = rw (ne-eqb _ _ w, eq-eqb _ _ e, le-leb _ _ few, eq-eqb _ _ room)
-
-        pub by-refusal : (answer : ℕ × ℕ) → firstRefusal N 0 (callsMade N readings out) ≡ answer → (answer, cond (eqb (answer .0) 0) (outputs (callsMade N readings out)) out) ≡ wholeForward N readings out
-        unfolding oneByOne
-        by-refusal answer d = rw (← lengths-passed, d)
+    pub by-refusal : (answer : ℕ × ℕ) → firstRefusal N 0 (callsMade N readings out) ≡ answer → (answer, cond (eqb (answer .0) 0) (outputs (callsMade N readings out)) out) ≡ wholeForward N readings out
+    unfolding oneByOne
+    by-refusal answer d = rw (← lengths-passed, d)

@@ -1,40 +1,35 @@
 -- A whole run back: the frames of blocks go back to these, and frames that are accepted are those of the blocks given.
 use mathlib.Core.Path.{_≡_, refl, sym, ap, ap₂, _∙_}
 use mathlib.Core.Bool.{Bool, true, false, cond, _&&_, and-eq-true-iff}
-use mathlib.Core.List.{List, _++_}
+use mathlib.Core.List.{List, _∷_, _++_}
 use Prim.Native.Nat.{ℕ, suc, _+_, _-_, _*_, _/_, _%_, _≤_, _<_}
 use native.Mathlib.Nat.{div-add-mod', mul-div-cancel}
 use native.Mathlib.Omega.{arith}
 use borrow.Author.Tests.{ltb-true, leb-true, eqb-true, ne-eqb}
 use lib.Dec.{eqb, ltb, leb}
 use lib.IntN.{ℤ, pos}
-use lib.ListN.{length, take, drop, length-drop, length-replicate, take-append-drop}
-use lib.Seq.{length-take-le, take-at, drop-at}
+use lib.ListN.{length, drop, length-replicate}
+use lib.Seq.{take-at, drop-at}
+use Rattle.integers.specs.Vectors.{Rows}
 use Rattle.integers.specs.Places.{tab}
 use Rattle.integers.proofs.PlaceLaws.{length-tab}
 use Rattle.tables.specs.Widths.{halfWidth}
-use Rattle.steps.specs.Limits.{readingLimit}
-use Rattle.steps.specs.Steps.{lower, held, frame}
-use Rattle.steps.proofs.ZeroBlock.{held-zeros}
 use Rattle.distance.specs.Statement.{IsWidth}
-use Rattle.distance.proofs.ZeroBlock.{zero-block}
-use Rattle.runs.specs.Record.{blockLimit, frameLimit, zeros, opened}
-use Rattle.runs.specs.Gate.{Given}
+use Rattle.runs.specs.Record.{blockLimit, frameLimit, zeros}
 use Rattle.runs.specs.Forward.{started}
-use Rattle.runs.specs.Calls.{blockAt, frameAt}
-use Rattle.runs.specs.Whole.{joined}
+use Rattle.runs.specs.Calls.{frameAt}
+use Rattle.runs.specs.Whole.{partsOf, joined}
+use Rattle.runs.specs.CallsReturn.{answersBack, outputsBack, AllTaken}
 use Rattle.runs.proofs.EveryList.{AllBlocks}
 use Rattle.runs.proofs.RecordLaws.{width-pos}
 use Rattle.runs.proofs.WholeLaws.{frames-long, whole-blocks, some-blocks}
-use Rattle.runs.specs.Back.{takenBack}
 use Rattle.runs.specs.WholeBack.{allOutputs, firstAnswer, oneByOne, wholeBack}
-use Rattle.runs.proofs.BackLaws.{started-back, lowHalf, back-one, frame-long, first-taken}
-use Rattle.runs.proofs.OneByOne.{first-yes, first-behind, outputs-behind}
 use Rattle.runs.proofs.WholeBackLaws.{first-zero, lengths-passed, whole-done}
-use Rattle.runs.proofs.MadeFrames.{framesAfter, allFrames, all-frames}
-use Rattle.runs.proofs.Parts.{length-joined}
-use Rattle.runs.proofs.AcceptedLaws.{halves-frame, first-accepted}
-use Rattle.runs.proofs.FrameByFrame.{made-from, accepted-from}
+use Rattle.runs.proofs.MadeFrames.{allFrames, all-frames}
+use Rattle.runs.proofs.Parts.{length-joined, parts-joined, length-parts, rows-parts, joined-parts}
+use Rattle.runs.proofs.CallsBack.{all-taken, all-given}
+use Rattle.runs.proofs.TakenBack.{made-by}
+use Rattle.runs.proofs.FrameByFrame.{taken-parts, parts-taken, outputs-parts}
 
 -- ---- n times N numbers
 module _ (N n : ℕ) (w : IsWidth N) (xs : List ℤ) (l : length xs ≡ n * N) where
@@ -43,6 +38,26 @@ module _ (N n : ℕ) (w : IsWidth N) (xs : List ℤ) (l : length xs ≡ n * N) w
 
   pub none-over : length xs % N ≡ 0
   none-over = let e = rw parts-counted at (div-add-mod' (length xs) N) in omega arith
+
+-- ---- an output behind the N zeros of the first frame's
+module _ (N n : ℕ) where
+  zeros-parts : (out : List ℤ) → partsOf N (suc n) (zeros N ++ out) ≡ zeros N ∷ partsOf N n out
+  unfolding partsOf
+  zeros-parts out = rw (take-at (zeros N) out N (length-replicate N (pos 0)), drop-at (zeros N) out N (length-replicate N (pos 0)))
+
+  module _ (frames out : List ℤ) (count : length frames / N ≡ suc n) where
+    all-behind : (xs : List (List ℤ)) → outputsBack (started N .1) (partsOf N (suc n) frames) (zeros N ∷ partsOf N n out) ≡ zeros N ∷ xs → drop N (allOutputs N frames out) ≡ joined xs
+    unfolding allOutputs joined
+    all-behind xs e =
+        rw count (ap (drop N) (outputs-parts N (suc n) (started N .1) frames (zeros N ++ out) ∙ rw (zeros-parts out, e)) ∙ drop-at (zeros N) (joined xs) N (length-replicate N (pos 0)))
+
+    none-refused : AllTaken (answersBack (started N .1) (partsOf N (suc n) frames) (zeros N ∷ partsOf N n out)) → firstAnswer N frames out .0 ≡ 0
+    unfolding firstAnswer
+    none-refused z = rw count (parts-taken N (suc n) 0 (started N .1) frames (zeros N ++ out) (rw (zeros-parts out) z))
+
+    each-taken : firstAnswer N frames out .0 ≡ 0 → AllTaken (answersBack (started N .1) (partsOf N (suc n) frames) (zeros N ∷ partsOf N n out))
+    unfolding firstAnswer
+    each-taken e = rw (zeros-parts out) at (taken-parts N (suc n) 0 (started N .1) frames (zeros N ++ out) (rw count at e))
 
 -- ---- the frames of blocks
 module _ (N : ℕ) (w : IsWidth N) (xs : List (List ℤ)) (hs : AllBlocks N xs) where
@@ -54,28 +69,21 @@ module _ (N : ℕ) (w : IsWidth N) (xs : List (List ℤ)) (hs : AllBlocks N xs) 
       rw (← all-frames N xs) (length-joined N (tab (frameAt N xs) (suc (length xs)) 0) (frames-long N w xs (suc (length xs))))
       ∙ ap (λ n. n * N) (length-tab (frameAt N xs) (suc (length xs)) 0)
 
-  abbrev x : List ℤ
-  x = blockAt N xs 0
-
-  first-long : length (frame N (held N (zeros N)) x) ≡ N
-  first-long = frame-long N w (zeros N) x (zero-block N readingLimit) (hs 0)
-
-  first-here : takenBack (started N .1) (take N frames) (zeros N) ≡ ((0, 0), opened N 1 (lower N x), zeros N)
-  unfolding joined
-  first-here = rw (started-back N w, take-at (frame N (held N (zeros N)) x) (joined (framesAfter N xs)) N first-long) (first-taken N w x (hs 0) (zeros N) (length-replicate N (pos 0)))
-
-  others-here : drop N frames ≡ joined (framesAfter N xs)
-  unfolding joined
-  others-here = drop-at (frame N (held N (zeros N)) x) (joined (framesAfter N xs)) N first-long
+  -- their parts are the frames, and those of an output behind N zeros
+  frames-parts : partsOf N (suc (length xs)) frames ≡ allFrames N xs
+  frames-parts =
+      let fs = tab (frameAt N xs) (suc (length xs)) 0 in
+      rw (← all-frames N xs) (rw (length-tab (frameAt N xs) (suc (length xs)) 0) at (parts-joined N fs (frames-long N w xs (suc (length xs)))))
 
   pub made-whole : (out : List ℤ) → length xs ≤ blockLimit → length out ≡ length xs * N → wholeBack N frames out ≡ ((0, 0), joined xs)
   made-whole out few l =
       let n = length xs in
-      let rest = made-from N w xs out (0 + N) 0 hs l (omega arith) (back-one N w x (hs 0)) in
       let count = parts-counted N (suc n) w frames frames-length in
-      let taken = ap (λ (g : Given). g .1) (sym first-here) in
-      let a : firstAnswer N frames out .0 ≡ 0 = ap (λ (p : ℕ × ℕ). p .0) (first-behind N n frames out count _ taken (ap (λ (g : Given). g .0 .0) first-here)) ∙ rw others-here (rest .answer) in
-      let o : drop N (allOutputs N frames out) ≡ joined xs = outputs-behind N n frames out count _ taken ∙ rw others-here (rest .blocks) in
+      let outs = partsOf N n out in
+      let rows : Rows N (zeros N ∷ outs) = (length-replicate N (pos 0), rows-parts N n out l) in
+      let many = length-parts N n out in
+      let a : firstAnswer N frames out .0 ≡ 0 = none-refused N n frames out count (rw frames-parts (all-taken N w xs outs (zeros N) hs few rows many)) in
+      let o : drop N (allOutputs N frames out) ≡ joined xs = all-behind N n frames out count xs (rw frames-parts (all-given N w xs outs (zeros N) hs few rows many)) in
       let some : 0 < length frames = omega (arith, frames-length, width-pos N w) in
       sym (whole-done N frames out (λ e. omega arith) (none-over N (suc n) w frames frames-length) (omega (arith, count)) some (omega (arith, frames-length)) a)
       ∙ ap₂ (λ (p : ℕ × ℕ) (ys : List ℤ). (p, ys)) (first-zero N frames out a) o
@@ -117,31 +125,24 @@ module _ (N : ℕ) (w : IsWidth N) (frames out : List ℤ) (right : LengthsRight
   outputs-given : wholeBack N frames out .1 ≡ drop N (allOutputs N frames out)
   outputs-given = sym (ap (λ (g : (ℕ × ℕ) × List ℤ). g .1) (whole-done N frames out (λ e. omega arith) (right .even) (right .few) (right .some) (right .room) yes))
 
-  made-by : (n : ℕ) → length frames ≡ suc n * N → n ≤ blockLimit → MadeOf N frames out
-  unfolding joined
-  made-by n l few =
-      let c = take N frames in
-      let long : length c ≡ N = length-take-le N frames (omega arith) in
+  by-parts : (n : ℕ) → length frames ≡ suc n * N → MadeOf N frames out
+  by-parts n l =
       let count = parts-counted N (suc n) w frames l in
-      let a = first-accepted N w c (zeros N) long (length-replicate N (pos 0)) (rw (started-back N w) at (first-yes N n frames out count yes)) in
-      let given : takenBack (started N .1) c (zeros N) ≡ ((0, 0), opened N 1 (lowHalf N c), zeros N) = rw (started-back N w) (a .given) in
-      let taken = ap (λ (g : Given). g .1) (sym given) in
-      let r = accepted-from N n 0 (0 + N) (lowHalf N c) (drop N frames) out (a .reached) (omega arith) (omega (arith, length-drop N frames)) (omega (arith, right .room))
-      (rw (first-behind N n frames out count _ taken (ap (λ (g : Given). g .0 .0) given)) at yes) in
-      let same : frame N (held N (zeros N)) (blockAt N (r .xs) 0) ≡ c = halves-frame N w c (zeros N) (blockAt N (r .xs) 0) long (a .upper ∙ sym (held-zeros N N)) (sym (r .lower-is)) in
+      let outs = partsOf N n out in
+      let m = made-by N w (partsOf N (suc n) frames) (zeros N ∷ outs) (omega (arith, length-parts N (suc n) frames, length-parts N n out)) (each-taken N n frames out count yes) in
       record {
-        xs = r .xs;
-        blocks = r .blocks;
-        few = omega (arith, r .many);
-        frames-are = sym (take-append-drop N frames) ∙ ap₂ (λ (f g : List ℤ). f ++ g) (sym same) (r .frames-are);
-        given = outputs-given ∙ outputs-behind N n frames out count _ taken ∙ r .outputs-are;
+        xs = m .xs;
+        blocks = m .blocks;
+        few = m .few;
+        frames-are = sym (joined-parts N (suc n) frames l) ∙ ap joined (sym (m .frames-are));
+        given = outputs-given ∙ all-behind N n frames out count (m .xs) (m .outputs-are);
       }
 
   pub made-of : MadeOf N frames out
   made-of =
       let whole = whole-blocks N frames (right .even) in
       let d : length frames / N ≡ suc (length frames / N - 1) = omega (arith, some-blocks N frames whole (right .some)) in
-      made-by (length frames / N - 1) (rw d at whole) (omega (arith, right .few))
+      by-parts (length frames / N - 1) (rw d at whole)
 
 pub accepted-whole : (N : ℕ) → IsWidth N → (frames out : List ℤ) → wholeBack N frames out .0 ≡ (0, 0) → MadeOf N frames out
 unfolding oneByOne

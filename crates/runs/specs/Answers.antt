@@ -1,8 +1,8 @@
 -- The answers' numbers, and the search for the first number that a question refuses: document 01, "The gate, question by question".
 use mathlib.Core.Bool.{Bool, cond}
 use mathlib.Core.List.{List, [], _∷_}
-use Prim.Native.Nat.{ℕ, suc}
-use lib.Dec.{ltb}
+use Prim.Native.Nat.{ℕ, suc, _+_, _-_}
+use lib.Dec.{eqb, ltb}
 use lib.IntN.{ℤ, natAbs}
 use Rattle.runs.specs.declared.answer.Answer.{Answer}
 use Rattle.runs.specs.declared.answer.Answer.the-variants.{Done, Width, Record, Closed, Full, Empty, InputLength, OutputLength, DeadMark, Range, Folded, Halves, Unfolded}
@@ -24,6 +24,12 @@ told (Range i) = (9, i)
 told (Folded i) = (10, i)
 told (Halves i) = (11, i)
 told (Unfolded i) = (12, i)
+
+-- A refusal's place counted through a whole run, forward or back, where `before` numbers stand in the blocks or frames before: "with N added
+-- to the place for each one before it", "12 counts by blocks", and 0 where a question names no place: questions 1 to 7 name none.
+unfoldable pub placed : ℕ → ℕ → ℕ × ℕ → ℕ × ℕ
+placed N before answer =
+    (answer .0, cond (ltb (answer .0) 8) 0 (cond (eqb (answer .0) 12) (before - N + answer .1) (before + answer .1)))
 
 -- the first number of a list that a test names, where the list's first stands at k
 unfoldable pub first : (ℤ → Bool) → List ℤ → ℕ → Found

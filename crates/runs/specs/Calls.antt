@@ -1,5 +1,5 @@
 -- Lists of calls, forward: document 01, "The lists of demand 3".
-use mathlib.Core.Bool.{Bool, false, cond, not, _||_}
+use mathlib.Core.Bool.{Bool, true, false, cond, not, _||_}
 use mathlib.Core.List.{List, [], _∷_}
 use Prim.Native.Nat.{ℕ, zero, suc}
 use lib.Dec.{eqb, ltb}
@@ -19,6 +19,10 @@ pub data Call : Type 0 where
 unfoldable pub outputOf : Call → List ℤ
 outputOf (block readings out) = out
 outputOf (finish out) = out
+
+unfoldable pub isFinish : Call → Bool
+isFinish (block readings out) = false
+isFinish (finish out) = true
 
 -- ---- what the calls give
 unfoldable pub give : Run → Call → Given
@@ -75,6 +79,11 @@ overAfter N b over (finish out) = over || accepted N b over (finish out)
 unfoldable pub acceptedAll : ℕ → ℕ → Bool → List Call → List Bool
 acceptedAll N b over [] = []
 acceptedAll N b over (c ∷ calls) = accepted N b over c ∷ acceptedAll N (countAfter N b over c) (overAfter N b over c) calls
+
+-- whether a finish has worked, behind all of them
+unfoldable pub overAll : ℕ → ℕ → Bool → List Call → Bool
+overAll N b over [] = over
+overAll N b over (c ∷ calls) = overAll N (countAfter N b over c) (overAfter N b over c) calls
 
 -- the calls that work
 unfoldable pub kept : List Bool → List Call → List Call

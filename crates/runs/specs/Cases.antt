@@ -25,6 +25,13 @@ start = started 8 .1
 abbrev minus : ℕ → ℤ
 minus n = negℤ (pos n)
 
+-- the two frames that the block gives
+abbrev pub one : List ℤ
+one = pos 39 ∷ minus 24 ∷ minus 48 ∷ pos 4 ∷ pos 50 ∷ pos 14 ∷ minus 44 ∷ minus 33 ∷ []
+
+abbrev pub two : List ℤ
+two = minus 3 ∷ pos 4 ∷ pos 2 ∷ minus 5 ∷ pos 0 ∷ pos 5 ∷ minus 3 ∷ minus 3 ∷ []
+
 unfoldable pub cases : List (List ℤ × List ℤ)
 cases =
     -- rounding of v / 2^28
@@ -38,8 +45,8 @@ cases =
     -- folded place 3, and what is held for place 4: held place 0
     ∷ (at (lower 8 sample) 3 ∷ at (held 8 sample) 0 ∷ [], pos 100 ∷ minus 10 ∷ [])
     -- the first frame, the second, and the frame of no block
-    ∷ (taken start sample output .2, pos 39 ∷ minus 24 ∷ minus 48 ∷ pos 4 ∷ pos 50 ∷ pos 14 ∷ minus 44 ∷ minus 33 ∷ [])
-    ∷ (ended (taken start sample output .1) output .2, minus 3 ∷ pos 4 ∷ pos 2 ∷ minus 5 ∷ pos 0 ∷ pos 5 ∷ minus 3 ∷ minus 3 ∷ [])
+    ∷ (taken start sample output .2, one)
+    ∷ (ended (taken start sample output .1) output .2, two)
     ∷ (ended start output .2, zeros 8)
     ∷ []
 

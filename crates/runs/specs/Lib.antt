@@ -5,9 +5,10 @@ pub mod Gate
 pub mod Forward
 pub mod Calls
 pub mod Whole
-pub mod Lists
 pub mod Cases
+pub mod Lists
 pub mod Back
 pub mod WholeBack
 pub mod Return
+pub mod CallsReturn
 pub mod Samples

@@ -9,6 +9,7 @@ use lib.ListN.{length, take, drop}
 use Rattle.integers.specs.Places.{tab, at}
 use Rattle.tables.specs.Widths.{halfWidth}
 use Rattle.distance.specs.Statement.{Near, promised}
+use Rattle.runs.specs.Answers.{placed}
 use Rattle.runs.specs.Record.{blockLimit}
 use Rattle.runs.specs.Forward.{started}
 use Rattle.runs.specs.Calls.{Call, block, finish, Made, made, works, blockAt, blockBefore, frameAt}
@@ -18,10 +19,10 @@ unfoldable pub callsOf : ℕ → ℕ → List ℤ → List ℤ → List Call
 callsOf N zero readings out = finish out ∷ []
 callsOf N (suc b) readings out = block (take N readings) (take N out) ∷ callsOf N b (drop N readings) (drop N out)
 
--- the refusal of the first refused block, "with N added to the place for each one before it"
+-- the refusal of the first refused call, its place counted through the run
 unfoldable pub firstRefusal : ℕ → ℕ → List Made → ℕ × ℕ
 firstRefusal N before [] = (0, 0)
-firstRefusal N before (m ∷ ms) = cond (works m) (firstRefusal N (before + N) ms) (m .given .0 .0, before + m .given .0 .1)
+firstRefusal N before (m ∷ ms) = cond (works m) (firstRefusal N (before + N) ms) (placed N before (m .given .0))
 
 -- all outputs as the calls left them, one behind the other
 unfoldable pub outputs : List Made → List ℤ

@@ -6,16 +6,11 @@ use lib.Dec.{eqb, ltb, leb}
 use lib.IntN.{ℤ}
 use lib.ListN.{length, take, drop}
 use Rattle.tables.specs.Widths.{halfWidth}
+use Rattle.runs.specs.Answers.{placed}
 use Rattle.runs.specs.declared.record.Run.{Run}
 use Rattle.runs.specs.Record.{frameLimit, zeros}
 use Rattle.runs.specs.Forward.{started}
 use Rattle.runs.specs.Back.{takenBack, endedBack}
-
--- a refusal's place counted through the run, where `before` numbers stand in the frames before: "with N added to the place for each one
--- before it", "12 counts by blocks", and 0 where a question names no place
-unfoldable pub placed : ℕ → ℕ → ℕ × ℕ → ℕ × ℕ
-placed N before answer =
-    (answer .0, cond (ltb (answer .0) 8) 0 (cond (eqb (answer .0) 12) (before - N + answer .1) (before + answer .1)))
 
 -- the calls one by one: b frames as they lie, each with its part of the output, and the finish, which "counts with the last frame".
 -- The answer is that of the first refused call,

@@ -10,7 +10,7 @@ use lib.IntN.{ℤ, pos, natAbs}
 use lib.ListN.{length, set, length-set}
 use lib.Seq.{getD-set-same, getD-set-other}
 use Rattle.integers.specs.Places.{tab, places, at, Within}
-use Rattle.integers.proofs.PlaceLaws.{at-places, within-places}
+use Rattle.integers.proofs.PlaceLaws.{at-places, places-ext, within-places}
 use Rattle.integers.proofs.Fills.{Filling, filling-four}
 use Rattle.slices.specs.declared.fours.Four.{Four}
 use Rattle.slices.specs.Own.Fours.{listed, stored}
@@ -86,3 +86,7 @@ unfolding stored tab
 filling-listed {f} {i = i} h x e =
     let zero : i + 0 ≡ i = omega arith in
     filling-four h (ap (λ l. at l 0) e ∙ ap f zero) (ap (λ l. at l 1) e) (ap (λ l. at l 2) e) (ap (λ l. at l 3) e)
+
+-- four numbers from place p on, from the last to the first
+pub turned-is : (l : List ℤ) (p : ℕ) (x y : Four) (f : ℕ → ℤ) → listed x ≡ places 4 (λ j. at l (p + j)) → listed y ≡ places 4 (λ j. at (listed x) (3 - j)) → ((j : ℕ) → j < 4 → at l (p + (3 - j)) ≡ f j) → listed y ≡ places 4 f
+turned-is l p x y f e d g = d ∙ places-ext 4 _ _ (λ j k. ap (λ t. at t (3 - j)) e ∙ at-places 4 (λ j. at l (p + j)) (3 - j) (omega arith) ∙ g j k)

@@ -4,7 +4,8 @@ ghost use Prim.Native.Nat.{_+_, _-_, _^_, _≤_};
 ghost use lib.IntN.{_+ℤ_, _-ℤ_};
 ghost use lib.ListN.{length};
 ghost use Rattle.integers.specs.Places.{places, at, Within};
-ghost use Rattle.slices.specs.Own.Fours.{listed, stored, signed};
+ghost use Rattle.slices.specs.Own.Fours.{listed, stored};
+ghost use Rattle.slices.specs.Own.Moves.{moved};
 
 pub struct Four {
     pub a: i64,
@@ -23,6 +24,18 @@ pub fn taken(x: &[i64], p: usize) -> Four
         b: x[p + 1],
         c: x[p + 2],
         d: x[p + 3],
+    }
+}
+
+// From the last to the first.
+pub fn turned(x: Four) -> Four
+    ensures { λ r. ⌜ listed r ≡ places 4 (λ j. at (listed x) (3 - j)) ⌝ }
+{
+    Four {
+        a: x.d,
+        b: x.c,
+        c: x.b,
+        d: x.a,
     }
 }
 
@@ -70,7 +83,7 @@ pub fn minus(x: Four, y: Four) -> Four
 pub fn joined(less: bool, x: Four, y: Four) -> Four
     requires { ⌜ Within (2 ^ 62 - 1) (listed x) ⌝ }
     requires { ⌜ Within (2 ^ 62 - 1) (listed y) ⌝ }
-    ensures { λ r. ⌜ listed r ≡ places 4 (λ j. signed less (at (listed x) j) (at (listed y) j)) ⌝ }
+    ensures { λ r. ⌜ listed r ≡ places 4 (λ j. moved less (at (listed x) j) (at (listed y) j)) ⌝ }
 {
     if less {
         return minus(x, y);

@@ -9,7 +9,7 @@ use Rattle.integers.specs.Places.{Within}
 use Rattle.tables.specs.Widths.{halfWidth}
 use Rattle.stages.specs.Own.Stages.{bottom1, top2, bottom3, top4, bottom5, unbottom5, untop4, unbottom3, untop2, unbottom1}
 use Rattle.stages.proofs.StageSizes.{size1, size2, size3, size4, size5}
-use Rattle.steps.proofs.Undo.{length-stage1, length-stage2, length-stage3, length-stage4, length-stage5, length-unstage1, length-unstage2, length-unstage3, length-unstage4, length-unstage5}
+use Rattle.steps.proofs.Lengths.{length-stage1, length-stage2, length-stage3, length-stage4, length-stage5, length-unstage1, length-unstage2, length-unstage3, length-unstage4, length-unstage5}
 
 module _ (N : ℕ) (top bottom : List ℤ) where
   -- forward, from folded values within 50,000

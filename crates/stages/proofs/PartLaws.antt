@@ -10,7 +10,7 @@ use Rattle.integers.specs.Places.{places, at, Within}
 use Rattle.tables.specs.Widths.{halfWidth, scale}
 use Rattle.tables.proofs.ByWidth.{at-each, half-width-le}
 use Rattle.steps.specs.Steps.{tangent, sine}
-use Rattle.steps.proofs.Undo.{width-half}
+use Rattle.steps.proofs.Lengths.{width-half}
 use Rattle.width_tables.specs.Orders.{signIn, placeOut}
 use Rattle.width_tables.specs.Filled.{Filled, tablesLong, productRoom}
 use Rattle.rows.specs.Orders.{Order, rowAt}

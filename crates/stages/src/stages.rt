@@ -6,6 +6,7 @@ ghost use lib.ListN.{length};
 ghost use Rattle.integers.specs.Places.{Within};
 ghost use Rattle.tables.specs.Widths.{halfWidth};
 ghost use Rattle.width_tables.specs.Filled.{Filled, productRoom};
+ghost use Rattle.steps.specs.Limits.{foldedLimit, coefficientLimit};
 ghost use Rattle.steps.specs.Steps.{stage1, stage2, stage3, stage4, stage5, unstage1, unstage2, unstage3, unstage4, unstage5};
 ghost use Rattle.width_tables.specs.Own.Parts.{Halves, Room};
 ghost use Rattle.stages.specs.Own.Stages.{top4, bottom5, untop2, unbottom1};
@@ -129,8 +130,8 @@ pub fn forward(
     requires { ⌜ Filled width (now t) ⌝ }
     requires { ⌜ Halves width (now top) (now bottom) ⌝ }
     requires { ⌜ Room width (now y) (now z) ⌝ }
-    requires { ⌜ Within 50000 (now top) ⌝ }
-    requires { ⌜ Within 50000 (now bottom) ⌝ }
+    requires { ⌜ Within foldedLimit (now top) ⌝ }
+    requires { ⌜ Within foldedLimit (now bottom) ⌝ }
     ensures { λ _. ⌜ (now (top .exit) ≡ top4 width (now (top .entry)) (now (bottom .entry))) × (now (bottom .exit) ≡ bottom5 width (now (top .entry)) (now (bottom .entry))) ⌝ }
 {
     first(false, width, t, top, bottom, y);
@@ -153,8 +154,8 @@ pub fn backward(
     requires { ⌜ Filled width (now t) ⌝ }
     requires { ⌜ Halves width (now top) (now bottom) ⌝ }
     requires { ⌜ Room width (now y) (now z) ⌝ }
-    requires { ⌜ Within 1048576 (now top) ⌝ }
-    requires { ⌜ Within 1048576 (now bottom) ⌝ }
+    requires { ⌜ Within coefficientLimit (now top) ⌝ }
+    requires { ⌜ Within coefficientLimit (now bottom) ⌝ }
     ensures { λ _. ⌜ (now (top .exit) ≡ untop2 width (now (top .entry)) (now (bottom .entry))) × (now (bottom .exit) ≡ unbottom1 width (now (top .entry)) (now (bottom .entry))) ⌝ }
 {
     fifth(true, width, t, top, bottom);

@@ -1,7 +1,9 @@
 pub mod Lists
+pub mod Lengths
 pub mod Undo
 pub mod Rotation
 pub mod ListPlaces
 pub mod ThirdStage
+pub mod RowLengths
 pub mod RowForms
 pub mod ZeroBlock

@@ -7,74 +7,18 @@ use lib.ListN.{length, take, drop, length-append}
 use lib.Seq.{getD-take, getD-drop}
 use lib.IntN.{ℤ, pos, negℤ, _+ℤ_, _*ℤ_}
 use Rattle.integers.specs.Floor.{round}
-use Rattle.integers.specs.Vectors.{plus, mulVec, Rows}
-use Rattle.integers.proofs.PlaceLaws.{length-tab, at-places, places-is, places-ext, sum-ext}
+use Rattle.integers.specs.Vectors.{plus, mulVec}
+use Rattle.integers.proofs.PlaceLaws.{at-places, places-is, places-ext, sum-ext}
 use Rattle.integers.proofs.Products.{getD-plus}
 use Rattle.tables.specs.Widths.{halfWidth}
 use Rattle.steps.specs.Places.{places, at, sum}
 use Rattle.steps.specs.Steps.{rootLog, tangent, sine, cosine, secant, alternate, tangentAmount, sineAmount, rotatedA, rotatedB, lower, held, topOf, bottomOf, amount1, amount2, amount3, stage1, stage2, stage3, stage4, stage5, stages, frame}
 use Rattle.steps.specs.RowForm.{rev, negative, alt, evens, odds, lift, Width, third, widthOf, tanAmounts, sinAmounts, rotA, rotB, low, high, one, two, three, four, five, rowStages, rowFrame}
-use Rattle.steps.proofs.Lists.{Len, len-lift, len-plus, len-mul, len-rev, len-times, len-alt, len-evens, len-odds, len-take, len-drop, rows-tab, len-negative}
+use Rattle.steps.proofs.Lists.{Len, len-lift, len-plus, len-mul, len-rev, len-alt, len-evens, len-odds, len-take, len-drop, len-negative}
 use Rattle.steps.proofs.ListPlaces.{at-rev, at-rev-back, at-times, at-negative, at-lift, at-alt, at-evens, at-odds, at-mul}
-use Rattle.steps.proofs.Undo.{length-lower, length-top, length-bottom, length-stage1, length-stage2, length-stage3, length-stage4}
+use Rattle.steps.proofs.Lengths.{length-lower, length-top, length-bottom, length-stage1, length-stage2, length-stage3, length-stage4}
+use Rattle.steps.proofs.RowLengths.{good, liftB, len-tangents, len-sines, len-liftB, len-rotA, len-rotB}
 use Rattle.steps.proofs.ThirdStage.{third-sum}
-
--- ---- the tables of a width have its lengths
-pub record Good (w : Width) : Type 0 where
-  pub tan-len : length (w .tan) ≡ w .M
-  pub sin-len : length (w .sin) ≡ w .M
-  pub cs-len : length (w .cs) ≡ w .M
-  pub cs-rows : Rows (w .M) (w .cs)
-  pub a3-len : length (w .a3) ≡ w .M
-  pub a3-rows : Rows (w .M) (w .a3)
-
-pub good : (N : ℕ) → Good (widthOf N)
-unfolding widthOf
-good N =
-    let M = halfWidth N in
-    record {
-      tan-len = length-tab _ M 0;
-      sin-len = length-tab _ M 0;
-      cs-len = length-tab _ M 0;
-      cs-rows = rows-tab (cosine N) M M 0;
-      a3-len = length-tab _ M 0;
-      a3-rows = rows-tab (λ m n. third M (rootLog N) m n (secant N m n) (cosine N m n) (tangent N n)) M M 0;
-    }
-
--- b takes the rounded −t·a; a takes the rounded s·b
-abbrev pub liftB : Width → List ℤ → List ℤ → List ℤ
-liftB w a b = lift 28 b (tanAmounts w a)
-
-abbrev pub liftA : Width → List ℤ → List ℤ → List ℤ
-liftA w a b = lift 28 a (sinAmounts w b)
-
-pub M-of : (N : ℕ) → widthOf N .M ≡ halfWidth N
-unfolding widthOf
-M-of N = refl
-
--- ---- lengths
-module _ (w : Width) (ok : Good w) where
-  pub len-tangents : (a : List ℤ) → Len (w .M) a → Len (w .M) (tanAmounts w a)
-  unfolding tanAmounts
-  len-tangents a h = len-times (w .tan) a (ok .tan-len) h
-
-  pub len-sines : (b : List ℤ) → Len (w .M) b → Len (w .M) (sinAmounts w b)
-  unfolding sinAmounts
-  len-sines b l = len-times (w .sin) b (ok .sin-len) l
-
-  pub len-liftB : (a b : List ℤ) → Len (w .M) a → Len (w .M) b → Len (w .M) (liftB w a b)
-  len-liftB a b h l = len-lift 28 b (tanAmounts w a) l (len-tangents a h)
-
-  pub len-liftA : (a b : List ℤ) → Len (w .M) a → Len (w .M) b → Len (w .M) (liftA w a b)
-  len-liftA a b h l = len-lift 28 a (sinAmounts w b) h (len-sines b l)
-
-  pub len-rotA : (a b : List ℤ) → Len (w .M) a → Len (w .M) b → Len (w .M) (rotA w a b)
-  unfolding rotA
-  len-rotA a b h l = len-liftA a (liftB w a b) h (len-liftB a b h l)
-
-  pub len-rotB : (a b : List ℤ) → Len (w .M) a → Len (w .M) b → Len (w .M) (rotB w a b)
-  unfolding rotB
-  len-rotB a b h l = len-liftB (rotA w a b) (liftB w a b) (len-rotA a b h l) (len-liftB a b h l)
 
 -- ---- a lift by its places
 lift-are : (k n : ℕ) (f : ℕ → ℤ) (y a : List ℤ) → Len n y → Len n a → ((m : ℕ) → m < n → f m ≡ at y m +ℤ round k (at a m)) → places n f ≡ lift k y a

@@ -7,15 +7,15 @@ use native.Mathlib.Omega.{arith}
 use borrow.Author.Tests.{ltb-true, ltb-false, eqb-true, eqb-false, lt-ltb, le-ltb, eq-eqb, ne-eqb}
 use lib.Dec.{eqb, ltb}
 use lib.IntN.{ℤ, negℤ, _+ℤ_, _-ℤ_, negℤ-negℤ, +ℤ-negℤ-cancel, -ℤ-+ℤ-cancel}
-use lib.ListN.{length, take, drop, length-append, take-append-drop}
+use lib.ListN.{length, take, drop, take-append-drop}
 use lib.Seq.{take-at, drop-at}
 use Rattle.tables.specs.Widths.{halfWidth}
 use Rattle.tables.specs.Angles.{signed}
 use Rattle.steps.specs.Places.{places, at}
 use Rattle.steps.specs.Steps.{alternate, tangentAmount, sineAmount, rotatedA, rotatedB, unrotatedA, unrotatedB, lower, held, unfolded, topOf, bottomOf, interleaved, amount1, amount2, amount3, stage1, stage2, stage3, stage4, stage5, stages, unstage1, unstage2, unstage3, unstage4, unstage5, unstages}
-use Rattle.tables.proofs.ByWidth.{at-each}
 use Rattle.steps.proofs.Lists.{len-take, len-drop}
-use Rattle.integers.proofs.PlaceLaws.{length-places, at-places, places-is, undone}
+use Rattle.steps.proofs.Lengths.{length-bottom, length-stage1, length-stage2, length-stage3, length-stage4, length-top, length-unfolded, length-unstage1, length-unstage2, length-unstage3, length-unstage4, length-unstage5, length-unstages}
+use Rattle.integers.proofs.PlaceLaws.{at-places, places-is, undone}
 
 -- ---- the rotation: three steps, each undone by the opposite with the same amount
 module _ (s t : ℤ → ℤ) where
@@ -115,76 +115,6 @@ module _ (N : ℕ) (top bottom : List ℤ) where
   pub stage5-unstage5 : length bottom ≡ halfWidth N → stage5 N top (unstage5 N top bottom) ≡ bottom
   unfolding unstage5 stage5
   stage5-unstage5 = lost (λ i. let m = halfWidth N - 1 - i in tangentAmount N m (at top m)) bottom
-
--- ---- lengths
-module _ (N : ℕ) where
-  pub length-top : (f : List ℤ) → length (topOf N f) ≡ halfWidth N
-  unfolding topOf
-  length-top f = length-places (halfWidth N) _
-
-  pub length-bottom : (f : List ℤ) → length (bottomOf N f) ≡ halfWidth N
-  unfolding bottomOf
-  length-bottom f = length-places (halfWidth N) _
-
-  pub length-stage1 : (top bottom : List ℤ) → length (stage1 N top bottom) ≡ halfWidth N
-  unfolding stage1
-  length-stage1 top bottom = length-places (halfWidth N) _
-
-  pub length-stage2 : (top bottom : List ℤ) → length (stage2 N top bottom) ≡ halfWidth N
-  unfolding stage2
-  length-stage2 top bottom = length-places (halfWidth N) _
-
-  pub length-stage3 : (top bottom : List ℤ) → length (stage3 N top bottom) ≡ halfWidth N
-  unfolding stage3
-  length-stage3 top bottom = length-places (halfWidth N) _
-
-  pub length-stage4 : (top bottom : List ℤ) → length (stage4 N top bottom) ≡ halfWidth N
-  unfolding stage4
-  length-stage4 top bottom = length-places (halfWidth N) _
-
-  pub length-stage5 : (top bottom : List ℤ) → length (stage5 N top bottom) ≡ halfWidth N
-  unfolding stage5
-  length-stage5 top bottom = length-places (halfWidth N) _
-
-  pub length-unstage1 : (top bottom : List ℤ) → length (unstage1 N top bottom) ≡ halfWidth N
-  unfolding unstage1
-  length-unstage1 top bottom = length-places (halfWidth N) _
-
-  pub length-unstage2 : (top bottom : List ℤ) → length (unstage2 N top bottom) ≡ halfWidth N
-  unfolding unstage2
-  length-unstage2 top bottom = length-places (halfWidth N) _
-
-  pub length-unstage3 : (top bottom : List ℤ) → length (unstage3 N top bottom) ≡ halfWidth N
-  unfolding unstage3
-  length-unstage3 top bottom = length-places (halfWidth N) _
-
-  pub length-unstage4 : (top bottom : List ℤ) → length (unstage4 N top bottom) ≡ halfWidth N
-  unfolding unstage4
-  length-unstage4 top bottom = length-places (halfWidth N) _
-
-  pub length-unstage5 : (top bottom : List ℤ) → length (unstage5 N top bottom) ≡ halfWidth N
-  unfolding unstage5
-  length-unstage5 top bottom = length-places (halfWidth N) _
-
-  pub length-stages : (f : List ℤ) → length (stages N f) ≡ halfWidth N + halfWidth N
-  unfolding stages
-  length-stages f = simp (length-append, length-stage4, length-stage5)
-
-  pub length-unstages : (c : List ℤ) → length (unstages N c) ≡ N
-  unfolding unstages interleaved
-  length-unstages c = length-places N _
-
-  pub length-lower : (x : List ℤ) → length (lower N x) ≡ halfWidth N
-  unfolding lower
-  length-lower x = length-places (halfWidth N) _
-
-  pub length-held : (x : List ℤ) → length (held N x) ≡ halfWidth N
-  unfolding held
-  length-held x = length-places (halfWidth N) _
-
-  pub length-unfolded : (low high : List ℤ) → length (unfolded N low high) ≡ N
-  unfolding unfolded
-  length-unfolded low high = length-places N _
 
 -- ---- what is at a place of a fold
 module _ (N : ℕ) (half : halfWidth N + halfWidth N ≡ N) where
@@ -314,8 +244,3 @@ module _ (N : ℕ) (half : halfWidth N + halfWidth N ≡ N) where
 
   pub stages-onto : (c : List ℤ) → length c ≡ N → (f : List ℤ) × (length f ≡ N) × (stages N f ≡ c)
   stages-onto c l = (unstages N c, length-unstages N c, stages-unstages c l)
-
--- as it is at every width
-pub width-half : (N : ℕ) → 0 < halfWidth N → halfWidth N + halfWidth N ≡ N
-unfolding halfWidth
-width-half = at-each (λ N M. 0 < M → M + M ≡ N) 4 16 64 0 (λ h. refl) (λ h. refl) (λ h. refl) (λ N x y z h. absurd (omega arith))

@@ -1,102 +1,142 @@
-// The lines of a piece of the input.
+// The lines of a piece of the input. Each function answers how far the program has come.
 ghost use mathlib.Core.Path.{_≡_};
+ghost use mathlib.Core.Bool.{false};
+ghost use Prim.Native.Nat.{_+_, _≤_, _<_};
 ghost use lib.ListN.{length};
-ghost use Rattle.stream.specs.Room.{InRoom, Buffers};
-use crate::output;
-use crate::output::Progress;
-use decimal::gather;
+ghost use Rattle.pieces.specs.Piece.{Buffers, Gives, HandsOn, Goes, Took, Rests, Ends};
+ghost use Rattle.text_runs.specs.State.{given};
+ghost use Rattle.feeding.specs.Text.{sessionAfter, isOver, textProgram};
+ghost use Rattle.stream.specs.Text.{textLimits, placeOf};
+use crate::session;
+use feeding::session::Session;
+use decimal::print;
+use pieces::line;
 use text_lines::input;
-use text_state::state;
+use text_runs::state::Printed;
+use text_state::ending;
+use feeding::session::Ending;
 
-fn hand_on(
-    output: i32,
-    whole: bool,
-    line: &[u8],
-    printed: &mut [u8],
-    progress: Progress,
-) -> Progress
-    requires { ⌜ (length (now printed) ≡ 65536) × InRoom progress ⌝ }
-    ensures { λ r. ⌜ InRoom r ⌝ }
+// How many bytes the line buffer has of a line that no line feed has ended, how many bytes wait in the output buffer, and where to go on in
+// the piece.
+pub struct Progress {
+    pub session: Session,
+    pub had: usize,
+    pub waiting: usize,
+    pub at: usize,
+}
+
+// What a line or the end gives, behind what waits.
+fn put(before: Ending, given: Printed, out: &mut [u8], waiting: usize, next: usize) -> Progress
+    requires { ⌜ (given .length ≤ 2048) × (waiting + 2048 ≤ length (now out)) ⌝ }
+    ensures { λ r. ⌜ Gives textProgram textLimits (sessionAfter before (Rattle.text_runs.specs.State.given given)) (now (out .entry)) waiting next (placeOf r) (now (out .exit)) ⌝ }
 {
-    let state = progress.state;
-    output::put(
-        output,
-        printed,
-        progress.waiting,
+    let text = given.text;
+    let n = given.length;
+    let state = given.state;
+    let told = ending::after(before, state, &text[..n]);
+    let behind = print::bytes(out, waiting, &text[..n]);
+    Progress {
+        session: Session {
+            state: state,
+            ending: told,
+        },
+        had: 0,
+        waiting: behind,
+        at: next,
+    }
+}
+
+fn hand_on(whole: bool, line: &[u8], out: &mut [u8], progress: Progress, next: usize) -> Progress
+    requires { ⌜ (length (now line) ≤ 2048) × (progress .waiting + 2048 ≤ length (now out)) ⌝ }
+    ensures { λ r. ⌜ HandsOn textProgram textLimits whole (now (line .entry)) (now (out .entry)) (placeOf progress) next (placeOf r) (now (out .exit)) ⌝ }
+{
+    let session = progress.session;
+    let before = session.ending;
+    let state = session.state;
+    put(
+        before,
         input::take(state, whole, line),
+        out,
+        progress.waiting,
+        next,
     )
 }
 
-// A line of more than 2,048 bytes is handed on at once as one that is not whole, so that an input with no line feed ends.
-fn take_lines(
-    output: i32,
-    piece: &[u8],
-    line: &mut [u8],
-    printed: &mut [u8],
-    begun: Progress,
-) -> Progress
-    requires { ⌜ Buffers (now line) (now printed) begun ⌝ }
-    ensures { λ r. ⌜ InRoom r ⌝ }
+fn take_line(piece: &[u8], line: &mut [u8], out: &mut [u8], progress: Progress) -> Progress
+    requires { ⌜ Buffers textProgram textLimits (now piece) (now line) (now out) (placeOf progress) ⌝ }
+    requires { ⌜ (isOver (progress .session) ≡ false) × (progress .waiting + 2048 ≤ length (now out)) × (progress .at < length (now piece)) ⌝ }
+    ensures { λ r. ⌜ Goes textProgram textLimits (now (piece .entry)) (now (line .entry)) (now (out .entry)) (placeOf progress) (placeOf r) (now (line .exit)) (now (out .exit)) ⌝ }
+{
+    let had = progress.had;
+    let gathered = line::gather(piece, progress.at, line, had);
+    let n = gathered.length;
+    let next = gathered.next;
+    if gathered.ended {
+        return hand_on(gathered.whole, &line[..n], out, progress, next);
+    }
+    let session = progress.session;
+    Progress {
+        session: session,
+        had: n,
+        waiting: progress.waiting,
+        at: next,
+    }
+}
+
+// Goes on until the piece is used up or the output has less room than one line can print.
+pub fn take(piece: &[u8], line: &mut [u8], out: &mut [u8], begun: Progress) -> Progress
+    requires { ⌜ Buffers textProgram textLimits (now piece) (now line) (now out) (placeOf begun) ⌝ }
+    ensures { λ r. ⌜ Took textProgram textLimits (now (piece .entry)) (now (line .entry)) (now (out .entry)) (placeOf begun) (placeOf r) (now (line .exit)) (now (out .exit)) ⌝ }
 {
     let mut progress = begun;
-    let mut at = 0;
-    while at < piece.len() {
-        let had = progress.had;
-        let gathered = gather::gather(piece, at, line, had);
-        let n = gathered.length;
-        if gathered.long {
-            return hand_on(output, false, &line[..had], printed, progress);
-        }
-        if !gathered.whole {
-            let state = progress.state;
+    while progress.at < piece.len() {
+        let session = progress.session;
+        if session::is_over(session) {
             return Progress {
-                state: state,
-                had: n,
+                session: session,
+                had: progress.had,
                 waiting: progress.waiting,
+                at: piece.len(),
             };
         }
-        progress = hand_on(output, true, &line[..n], printed, progress);
-        let after = progress.state;
-        if !state::goes_on(after) {
+        if out.len() - progress.waiting < 2048 {
             return progress;
         }
-        at = gathered.next;
+        progress = take_line(piece, line, out, progress);
     }
     progress
 }
 
-pub fn take(
-    output: i32,
-    piece: &[u8],
-    line: &mut [u8],
-    printed: &mut [u8],
-    progress: Progress,
-) -> Progress
-    requires { ⌜ Buffers (now line) (now printed) progress ⌝ }
-    ensures { λ r. ⌜ InRoom r ⌝ }
+// Bytes that no line feed has ended are a broken line.
+fn rest(line: &[u8], out: &mut [u8], progress: Progress) -> Progress
+    requires { ⌜ (length (now line) ≡ 2048) × (progress .had ≤ 2048) × (progress .waiting + 2048 ≤ length (now out)) ⌝ }
+    ensures { λ r. ⌜ Rests textProgram textLimits (now (line .entry)) (now (out .entry)) (placeOf progress) (placeOf r) (now (out .exit)) ⌝ }
 {
-    let taken = take_lines(output, piece, line, printed, progress);
-    output::write(output, printed, taken)
-}
-
-// Bytes that no line feed has ended are no whole line.
-fn take_rest(output: i32, line: &[u8], printed: &mut [u8], progress: Progress) -> Progress
-    requires { ⌜ Buffers (now line) (now printed) progress ⌝ }
-    ensures { λ r. ⌜ InRoom r ⌝ }
-{
+    let session = progress.session;
+    if session::is_over(session) {
+        return progress;
+    }
     let had = progress.had;
     if had == 0 {
         return progress;
     }
-    hand_on(output, false, &line[..had], printed, progress)
+    hand_on(false, &line[..had], out, progress, progress.at)
 }
 
 // The input has no byte more.
-pub fn end(output: i32, line: &[u8], printed: &mut [u8], progress: Progress)
-    requires { ⌜ Buffers (now line) (now printed) progress ⌝ }
+pub fn end(line: &[u8], out: &mut [u8], progress: Progress) -> Progress
+    requires { ⌜ (length (now line) ≡ 2048) × (progress .had ≤ 2048) × (progress .waiting + 4096 ≤ length (now out)) ⌝ }
+    ensures { λ r. ⌜ Ends textProgram (now (line .entry)) (now (out .entry)) (placeOf progress) (placeOf r) (now (out .exit)) ⌝ }
 {
-    let rest = take_rest(output, line, printed, progress);
-    let state = rest.state;
-    let ended = output::put(output, printed, rest.waiting, input::end(state));
-    output::write(output, printed, ended);
+    let rested = rest(line, out, progress);
+    let session = rested.session;
+    let before = session.ending;
+    let state = session.state;
+    put(
+        before,
+        input::end(state),
+        out,
+        rested.waiting,
+        rested.at,
+    )
 }

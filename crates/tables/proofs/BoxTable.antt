@@ -16,10 +16,16 @@ use Rattle.integers.proofs.Order.{above-pos, pos-≤-iff, natAbs-negℤ}
 use Rattle.integers.proofs.Tested.{every-at, every-le, and-left, and-right}
 use Rattle.tables.specs.Boxes.{Box, only, negated, under, halved, atDouble, boxBy, cosineBox, Squares}
 use Rattle.tables.specs.BoxEnds.{lows, highs}
+use Rattle.tables.specs.Statement.{Boxed}
 use Rattle.tables.proofs.Roots.{square-lt, root-is, rootUp-is}
 
 unfoldable pub boxAt : ℕ → Box
 boxAt a = record { low = pos (getD lows a 0); high = pos (getD highs a 0) }
+
+-- each lower end is at most the upper one
+ordered-tested : T (every (λ a l. leb l (getD highs a 0)) 0 lows)
+unfolding lows highs
+ordered-tested = tt
 
 -- l and u have the square property over the ends b
 square : Box → ℕ → ℕ → Bool
@@ -184,7 +190,7 @@ double-small a = by (leb (2 * a) 512) refl
     by true e = rw (atDouble, e) (box-small (2 * a))
     by false e = rw (atDouble, e) (negated-small (boxAt (1024 - 2 * a)) (box-small (1024 - 2 * a)))
 
-pub box-squares : (a : ℕ) → 0 < a → a < 512 → Squares (atDouble cosineBox a) (cosineBox a)
+box-squares : (a : ℕ) → 0 < a → a < 512 → Squares (atDouble cosineBox a) (cosineBox a)
 unfolding boxAt
 box-squares a z h =
     let b = double-small a in
@@ -192,3 +198,12 @@ box-squares a z h =
     (sym (double-same cosineBox boxAt a (λ n. cosine-box-is (2 * a) n) (λ n. cosine-box-is (1024 - 2 * a) (omega arith))))
     (sym (cosine-box-is a (omega arith)))
     (squares-of (atDouble boxAt a) (getD lows a 0) (getD highs a 0) (b .0) (b .1) (at a z h))
+
+-- ---- the lower end is at most the upper one
+ends-ordered : (a : ℕ) → a < 513 → (cosineBox a .low) ≤ℤ (cosineBox a .high)
+unfolding boxAt
+ends-ordered a h =
+    rw (cosine-box-is a (omega arith)) (pos-≤-iff _ _ .1 (leb→le _ _ (every-at (λ a l. leb l (getD highs a 0)) lows ordered-tested a (omega (arith, lows-long)))))
+
+pub boxed : Boxed
+boxed = record { angle-0 = cosine-box-is 0 (omega arith) ∙ sym whole; right-angle = cosine-box-is 512 (omega arith) ∙ sym none; squares = box-squares; ordered = ends-ordered }

@@ -1,11 +1,12 @@
 -- What belongs to a width.
 use mathlib.Core.Path.{_≡_, refl, sym, subst₂}
 use mathlib.Core.Bool.{Bool, true, false}
+use mathlib.Core.Logic.{inl, inr}
 use Prim.Native.Nat.{ℕ, _≤_, _<_, zero-le}
 use native.Mathlib.Omega.{arith}
 use borrow.Author.Tests.{ne-eqb, eqb-true, eqb-false}
 use lib.Dec.{eqb, lit≤}
-use Rattle.tables.specs.Widths.{byWidth, halfWidth}
+use Rattle.tables.specs.Widths.{RunWidth, byWidth, halfWidth}
 
 module _ {A : Type 0} (a b c other : A) {n : ℕ} where
   pub at-8 : n ≡ 8 → byWidth a b c other n ≡ a
@@ -42,6 +43,12 @@ module _ {A : Type 0} (P : ℕ → A → Type 0) (a b c other : A) where
           let z = eqb-false n 128 f in
           is refl (at-other a b c other x y z) (h n x y z)
 
+-- two things that belong to a width
+pub at-both : {A B : Type 0} (P : A → B → Type 0) (a b c other : A) (d e f rest : B) → P a d → P b e → P c f → P other rest → (n : ℕ) → P (byWidth a b c other n) (byWidth d e f rest n)
+at-both P a b c other d e f rest h8 h32 h128 h =
+    at-each (λ n x. P x (byWidth d e f rest n)) a b c other (rw (at-8 d e f rest refl) h8) (rw (at-32 d e f rest refl) h32) (rw (at-128 d e f rest refl) h128)
+    (λ n x y z. rw (at-other d e f rest x y z) h)
+
 pub half-width-le : (n : ℕ) → halfWidth n ≤ 64
 unfolding halfWidth
 half-width-le = at-each (λ n m. m ≤ 64) 4 16 64 0 (lit≤ tt) (lit≤ tt) (lit≤ tt) (λ n x y z. zero-le)
@@ -53,3 +60,9 @@ half-width-ge = at-each (λ n m. 0 < m → 4 ≤ m) 4 16 64 0 (λ z. lit≤ tt) 
 pub no-other : (n : ℕ) → 0 < halfWidth n → (n ≡ 8 → ⊥) → (n ≡ 32 → ⊥) → (n ≡ 128 → ⊥) → ⊥
 unfolding halfWidth
 no-other n z f g h = let e : halfWidth n ≡ 0 = at-other 4 16 64 0 f g h in omega arith
+
+pub run-width : (n : ℕ) → RunWidth n → 0 < halfWidth n
+unfolding halfWidth byWidth
+run-width n (inl e) = rw e (omega arith)
+run-width n (inr (inl e)) = rw e (omega arith)
+run-width n (inr (inr e)) = rw e (omega arith)

@@ -1,3 +1,4 @@
+pub mod BoxSample
 pub mod ByWidth
 pub mod Quadrants
 pub mod Reading

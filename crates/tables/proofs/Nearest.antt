@@ -16,8 +16,18 @@ use Rattle.integers.proofs.Tested.{every-at, and-left, and-right}
 use Rattle.tables.specs.Numbers.{sines, halfTangents, halfTangents8, halfTangents32, halfTangents128, secants, secants8, secants32, secants128}
 use Rattle.tables.specs.Boxes.{only, cosineBox, sineBox, boxBy, Nearest}
 use Rattle.tables.specs.BoxEnds.{lows, highs}
-use Rattle.tables.proofs.ByWidth.{at-each}
+use Rattle.tables.specs.Statement.{TablesCounted, SinesNearest, HalfTangentsNearest, SecantsNearest}
+use Rattle.tables.proofs.ByWidth.{at-each, at-both}
 use Rattle.tables.proofs.BoxTable.{boxAt, cosine-box-is}
+
+-- ---- how many numbers there are
+pub tables-counted : TablesCounted
+unfolding sines halfTangents halfTangents8 halfTangents32 halfTangents128 secants secants8 secants32 secants128
+tables-counted n = record {
+  sines-counted = refl;
+  half-tangents-counted = at-both (λ xs c. length xs ≡ c) halfTangents8 halfTangents32 halfTangents128 [] 4 16 64 0 refl refl refl refl n;
+  secants-counted = at-both (λ xs c. length xs ≡ c) secants8 secants32 secants128 [] 2 8 32 0 refl refl refl refl n;
+}
 
 -- t over the ends of a numerator and of a denominator: 2t − 1 and 2t + 1 lie on both sides of every fraction between, times 2^29
 near : ℕ → ℕ → ℕ → ℕ → ℕ → Bool
@@ -90,15 +100,11 @@ sines-test : T (every (nearAt (λ j. 512 - 2 * j) (λ j. 0)) 0 sines)
 unfolding nearAt near lows highs sines
 sines-test = tt
 
-sines-long : length sines ≡ 257
-unfolding sines
-sines-long = refl
-
-pub sines-nearest : (j : ℕ) → j ≤ 256 → Nearest (getD sines j 0) (sineBox (2 * j)) (only (2 ^ 60))
+pub sines-nearest : SinesNearest
 unfolding sineBox
 sines-nearest j h =
     subst (Nearest (getD sines j 0) (cosineBox (512 - 2 * j))) one
-    (fractions (λ j. 512 - 2 * j) (λ j. 0) sines sines-test j (omega (arith, sines-long)))
+    (fractions (λ j. 512 - 2 * j) (λ j. 0) sines sines-test j (rw (tables-counted 0 .sines-counted) h))
 
 -- ---- t(m) = tan((2m+1)π/(8N)), which is (2m+1)·128/N parts
 abbrev half-tangents-test : ℕ → List ℕ → Type 0
@@ -108,9 +114,11 @@ half-tangents-tested : (n : ℕ) → half-tangents-test n (halfTangents n)
 unfolding halfTangents halfTangents8 halfTangents32 halfTangents128 nearAt near lows highs
 half-tangents-tested = at-each half-tangents-test halfTangents8 halfTangents32 halfTangents128 [] tt tt tt (λ n x y z. tt)
 
-pub half-tangents-nearest : (n m : ℕ) → m < length (halfTangents n) → Nearest (getD (halfTangents n) m 0) (sineBox ((2 * m + 1) * (128 / n))) (cosineBox ((2 * m + 1) * (128 / n)))
+pub half-tangents-nearest : HalfTangentsNearest
 unfolding sineBox
-half-tangents-nearest n m h = fractions (λ m. 512 - (2 * m + 1) * (128 / n)) (λ m. (2 * m + 1) * (128 / n)) (halfTangents n) (half-tangents-tested n) m h
+half-tangents-nearest n m h =
+    fractions (λ m. 512 - (2 * m + 1) * (128 / n)) (λ m. (2 * m + 1) * (128 / n)) (halfTangents n) (half-tangents-tested n) m
+    (rw (tables-counted n .half-tangents-counted) h)
 
 -- ---- 1/cos(rπ/N) for the odd r = 2i+1, which is r·1024/N parts
 abbrev secants-test : ℕ → List ℕ → Type 0
@@ -120,7 +128,7 @@ secants-tested : (n : ℕ) → secants-test n (secants n)
 unfolding secants secants8 secants32 secants128 nearAt near lows highs
 secants-tested = at-each secants-test secants8 secants32 secants128 [] tt tt tt (λ n x y z. tt)
 
-pub secants-nearest : (n i : ℕ) → i < length (secants n) → Nearest (getD (secants n) i 0) (only (2 ^ 60)) (cosineBox ((2 * i + 1) * (1024 / n)))
+pub secants-nearest : SecantsNearest
 secants-nearest n i h =
     subst (λ b. Nearest (getD (secants n) i 0) b (cosineBox ((2 * i + 1) * (1024 / n)))) one
-    (fractions (λ i. 0) (λ i. (2 * i + 1) * (1024 / n)) (secants n) (secants-tested n) i h)
+    (fractions (λ i. 0) (λ i. (2 * i + 1) * (1024 / n)) (secants n) (secants-tested n) i (rw (tables-counted n .secants-counted) h))

@@ -3,3 +3,4 @@ pub mod Angles
 pub mod Numbers
 pub mod Boxes
 pub mod BoxEnds
+pub mod Statement

@@ -1,7 +1,13 @@
 -- The widths of a run: N is 8, 32 or 128, and M is N/2.
+use mathlib.Core.Path.{_≡_}
 use mathlib.Core.Bool.{cond}
+use mathlib.Core.Logic.{_⊎_}
 use Prim.Native.Nat.{ℕ}
 use lib.Dec.{eqb}
+
+-- "A run has a width N of 8, 32 or 128."
+abbrev pub RunWidth : ℕ → Type 0
+RunWidth N = (N ≡ 8) ⊎ ((N ≡ 32) ⊎ (N ≡ 128))
 
 -- what belongs to each width, and to any other number
 unfoldable pub byWidth : {A : Type 0} → A → A → A → A → ℕ → A

@@ -32,11 +32,11 @@ use Rattle.text_runs.proofs.OneLine.{state, row-printed, end-printed}
 use Rattle.text_runs.proofs.RunRows.{output-long, frame-bits}
 
 -- ---- what is printed for a frame: nothing for the first, and the block for a later one
-later-shownRow : (N k : ℕ) (low block : List ℤ) → shownRow Back (opened N (suc k) low) block ≡ rowLine block
+pub later-shownRow : (N k : ℕ) (low block : List ℤ) → shownRow Back (opened N (suc k) low) block ≡ rowLine block
 unfolding shownRow opened
 later-shownRow N k low block = rw (eqb·suc-zero k)
 
-first-shownRow : (N : ℕ) (low block : List ℤ) → shownRow Back (opened N 0 low) block ≡ []
+pub first-shownRow : (N : ℕ) (low block : List ℤ) → shownRow Back (opened N 0 low) block ≡ []
 unfolding shownRow opened
 first-shownRow N low block = refl
 

@@ -10,6 +10,9 @@ use borrow.Author.Tests.{lt-ltb, le-ltb, le-leb, ltb-true, ltb-false}
 use lib.Dec.{ltb}
 use lib.ListN.{length}
 use Rattle.text_runs.specs.Decimal.{spelled, decimal, isDigit, allDigits}
+-- what is computed comes before what is proved: a wrong definition fails first at a sample
+use Rattle.text_runs.specs.Samples as Samples
+use Rattle.text_runs.specs.InputSamples as InputSamples
 
 module _ (k n : ℕ) (after : List ℕ) where
   pub spelled-last : n < 10 → spelled (suc k) n after ≡ (48 + n) ∷ after

@@ -11,3 +11,13 @@ pub mod RunRows
 pub mod ForwardRows
 pub mod BackRows
 pub mod TextReturn
+pub mod AnyLine
+pub mod AnyLines
+pub mod TextLines
+pub mod AnyText
+pub mod AnswersTold
+pub mod BlocksTaken
+pub mod FramesTaken
+pub mod FramesRead
+pub mod TextEnds
+pub mod EveryInput

@@ -37,12 +37,12 @@ row-not-end (pos n ∷ xs) count = digits-not-end (decimal n) xs count (decimal-
 row-not-end (negsuc n ∷ xs) count = refl
 
 -- ---- the lines of a text
-line-ends : (bs rest : List ℕ) → lacks lineFeed bs → linesOf (bs ++ lineFeed ∷ rest) ≡ (true, bs) ∷ linesOf rest
+pub line-ends : (bs rest : List ℕ) → lacks lineFeed bs → linesOf (bs ++ lineFeed ∷ rest) ≡ (true, bs) ∷ linesOf rest
 unfolding linesOf inFront lacks
 line-ends [] rest h = refl
 line-ends (b ∷ bs) rest h = rw (ne-eqb b lineFeed (h .0), line-ends bs rest (h .1))
 
-decimal-no-feed : (n : ℕ) → lacks lineFeed (decimal n)
+pub decimal-no-feed : (n : ℕ) → lacks lineFeed (decimal n)
 decimal-no-feed = decimal-lacks lineFeed (omega arith)
 
 end-no-feed : (count : ℕ) → lacks lineFeed (endLine count)
@@ -53,7 +53,7 @@ unfoldable pub linesBetween : List (List ℤ) → List Line → List Line
 linesBetween [] after = after
 linesBetween (xs ∷ rows) after = (true, row xs) ∷ linesBetween rows after
 
-rows-lines : (rows : List (List ℤ)) (rest : List ℕ) → linesOf (rowLines rows ++ rest) ≡ linesBetween rows (linesOf rest)
+pub rows-lines : (rows : List (List ℤ)) (rest : List ℕ) → linesOf (rowLines rows ++ rest) ≡ linesBetween rows (linesOf rest)
 unfolding rowLines rowLine linesBetween
 rows-lines [] rest = refl
 rows-lines (xs ∷ rows) rest =

@@ -6,6 +6,8 @@ pub mod Way
 pub mod Line
 pub mod Input
 pub mod Return
+pub mod EveryInput
 pub mod Bytes
 pub mod Samples
+pub mod InputSamples
 pub mod Own

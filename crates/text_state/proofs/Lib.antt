@@ -1,1 +1,2 @@
 pub mod GivenLaws
+pub mod EndingLaws

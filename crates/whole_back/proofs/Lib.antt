@@ -1,4 +1,1 @@
 pub mod LoopLaws
-pub mod PlacedLaws
-pub mod RoomLaws
-pub mod Undoing

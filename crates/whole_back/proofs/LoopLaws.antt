@@ -1,38 +1,55 @@
 -- A whole run back as the code counts it: frames that are whole, the calls left behind the first frame, and their outputs in parts of one list.
 use mathlib.Core.Path.{_≡_, sym, ap, ap₂, _∙_}
+use mathlib.Core.Bool.{true, _&&_, and-eq-true-iff}
 use mathlib.Core.List.{List, _++_, append-assoc, append-nil}
 use Prim.Native.Nat.{ℕ, suc, _+_, _-_, _*_, _/_, _%_, _≤_, _<_}
 use native.Mathlib.Nat.{mul-le-mul-right, add-div-right}
 use native.Mathlib.Numerals.{add-one}
 use native.Mathlib.Omega.{arith}
+use borrow.Author.Tests.{lt-ltb, le-leb, eq-eqb, eqb-true, leb-true, ltb-true}
+use lib.Dec.{eqb, ltb, leb}
 use lib.IntN.{ℤ}
 use lib.ListN.{length, take, drop, length-drop}
 use lib.Seq.{take-all, drop-drop}
 use Rattle.tables.specs.Widths.{halfWidth}
+use Rattle.runs.specs.Answers.{told}
+use Rattle.runs.specs.declared.answer.Answer.{Answer}
 use Rattle.runs.specs.declared.record.Run.{Run}
 use Rattle.runs.specs.Record.{frameLimit, zeros}
 use Rattle.runs.specs.Forward.{started}
+use Rattle.gate.specs.Own.Asked.{wholeParts, inParts}
 use Rattle.gate.specs.Own.Ready.{Blocks}
+use Rattle.gate.proofs.GateLaws.{same-answer}
+use Rattle.gate.proofs.AskedLaws as Asked
+use Rattle.gate.proofs.AskedLaws.{all-whole, whole-all}
 use Rattle.runs.proofs.RecordLaws.{width-le, width-pos}
 use Rattle.runs.proofs.WholeLaws.{whole-blocks, some-blocks}
 use Rattle.runs.proofs.OneByOne.{outputs-next, first-behind, outputs-behind}
 use Rattle.gate.proofs.PartLaws.{written, written-front, written-rest}
 use Rattle.runs.specs.Back.{takenBack}
-use Rattle.runs.specs.WholeBack.{answerFrom, outputsFrom, allOutputs, firstAnswer}
-use Rattle.whole_back.specs.Own.Ready.{Frames}
+use Rattle.runs.specs.WholeBack.{answerFrom, outputsFrom, allOutputs, firstAnswer, wholeBack}
+use Rattle.asking_back.specs.Own.Ready.{Frames}
 
--- ---- frames that are whole
-module _ (N : ℕ) (frames : List ℤ) (f : Frames N frames) where
-  pub few-numbers : length frames ≤ 8388736
-  few-numbers = omega (arith, f .whole, mul-le-mul-right N (f .few), width-le N (f .wide))
+-- ---- questions 1 and 6: at least one part of the width is at least one number
+one-part : (N : ℕ) (frames : List ℤ) → 0 < N → wholeParts N (length frames) 1 frameLimit ≡ (eqb (length frames % N) 0 && leb (length frames / N) frameLimit && ltb 0 (length frames))
+one-part N frames p = same-answer _ _ there back
+  where
+    there : wholeParts N (length frames) 1 frameLimit ≡ true → (eqb (length frames % N) 0 && leb (length frames / N) frameLimit && ltb 0 (length frames)) ≡ true
+    there e =
+        let f = whole-all N (length frames) 1 frameLimit e in
+        let some : 0 < length frames = omega (arith, whole-blocks N frames (f .0), mul-le-mul-right N (f .2)) in
+        rw (eq-eqb _ _ (f .0), le-leb _ _ (f .1), lt-ltb 0 (length frames) some)
 
-  pub one-frame : N ≤ length frames
-  one-frame = omega (arith, f .whole, mul-le-mul-right N (f .some))
+    back : (eqb (length frames % N) 0 && leb (length frames / N) frameLimit && ltb 0 (length frames)) ≡ true → wholeParts N (length frames) 1 frameLimit ≡ true
+    back e =
+        let both = and-eq-true-iff (eqb (length frames % N) 0 && leb (length frames / N) frameLimit) (ltb 0 (length frames)) .0 e in
+        let first = and-eq-true-iff (eqb (length frames % N) 0) (leb (length frames / N) frameLimit) .0 (both .0) in
+        let r = eqb-true _ _ (first .0) in
+        all-whole N (length frames) 1 frameLimit r (leb-true _ _ (first .1)) (some-blocks N frames (whole-blocks N frames r) (ltb-true _ _ (both .1)))
 
-pub frames-whole : (N : ℕ) (frames : List ℤ) → 0 < halfWidth N → length frames % N ≡ 0 → length frames / N ≤ frameLimit → 0 < length frames → Frames N frames
-frames-whole N frames w e few some =
-    let whole = whole-blocks N frames e in
-    record { wide = w; whole = whole; some = some-blocks N frames whole some; few = few }
+pub parts-refused : (N : ℕ) (frames out : List ℤ) (answer : Answer) → told answer ≡ inParts N (length frames) 1 frameLimit → (told answer .0 ≡ 0 → ⊥) → (told answer, out) ≡ wholeBack N frames out
+unfolding wholeBack
+parts-refused N frames out answer a h = Asked.parts-refused N (length frames) 1 frameLimit answer a _ (λ w. one-part N frames (width-pos N (omega (arith, w)))) out _ h
 
 -- readings are one block less
 module _ (N : ℕ) (frames out : List ℤ) (f : Frames N frames) (r : length out + N ≡ length frames) where

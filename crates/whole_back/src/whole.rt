@@ -1,158 +1,28 @@
 // A whole run back over lent slices, for any caller.
 ghost use mathlib.Core.Path.{_≡_};
-ghost use Prim.Native.Nat.{_+_, _-_, _/_, _≤_, _<_};
-ghost use lib.IntN.{pos};
+ghost use Prim.Native.Nat.{_+_, _/_, _<_};
 ghost use lib.ListN.{length, drop};
 ghost use Rattle.integers.specs.Places.{Within};
 ghost use Rattle.tables.specs.Widths.{halfWidth};
 ghost use Rattle.steps.specs.Limits.{foldedLimit};
 ghost use Rattle.width_tables.specs.Filled.{Filled};
 ghost use Rattle.width_tables.specs.Own.Parts.{Halves, Room};
-ghost use Rattle.runs.specs.Answers.{told, firstBeyond};
+ghost use Rattle.runs.specs.Answers.{told};
 ghost use Rattle.runs.specs.Record.{zeros, opened};
 ghost use Rattle.runs.specs.Forward.{started};
 ghost use Rattle.gate.specs.Own.Ready.{Blocks};
 ghost use Rattle.runs.specs.Back.{takenBack};
-ghost use Rattle.frames.specs.Own.Faults.{toldHeld};
-ghost use Rattle.runs.specs.WholeBack;
 ghost use Rattle.runs.specs.WholeBack.{answerFrom, outputsFrom, firstAnswer, allOutputs, oneByOne, wholeBack};
-ghost use Rattle.whole_back.specs.Own.Ready.{Frames};
-use calls_back::back;
-use constants::widths;
+ghost use Rattle.asking_back.specs.Own.Ready.{Frames};
+use asking_back::asking;
+use frames::step;
 use frames::undo;
+use gate::limits;
 use gate::questions;
 use runs::answer::Answer;
-use runs::answer::Found;
 use runs::record;
 use slices::room;
 use width_tables::fill;
-
-// An answer with its place counted through the run; 12 counts by blocks.
-fn placed(width: usize, offset: usize, answer: Answer) -> Answer
-    requires { ⌜ (offset ≤ 8388736) × (told answer .1 ≤ 128) ⌝ }
-    ensures { λ r. ⌜ told r ≡ WholeBack.placed width offset (told answer) ⌝ }
-{
-    match answer {
-        Answer::DeadMark(i) => Answer::DeadMark(offset + i),
-        Answer::Range(i) => Answer::Range(offset + i),
-        Answer::Folded(i) => Answer::Folded(offset + i),
-        Answer::Halves(i) => Answer::Halves(offset + i),
-        Answer::Unfolded(i) => {
-            if offset < width {
-                return Answer::Unfolded(i);
-            }
-            Answer::Unfolded(offset - width + i)
-        }
-        Answer::Done => Answer::Done,
-        Answer::Width => Answer::Width,
-        Answer::Record => Answer::Record,
-        Answer::Closed => Answer::Closed,
-        Answer::Full => Answer::Full,
-        Answer::Empty => Answer::Empty,
-        Answer::InputLength => Answer::InputLength,
-        Answer::OutputLength => Answer::OutputLength,
-    }
-}
-
-fn spare() -> [i32; 128]
-    ensures { λ r. ⌜ 128 ≡ length r ⌝ }
-{
-    [0; 128]
-}
-
-// Question 11 at the finish, which counts with the last frame.
-fn ended(offset: usize, held: &[i64]) -> Answer
-    requires { ⌜ (offset ≤ 8388736) × (length (now held) ≤ 64) ⌝ }
-    ensures { λ r. ⌜ told r ≡ toldHeld offset (firstBeyond (pos 0) (now (held .entry)) 0) ⌝ }
-{
-    let lower = questions::first_beyond(held, 0);
-    if let Found::At(place) = lower {
-        return Answer::Halves(offset + place);
-    }
-    Answer::Done
-}
-
-// The answer of the first refused call of a fresh run. block is room for what a frame writes, and what follows it is room to work in.
-fn answer_of(
-    width: usize,
-    t: &[i64],
-    frames: &[i32],
-    held: &mut [i64],
-    block: &mut [i32],
-    folded: &mut [i64],
-    wide: &mut [i64],
-    top: &mut [i64],
-    bottom: &mut [i64],
-    y: &mut [i64],
-    z: &mut [i64],
-) -> Answer
-    requires { ⌜ Filled width (now t) ⌝ }
-    requires { ⌜ now held ≡ zeros (halfWidth width) ⌝ }
-    requires { ⌜ Frames width (now frames) ⌝ }
-    requires { ⌜ (length (now folded) ≡ width) × (length (now wide) ≡ width) × (length (now block) ≡ width) ⌝ }
-    requires { ⌜ Halves width (now top) (now bottom) ⌝ }
-    requires { ⌜ Room width (now y) (now z) ⌝ }
-    ensures { λ r. ⌜ told r ≡ firstAnswer width (now (frames .entry)) (zeros (length (now (frames .entry)) - width)) ⌝ }
-{
-    let mut at = 0;
-    let mut count = 0;
-    let mut left = frames.len() / width;
-    while 0 < left {
-        let end = at + width;
-        let fault = undo::undo(
-            width,
-            count,
-            t,
-            &frames[at..end],
-            held,
-            block,
-            folded,
-            wide,
-            top,
-            bottom,
-            y,
-            z,
-        );
-        let answer = back::answered(fault);
-        if runs::answer::number(answer) != 0 {
-            return placed(width, at, answer);
-        }
-        at = end;
-        count += 1;
-        left -= 1;
-    }
-    ended(at - width, held)
-}
-
-// The answer of the first refused call, with nothing written.
-fn first_answer(width: usize, t: &[i64], frames: &[i32]) -> Answer
-    requires { ⌜ Filled width (now t) ⌝ }
-    requires { ⌜ Frames width (now frames) ⌝ }
-    ensures { λ r. ⌜ told r ≡ firstAnswer width (now (frames .entry)) (zeros (length (now (frames .entry)) - width)) ⌝ }
-{
-    let half = width / 2;
-    let mut held = record::nothing_held();
-    let mut block = spare();
-    let mut folded = room::of_128();
-    let mut wide = room::of_128();
-    let mut top = room::of_64();
-    let mut bottom = room::of_64();
-    let mut y = room::of_648();
-    let mut z = room::of_648();
-    answer_of(
-        width,
-        t,
-        frames,
-        &mut held[..half],
-        &mut block[..width],
-        &mut folded[..width],
-        &mut wide[..width],
-        &mut top[..half],
-        &mut bottom[..half],
-        &mut y,
-        &mut z,
-    )
-}
 
 // The blocks before the frames that follow the first one. Each frame is lent to the frame step as it lies.
 fn blocks_before(
@@ -223,7 +93,7 @@ fn first_frame(
     requires { ⌜ Room width (now y) (now z) ⌝ }
     ensures { λ _. ⌜ (takenBack (started width .1) (now (frame .entry)) (zeros width) .0 .0 ≡ 0 → (opened width 1 (now (held .exit)) ≡ takenBack (started width .1) (now (frame .entry)) (zeros width) .1) × Within foldedLimit (now (held .exit))) ⌝ }
 {
-    let mut block = spare();
+    let mut block = step::zero_block();
     undo::undo(
         width,
         0,
@@ -293,7 +163,7 @@ fn in_two_passes(width: usize, frames: &[i32], readings: &mut [i32]) -> Answer
     let mut t = room::of_1906();
     let mut room = room::of_648();
     fill::fill(width, &mut t[..long], &mut room);
-    let answer = first_answer(width, &t[..long], frames);
+    let answer = asking::first_answer(width, &t[..long], frames);
     if runs::answer::number(answer) != 0 {
         return answer;
     }
@@ -305,17 +175,9 @@ fn in_two_passes(width: usize, frames: &[i32], readings: &mut [i32]) -> Answer
 pub fn back(width: usize, frames: &[i32], readings: &mut [i32]) -> Answer
     ensures { λ r. ⌜ (told r, now (readings .exit)) ≡ wholeBack width (now (frames .entry)) (now (readings .entry)) ⌝ }
 {
-    if widths::half_width(width) == 0 {
-        return Answer::Width;
-    }
-    if frames.len() % width != 0 {
-        return Answer::InputLength;
-    }
-    if 65537 < frames.len() / width {
-        return Answer::InputLength;
-    }
-    if frames.len() == 0 {
-        return Answer::InputLength;
+    let asked = questions::in_parts(width, frames.len(), 1, limits::FRAME_LIMIT);
+    if runs::answer::number(asked) != 0 {
+        return asked;
     }
     if frames.len() - width != readings.len() {
         return Answer::OutputLength;

@@ -1,17 +1,19 @@
--- The first refusal among the calls of a whole run is told from its readings: it is that of their first fault. What the run gives by it.
+-- What a whole run gives by its first questions; and the first refusal among its calls, told from its readings: it is that of their first fault.
 use mathlib.Core.Path.{_≡_, refl, ap, _∙_}
-use mathlib.Core.Bool.{true, false, cond}
+use mathlib.Core.Bool.{true, false, cond, _&&_, and-true}
 use mathlib.Core.List.{List, [], _∷_}
-use Prim.Native.Nat.{ℕ, zero, suc, _+_, _*_, _/_, _%_, _≤_, _<_}
+use Prim.Native.Nat.{ℕ, zero, suc, _+_, _*_, _/_, _%_, _≤_, _<_, zero-le}
 use native.Mathlib.Omega.{arith}
-use borrow.Author.Tests.{lt-ltb, eq-eqb}
-use lib.Dec.{eqb, eqb·suc-zero}
+use borrow.Author.Tests.{lt-ltb, le-leb, eq-eqb}
+use lib.Dec.{eqb, leb, eqb·suc-zero}
 use lib.IntN.{ℤ}
 use lib.ListN.{length, take, drop, length-drop}
 use lib.Seq.{length-take-le}
 use Rattle.tables.specs.Widths.{halfWidth}
 use Rattle.steps.specs.Steps.{held}
 use Rattle.distance.specs.Statement.{IsWidth}
+use Rattle.runs.specs.Answers.{told, placed}
+use Rattle.runs.specs.declared.answer.Answer.{Answer}
 use Rattle.runs.specs.declared.answer.Found.{Found}
 use Rattle.runs.specs.declared.answer.Found.the-variants.{At, Nothing}
 use Rattle.runs.specs.declared.record.Run.{Run}
@@ -22,16 +24,27 @@ use Rattle.runs.specs.Gate.{askEach, nothing, every, firstDead, firstOut}
 use Rattle.runs.specs.Forward.{takenIn}
 use Rattle.runs.specs.Calls.{Call, block, finish, give, made, works, accepted}
 use Rattle.runs.specs.Whole.{callsOf, firstRefusal, outputs, wholeForward, WholeRun}
+use Rattle.gate.specs.Own.Asked.{wholeParts, inParts}
 use Rattle.gate.specs.Own.Faults.{toldFault, faultBy, faultOf, faultFrom, firstFault}
 use Rattle.runs.proofs.RecordLaws.{Reached, reached-first, reached-next}
 use Rattle.runs.proofs.CallLaws.{accepted-block, taken-decided, ended-decided, taken-in}
 use Rattle.runs.proofs.EveryList.{started-open}
 use Rattle.runs.proofs.WholeLaws as Whole
+use Rattle.gate.proofs.AskedLaws as Asked
 use Rattle.gate.proofs.BlockLaws.{clear-both}
+
+-- ---- questions 1 and 6
+all-parts : (N given : ℕ) → wholeParts N given 0 blockLimit ≡ (eqb (given % N) 0 && leb (given / N) blockLimit)
+unfolding wholeParts
+all-parts N given = rw (le-leb 0 (given / N) zero-le, and-true)
+
+pub parts-refused : (N : ℕ) (readings out : List ℤ) (answer : Answer) → told answer ≡ inParts N (length readings) 0 blockLimit → (told answer .0 ≡ 0 → ⊥) → (told answer, out) ≡ wholeForward N readings out
+unfolding wholeForward
+parts-refused N readings out answer a h = Asked.parts-refused N (length readings) 0 blockLimit answer a _ (λ w. all-parts N (length readings)) out _ h
 
 -- ---- the first refusal: of the first call, or of those after it
 module _ (N before : ℕ) (run : Run) (c : Call) (calls : List Call) where
-  refusal-here : (n place : ℕ) (after : Run) (out : List ℤ) → give run c ≡ ((suc n, place), after, out) → firstRefusal N before (made run (c ∷ calls)) ≡ (suc n, before + place)
+  refusal-here : (n place : ℕ) (after : Run) (out : List ℤ) → give run c ≡ ((suc n, place), after, out) → firstRefusal N before (made run (c ∷ calls)) ≡ placed N before (suc n, place)
   unfolding made works firstRefusal
   refusal-here n place after out e = rw (e, eqb·suc-zero n)
 
@@ -54,7 +67,7 @@ module _ (N b : ℕ) (previous : List ℤ) (r : Reached N b previous) (xs out : 
   block-refusal : (before : ℕ) (calls : List Call) (rest : Fault)
       → (Reached N (suc b) xs → firstRefusal N (before + N) (made (opened N (suc b) (held N xs)) calls) ≡ toldFault rest)
       → firstRefusal N before (made run (block xs out ∷ calls)) ≡ toldFault (faultFrom before (faultOf xs) rest)
-  unfolding toldFault faultFrom faultOf faultBy give takenIn askEach
+  unfolding toldFault faultFrom faultOf faultBy give takenIn askEach placed
   block-refusal before calls rest later = by (firstDead xs 0) (firstOut xs 0) refl refl
     where
       by : (f g : Found) → firstDead xs 0 ≡ f → firstOut xs 0 ≡ g → firstRefusal N before (made run (block xs out ∷ calls)) ≡ toldFault (faultFrom before (faultBy f g) rest)

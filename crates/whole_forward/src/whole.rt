@@ -10,8 +10,8 @@ ghost use Rattle.runs.specs.Forward.{started};
 ghost use Rattle.runs.specs.Calls.{made};
 ghost use Rattle.runs.specs.Whole.{callsOf, outputs, wholeForward, WholeRun};
 ghost use Rattle.gate.specs.Own.Ready.{Blocks};
-use constants::widths;
 use frames::step;
+use gate::limits;
 use gate::questions;
 use gate::questions::Fault;
 use runs::answer::Answer;
@@ -49,7 +49,7 @@ fn first_fault(width: usize, readings: &[i32]) -> Fault
     requires { ⌜ Blocks width (now readings) ⌝ }
     ensures { λ r. ⌜ r ≡ firstFault width 0 (length (now (readings .entry)) / width) (now (readings .entry)) ⌝ }
 {
-    if questions::in_range(readings, 32767) {
+    if questions::in_range(readings, limits::READING_LIMIT) {
         return Fault::Clear;
     }
     searched(width, readings)
@@ -119,14 +119,9 @@ pub fn forward(width: usize, readings: &[i32], frames: &mut [i32]) -> Answer
     ensures { λ r. ⌜ (told r, now (frames .exit)) ≡ wholeForward width (now (readings .entry)) (now (frames .entry)) ⌝ }
     ensures { λ r. ⌜ (told r ≡ (0, 0) → WholeRun width (now (readings .entry)) (now (frames .exit))) ⌝ }
 {
-    if widths::half_width(width) == 0 {
-        return Answer::Width;
-    }
-    if readings.len() % width != 0 {
-        return Answer::InputLength;
-    }
-    if 65536 < readings.len() / width {
-        return Answer::InputLength;
+    let asked = questions::in_parts(width, readings.len(), 0, limits::BLOCK_LIMIT);
+    if runs::answer::number(asked) != 0 {
+        return asked;
     }
     if frames.len() != readings.len() + width {
         return Answer::OutputLength;

@@ -24,7 +24,7 @@ use Rattle.products.specs.Own.Products.{Power}
 use Rattle.products.specs.Own.Rooms.{Small, Written}
 use Rattle.products.specs.Own.Whole.{LeafLists}
 use Rattle.product_lists.specs.Own.Tables.{Tabled}
-use Rattle.products.proofs.WholeLaws.{power-same}
+use Rattle.products.proofs.LevelRooms.{power-same}
 use Rattle.width_tables.specs.Orders.{angleAt}
 use Rattle.width_tables.specs.Filled.{leavesLong, listRoom, cosineList, secantList}
 use Rattle.width_tables.proofs.PartLaws.{measured, put-part, put-long}

@@ -4,6 +4,7 @@ use mathlib.Core.List.{List}
 use Prim.Native.Nat.{ℕ, _+_, _^_, _≤_, _<_}
 use lib.IntN.{ℤ, pos, negℤ, natAbs, _+ℤ_, _-ℤ_, _*ℤ_}
 use lib.ListN.{length}
+use Rattle.integers.specs.Floor.{round}
 use Rattle.integers.specs.Places.{at, Within}
 use Rattle.steps.specs.Steps.{alternate}
 use Rattle.slices.specs.declared.fours.Four.{Four}
@@ -14,15 +15,18 @@ use Rattle.rows.specs.Orders.{rowAt, secantOut}
 abbrev pub movedFour : Bool → List ℤ → ℕ → Four → Four
 movedFour undo y i f = record { a = moved undo (at y i) (f .a); b = moved undo (at y (i + 1)) (f .b); c = moved undo (at y (i + 2)) (f .c); d = moved undo (at y (i + 3)) (f .d) }
 
--- −d(i)·z, or else d(i)·z
-unfoldable pub flipped : Bool → ℕ → ℤ → ℤ
-flipped true i z = negℤ (alternate i z)
-flipped false i z = alternate i z
+-- the rounded products of four numbers and of four others from their end
+abbrev pub products : Four → Four → Four
+products c x = record { a = round 28 (c .a *ℤ x .d); b = round 28 (c .b *ℤ x .c); c = round 28 (c .c *ℤ x .b); d = round 28 (c .d *ℤ x .a) }
+
+-- −d(i)·z
+unfoldable pub flipped : ℕ → ℤ → ℤ
+flipped i z = negℤ (alternate i z)
 
 -- stage 2 at a place: −d(i)·x and the amount, or x less the amount, and then −d(i)
 unfoldable pub second : Bool → ℕ → ℤ → ℤ → ℤ
-second true i x amount = flipped true i (x -ℤ amount)
-second false i x amount = flipped true i x +ℤ amount
+second true i x amount = flipped i (x -ℤ amount)
+second false i x amount = flipped i x +ℤ amount
 
 -- what stage 3 adds at a place, in parts of 2^34, from the secant sum 64/M times, the cosine sum 8/√M times, and −t·top: the cosine sum counts 16 times
 unfoldable pub amount : ℤ → ℤ → ℤ → ℤ → ℤ

@@ -6,7 +6,7 @@ use lib.Dec.{eqb}
 use lib.IntN.{ℤ, _+ℤ_, _-ℤ_}
 use Rattle.integers.specs.Places.{at}
 
--- a step, or the step undone
+-- a step, or the step undone: a sum, or a difference
 unfoldable pub moved : Bool → ℤ → ℤ → ℤ
 moved true y amount = y -ℤ amount
 moved false y amount = y +ℤ amount

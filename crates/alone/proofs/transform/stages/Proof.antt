@@ -10,9 +10,10 @@ use Rattle.integers.specs.Places.{places, at, Within}
 use Rattle.tables.specs.Widths.{halfWidth}
 use Rattle.tables.proofs.ByWidth.{half-width-le}
 use Rattle.tables.proofs.Reading.{half-is}
+use Rattle.steps.specs.Limits.{foldedLimit}
 use Rattle.steps.specs.Steps.{topOf, bottomOf}
 use Rattle.stages.specs.Own.Stages.{top4, bottom5}
-use Rattle.steps.proofs.Undo.{width-half, length-top, length-bottom}
+use Rattle.steps.proofs.Lengths.{width-half, length-top, length-bottom}
 use Rattle.stages.proofs.FrameSizes.{long4, long5}
 use Rattle.slices.proofs.Parts.{part-long, front-le, rest-long, rest-put}
 use Rattle.frames.proofs.FrameLaws.{read-evens, read-odds, stages-halves, top-within, bottom-within}
@@ -41,7 +42,7 @@ module _ (s : tie.Start) where
   out-long : length out ≡ N
   out-long = s .pre .1 .1 .1 .1 .0 .1
 
-  inside : Within 50000 work
+  inside : Within foldedLimit work
   inside = s .pre .1 .1 .1 .1 .1
 
   half-long : (half ≡ M) × (M + M ≡ N)
@@ -78,7 +79,7 @@ forward-requires c κs =
           record { top-long = ap length (top1 p) ∙ length-top (N s) (work s); bottom-long = ap length (bottom1 q) ∙ length-bottom (N s) (work s) },
           (
             s .pre .1 .1 .1 .0,
-            (subst (Within 50000) (sym (top1 p)) (top-within (N s) 50000 (work s) (inside s)), subst (Within 50000) (sym (bottom1 q)) (bottom-within (N s) 50000 (work s) (inside s))),
+            (subst (Within foldedLimit) (sym (top1 p)) (top-within (N s) foldedLimit (work s) (inside s)), subst (Within foldedLimit) (sym (bottom1 q)) (bottom-within (N s) foldedLimit (work s) (inside s))),
           ),
         ),
       ),

@@ -30,7 +30,9 @@ cast-numbers-3 : tie.Need-cast-numbers-3
 cast-numbers-3 c = tt
 
 slice-set-from-numbers-3 : tie.Need-slice-set-from-numbers-3
-slice-set-from-numbers-3 c = simp length-set (omega (arith, c .before .before .before .before .pre .room))
+slice-set-from-numbers-3 c =
+    let start = c .before .before .before .before in
+    simp length-set (omega (arith, start .pre .room))
 
 sub-copy : tie.Need-sub-copy
 sub-copy c = let s = c .before .before .before .before .before in simp length-set (omega (arith, s .pre .room))

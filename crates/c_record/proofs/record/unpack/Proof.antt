@@ -43,7 +43,9 @@ copy-requires c κs =
     rest-long (numbers (from e)) (has-room (numbers (from e)) (is-record e)) ∙ sym (ap length (e .before .before .nothing-held .ensures) ∙ length-replicate 64 (pos 0))
 
 front-requires : tie.Need-front-requires
-front-requires c κs = is-record (c .before .before .before .before)
+front-requires c κs =
+    let else1 = c .before .before .before .before in
+    is-record else1
 
 returns-2 : tie.Need-returns-2
 returns-2 c =

@@ -1,9 +1,8 @@
 -- `calls_back::back::finish` meets its contract.
 use borrow.Author.Needs.{needs}
-use borrow.Author.Tests.{not-true, not-false}
 use native.Mathlib.Omega.{arith}
 use mathlib.Core.Path.{_≡_, sym, ap, _∙_}
-use mathlib.Core.Bool.{true}
+use mathlib.Core.Bool.{true, false}
 use mathlib.Core.List.{List, []}
 use lib.IntN.{ℤ}
 use lib.ListN.{length}
@@ -13,7 +12,8 @@ use Rattle.runs.specs.declared.record.Run.{Run}
 use Rattle.runs.specs.Record.{frameLimit, closed}
 use Rattle.runs.specs.Gate.{sound}
 use Rattle.gate.proofs.ReadyLaws.{passed}
-use Rattle.runs.proofs.AskLaws.{handed-with, record-refused, closed-refused}
+use Rattle.gate.proofs.AskedLaws.{refused, open-sound, open-unfinished}
+use Rattle.runs.proofs.AskLaws.{handed-with}
 use Rattle.runs.specs.Back.{endedBack}
 use Rattle.runs.proofs.EndLaws.{end-empty-refused, end-held-refused, ended-done}
 use Rattle.calls_back.proofs.back.finish.Statement.{statement}
@@ -26,75 +26,84 @@ module _ (s : tie.Start) where
   held-long : length (run .held) ≡ 64
   held-long = search needs
 
-is-sound : (e : tie.Else1) → sound frameLimit (run (e .before .before)) ≡ true
-is-sound e = sym (e .before .sound .ensures) ∙ not-false _ (e .if1 .left)
+-- questions 2 and 3 are passed
+module _ (e : tie.Else1) where
+  abbrev asked : tie.After-still-open
+  asked = e .before .before
+
+  abbrev from : tie.Start
+  from = asked .before .before .before
+
+  none : told (asked .still-open .result) .0 ≡ 0
+  none = sym (e .before .number .ensures) ∙ e .if1 .left
+
+  is-sound : sound frameLimit (run from) ≡ true
+  is-sound = open-sound (asked .still-open .ensures) none
+
+  unfinished : run from .finished ≡ false
+  unfinished = open-unfinished (asked .still-open .ensures) none
 
 returns : tie.Need-returns
 unfolding endedBack
 returns c =
-    let t = c .before in
-    handed-with (c .hand-back .ensures) [] _ (record-refused frameLimit (run (t .before .before)) [] _ (sym (t .before .sound .ensures) ∙ not-true _ (t .if1 .taken)))
+    let n = c .before .before in
+    let a = n .before in
+    let s = a .before .before .before in
+    handed-with (c .hand-back .ensures) [] _ (refused (a .still-open .result) (run s) [] _ (λ z. c .before .if1 .taken (n .number .ensures ∙ z)) ∙ a .still-open .ensures .asked [] _)
 
 returns-2 : tie.Need-returns-2
-unfolding endedBack
 returns-2 c =
     let t = c .before in
-    let e = t .before in
-    handed-with (c .hand-back2 .ensures) [] _ (closed-refused frameLimit (run (e .before .before)) [] _ (is-sound e) (t .if2 .taken))
+    let e = t .before .before in
+    handed-with (c .hand-back2 .ensures) [] _ (end-empty-refused (run (from e)) (is-sound e) (unfinished e) (t .if2 .taken))
+
+first-held-requires : tie.Need-first-held-requires
+first-held-requires c κs = let e = c .before .before .before in let s = from e in passed frameLimit (omega arith) (run s) _ (is-sound e) (c .half-width .ensures) (held-long s)
 
 returns-3 : tie.Need-returns-3
 returns-3 c =
-    let t = c .before in
-    let e = t .before .before .before in
-    handed-with (c .hand-back3 .ensures) [] _ (end-empty-refused (run (e .before .before)) (is-sound e) (t .before .before .if2 .left) (t .if3 .taken))
-
-first-held-requires : tie.Need-first-held-requires
-first-held-requires c κs = let e = c .before .before .before .before in let s = e .before .before in passed frameLimit (omega arith) (run s) _ (is-sound e) (c .half-width .ensures) (held-long s)
-
-returns-4 : tie.Need-returns-4
-returns-4 c =
     let h = c .before .before in
     let f = h .before .before in
     let l = f .before .before in
-    let e = l .before .before .before in
-    handed-with (c .hand-back4 .ensures) [] _
-    (end-held-refused (run (e .before .before)) (is-sound e) (l .before .before .if2 .left) (l .if3 .left) _ (sym (f .first-held .ensures) ∙ h .held .given .1))
+    let e = l .before .before in
+    handed-with (c .hand-back3 .ensures) [] _
+    (end-held-refused (run (from e)) (is-sound e) (unfinished e) (l .if2 .left) _ (sym (f .first-held .ensures) ∙ h .lower .given .1))
 
 enum-told : tie.Need-enum-told
 enum-told c = search needs
 
-returns-5 : tie.Need-returns-5
+returns-4 : tie.Need-returns-4
 unfolding closed
-returns-5 c =
+returns-4 c =
     let m = c .before in
     let n = m .before .before in
     let f = n .before .before in
     let l = f .before .before in
-    let e = l .before .before .before in
-    let s = e .before .before in
-    handed-with (c .hand-back5 .ensures) [] _
+    let e = l .before .before in
+    let s = from e in
+    handed-with (c .hand-back4 .ensures) [] _
     (ap (λ (r : Run). (told Done, r, [])) (m .make .ensures)
     ∙ ap (λ (h : List ℤ). (told Done, record { width = run s .width; count = run s .count; held = h; finished = true }, [])) (m .before .nothing-held .ensures)
-    ∙ ended-done (run s) (is-sound e) (l .before .before .if2 .left) (l .if3 .left) (sym (f .first-held .ensures) ∙ n .enum-told .given .1))
+    ∙ ended-done (run s) (is-sound e) (unfinished e) (l .if2 .left) (sym (f .first-held .ensures) ∙ n .enum-told .given .1))
 
 pub finish-spec : {M : Type 1} → statement M
 finish-spec =
     tie.close
     (tie.spec
+    (λ c. search needs)
+    (λ c κs. search needs)
     (λ c κs. search needs)
     (λ c κs. search needs)
     returns
     (λ c κs. search needs)
     returns-2
     (λ c κs. search needs)
-    returns-3
-    (λ c κs. search needs)
     first-held-requires
     (λ c. search needs)
     (λ c κs. search needs)
-    returns-4
+    returns-3
     enum-told
     (λ c κs. search needs)
     (λ c κs. search needs)
     (λ c κs. search needs)
-    returns-5)
+    returns-4)

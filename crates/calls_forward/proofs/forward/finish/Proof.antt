@@ -1,9 +1,8 @@
 -- `calls_forward::forward::finish` meets its contract.
 use borrow.Author.Needs.{needs}
-use borrow.Author.Tests.{not-true, not-false}
 use native.Mathlib.Omega.{arith}
 use mathlib.Core.Path.{_≡_, sym, ap₂, _∙_}
-use mathlib.Core.Bool.{true}
+use mathlib.Core.Bool.{true, false}
 use mathlib.Core.List.{List}
 use lib.IntN.{ℤ}
 use lib.ListN.{length}
@@ -14,7 +13,8 @@ use Rattle.runs.specs.Record.{blockLimit}
 use Rattle.runs.specs.Gate.{sound}
 use Rattle.runs.specs.Forward.{ended}
 use Rattle.gate.proofs.ReadyLaws.{passed}
-use Rattle.runs.proofs.AskLaws.{handed-with, record-refused, closed-refused, end-output-refused, ended-done}
+use Rattle.gate.proofs.AskedLaws.{refused, open-sound, open-unfinished}
+use Rattle.runs.proofs.AskLaws.{handed-with, end-output-refused, ended-done}
 use Rattle.calls_forward.proofs.forward.finish.Statement.{statement}
 use Rattle.calls_forward.proofs.forward.finish.Tie as tie
 
@@ -28,61 +28,68 @@ module _ (s : tie.Start) where
   held-long : length (run .held) ≡ 64
   held-long = search needs
 
-is-sound : (e : tie.Else1) → sound blockLimit (run (e .before .before)) ≡ true
-is-sound e = sym (e .before .sound .ensures) ∙ not-false _ (e .if1 .left)
+-- questions 2 and 3 are passed
+module _ (e : tie.Else1) where
+  abbrev asked : tie.After-still-open
+  asked = e .before .before
+
+  abbrev from : tie.Start
+  from = asked .before .before .before
+
+  none : told (asked .still-open .result) .0 ≡ 0
+  none = sym (e .before .number .ensures) ∙ e .if1 .left
+
+  is-sound : sound blockLimit (run from) ≡ true
+  is-sound = open-sound (asked .still-open .ensures) none
+
+  unfinished : run from .finished ≡ false
+  unfinished = open-unfinished (asked .still-open .ensures) none
 
 returns : tie.Need-returns
 unfolding ended
 returns c =
-    let t = c .before in
-    let s = t .before .before in
-    handed-with (c .hand-back .ensures) (out s) _ (record-refused blockLimit (run s) (out s) _ (sym (t .before .sound .ensures) ∙ not-true _ (t .if1 .taken)))
+    let n = c .before .before in
+    let a = n .before in
+    let s = a .before .before .before in
+    handed-with (c .hand-back .ensures) (out s) _ (refused (a .still-open .result) (run s) (out s) _ (λ z. c .before .if1 .taken (n .number .ensures ∙ z)) ∙ a .still-open .ensures .asked (out s) _)
 
 returns-2 : tie.Need-returns-2
-unfolding ended
 returns-2 c =
     let t = c .before in
     let e = t .before in
-    let s = e .before .before in
-    handed-with (c .hand-back2 .ensures) (out s) _ (closed-refused blockLimit (run s) (out s) _ (is-sound e) (t .if2 .taken))
-
-returns-3 : tie.Need-returns-3
-returns-3 c =
-    let t = c .before in
-    let e = t .before .before in
-    let s = e .before .before in
-    handed-with (c .hand-back3 .ensures) (out s) _ (end-output-refused (run s) (out s) (is-sound e) (t .before .if2 .left) (t .if3 .taken))
+    let s = from e in
+    handed-with (c .hand-back2 .ensures) (out s) _ (end-output-refused (run s) (out s) (is-sound e) (unfinished e) (t .if2 .taken))
 
 close-requires : tie.Need-close-requires
 close-requires c κs =
     let l = c .before .before in
-    let e = l .before .before in
-    let s = e .before .before in
-    (passed blockLimit (omega arith) (run s) _ (is-sound e) (c .before .half-width .ensures) (held-long s), l .if3 .left)
+    let e = l .before in
+    let s = from e in
+    (passed blockLimit (omega arith) (run s) _ (is-sound e) (c .before .half-width .ensures) (held-long s), l .if2 .left)
 
-returns-4 : tie.Need-returns-4
-returns-4 c =
+returns-3 : tie.Need-returns-3
+returns-3 c =
     let d = c .before .before in
     let l = d .before .before .before in
-    let e = l .before .before in
-    let s = e .before .before in
-    handed-with (c .hand-back4 .ensures) _ _
+    let e = l .before in
+    let s = from e in
+    handed-with (c .hand-back3 .ensures) _ _
     (ap₂ (λ (r : Run) (f : List ℤ). (told Done, r, f)) (d .close .ensures .0) (d .close .ensures .1)
-    ∙ ended-done (run s) (out s) (is-sound e) (l .before .if2 .left) (l .if3 .left))
+    ∙ ended-done (run s) (out s) (is-sound e) (unfinished e) (l .if2 .left))
 
 pub finish-spec : {M : Type 1} → statement M
 finish-spec =
     tie.close
     (tie.spec
+    (λ c. search needs)
+    (λ c κs. search needs)
     (λ c κs. search needs)
     (λ c κs. search needs)
     returns
     (λ c κs. search needs)
     returns-2
     (λ c κs. search needs)
-    returns-3
-    (λ c κs. search needs)
     close-requires
     (λ c κs. search needs)
     (λ c. search needs)
-    returns-4)
+    returns-3)

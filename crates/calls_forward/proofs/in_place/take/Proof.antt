@@ -1,9 +1,8 @@
 -- `calls_forward::in_place::take` meets its contract.
 use borrow.Author.Needs.{needs}
-use borrow.Author.Tests.{not-true, not-false}
 use native.Mathlib.Omega.{arith}
 use mathlib.Core.Path.{_≡_, refl, sym, ap, ap₂, _∙_}
-use mathlib.Core.Bool.{true}
+use mathlib.Core.Bool.{false}
 use mathlib.Core.List.{List, _++_}
 use Prim.Native.Nat.{ℕ, _/_, _≤_, _<_}
 use lib.IntN.{ℤ}
@@ -18,14 +17,14 @@ use Rattle.frames.proofs.FrameLaws.{width-in-fours, take-within}
 use Rattle.runs.specs.declared.record.Run.{Run}
 use Rattle.gate.specs.declared.questions.Fault.the-variants.{Clear}
 use Rattle.runs.specs.Record.{blockLimit, recordOf, nextCount}
-use Rattle.runs.specs.Gate.{Given, sound, admitted}
+use Rattle.runs.specs.Gate.{Given}
 use Rattle.gate.specs.Own.Faults.{faultOf}
 use Rattle.runs.specs.Forward.{takenIn, taken}
 use Rattle.gate.specs.Own.Ready.{Ready}
 use Rattle.runs.proofs.RecordLaws.{width-le}
 use Rattle.gate.proofs.FaultLaws.{half-room}
 use Rattle.gate.proofs.ReadyLaws.{passed, advanced-is, frame-on}
-use Rattle.runs.proofs.AskLaws.{record-refused, closed-refused, full-refused, input-refused, output-refused, lengths-passed}
+use Rattle.gate.proofs.AskedLaws.{admitted-refused, admitted-passed, admitted-sound, admitted-open, admitted-given, admitted-room}
 use Rattle.gate.proofs.BlockLaws.{dead-refused, range-refused, taken-done, clear-within}
 use Rattle.calls_forward.proofs.in_place.take.Statement.{statement}
 use Rattle.calls_forward.proofs.in_place.take.Tie as tie
@@ -43,30 +42,36 @@ module _ (s : tie.Start) where
   abbrev next : Given
   next = takenIn run block out
 
-abbrev start : tie.Else1 → tie.Start
-start e = e .before .before .before
-
-is-sound : (e : tie.Else1) → sound blockLimit (run (start e)) ≡ true
-is-sound e = sym (e .before .sound-held .ensures) ∙ not-false _ (e .if1 .left)
-
 -- questions 2 to 7 are passed
-module _ (l : tie.Else5) where
-  abbrev first : tie.Else1
-  first = l .before .before .before .before
+module _ (l : tie.Else1) where
+  abbrev asked : tie.After-admitted
+  asked = l .before .before
 
   abbrev from : tie.Start
-  from = start first
+  from = asked .before .before
+
+  none : told (asked .admitted .result) .0 ≡ 0
+  none = sym (l .before .number .ensures) ∙ l .if1 .left
+
+  unfinished : from .args .finished ≡ false
+  unfinished = admitted-open (asked .admitted .ensures) none
+
+  block-long : length (block from) ≡ from .args .width
+  block-long = admitted-given (asked .admitted .ensures) none
+
+  frame-long : length (out from) ≡ from .args .width
+  frame-long = admitted-room (asked .admitted .ensures) none
 
   ready : (half : ℕ) → half ≡ halfWidth (from .args .width) → Ready (run from) half
-  ready half h = passed blockLimit (omega arith) (run from) half (is-sound first) h (from .pre)
+  ready half h = passed blockLimit (omega arith) (run from) half (admitted-sound (asked .admitted .ensures) none) h (from .pre)
 
-  asked : next from ≡ taken (run from) (block from) (out from)
+  taken-is : next from ≡ taken (run from) (block from) (out from)
   unfolding taken
-  asked = lengths-passed blockLimit (run from) (block from) (out from) (next from) (is-sound first) (l .before .before .before .if2 .left) (l .before .before .if3 .left) (l .before .if4 .left) (l .if5 .left)
+  taken-is = admitted-passed (asked .admitted .ensures) (block from) (out from) (next from) refl refl none
 
 -- and 8 and 9
 module _ (n : tie.After-enum-told) where
-  abbrev passing : tie.Else5
+  abbrev passing : tie.Else1
   passing = n .before .before .before
 
   abbrev half : ℕ
@@ -85,29 +90,17 @@ module _ (n : tie.After-enum-told) where
   half-le = half-room (from passing .args .width) half (from passing .args .held .now) (set .half-is) (from passing .pre)
 
 returns : tie.Need-returns
-unfolding taken admitted told nextCount
-returns c = let s = c .before .before .before in record-refused blockLimit (run s) (out s) _ (sym (c .before .sound-held .ensures) ∙ not-true _ (c .if1 .taken))
-
-returns-2 : tie.Need-returns-2
-unfolding taken admitted told nextCount
-returns-2 c = let e = c .before in let s = start e in closed-refused blockLimit (run s) (out s) _ (is-sound e) (c .if2 .taken)
-
-returns-3 : tie.Need-returns-3
-unfolding taken told nextCount
-returns-3 c = let e = c .before .before in let s = start e in full-refused blockLimit (run s) (block s) (out s) (next s) (is-sound e) (c .before .if2 .left) (c .if3 .taken)
-
-returns-4 : tie.Need-returns-4
-unfolding taken told nextCount
-returns-4 c = let e = c .before .before .before in let s = start e in input-refused blockLimit (run s) (block s) (out s) (next s) (is-sound e) (c .before .before .if2 .left) (c .before .if3 .left) (c .if4 .taken)
-
-returns-5 : tie.Need-returns-5
-unfolding taken told nextCount
-returns-5 c = let e = c .before .before .before .before in let s = start e in output-refused blockLimit (run s) (block s) (out s) (next s) (is-sound e) (c .before .before .before .if2 .left) (c .before .before .if3 .left) (c .before .if4 .left) (c .if5 .taken)
+unfolding taken
+returns c =
+    let n = c .before in
+    let a = n .before in
+    let s = a .before .before in
+    admitted-refused (a .admitted .ensures) (block s) (out s) (next s) refl refl (λ z. c .if1 .taken (n .number .ensures ∙ z))
 
 fault-of-requires : tie.Need-fault-of-requires
 fault-of-requires c κs =
     let w = ready c _ refl .wide in
-    (omega (arith, c .before .if4 .left, width-le (from c .args .width) w), omega (arith, c .before .if4 .left, width-in-fours (from c .args .width) w))
+    (omega (arith, block-long c, width-le (from c .args .width) w), omega (arith, block-long c, width-in-fours (from c .args .width) w))
 
 enum-told : tie.Need-enum-told
 enum-told c = search needs
@@ -125,47 +118,40 @@ step-in-requires c κs =
     let s = from l in (
       wide n,
       (
-        (l .before .if4 .left, sym (part-long _ (s .args .held .now) (half-le n)) ∙ set n .half-is, l .if5 .left),
+        (block-long l, sym (part-long _ (s .args .held .now) (half-le n)) ∙ set n .half-is, frame-long l),
         (take-within (s .args .width) foldedLimit (s .args .held .now) (set n .within) (half n), clear-within (block s) (clear n)),
       ),
     )
 
-returns-6 : tie.Need-returns-6
+returns-2 : tie.Need-returns-2
 unfolding told nextCount
-returns-6 c = let f = c .before .before .before in let s = from (f .before) in dead-refused (run s) (block s) (out s) _ (sym (f .fault-of .ensures) ∙ c .before .fault .given .1) ∙ asked (f .before)
+returns-2 c = let f = c .before .before .before in let s = from (f .before) in dead-refused (run s) (block s) (out s) _ (sym (f .fault-of .ensures) ∙ c .before .fault .given .1) ∙ taken-is (f .before)
 
-returns-7 : tie.Need-returns-7
+returns-3 : tie.Need-returns-3
 unfolding told nextCount
-returns-7 c = let f = c .before .before .before in let s = from (f .before) in range-refused (run s) (block s) (out s) _ (sym (f .fault-of .ensures) ∙ c .before .fault2 .given .1) ∙ asked (f .before)
+returns-3 c = let f = c .before .before .before in let s = from (f .before) in range-refused (run s) (block s) (out s) _ (sym (f .fault-of .ensures) ∙ c .before .fault2 .given .1) ∙ taken-is (f .before)
 
-returns-8 : tie.Need-returns-8
+returns-4 : tie.Need-returns-4
 unfolding told nextCount
-returns-8 c =
+returns-4 c =
     let t = c .before .before in
     let n = t .before .before .before in
     let l = passing n in
     let s = from l in
     ap₂ (λ (r : Run) (f : List ℤ). (told Done, r, f))
-    (advanced-is (run s) (half n) (set n) (block s) (l .before .before .before .if2 .left) _ (ap (λ (low : List ℤ). low ++ drop (half n) (s .args .held .now)) (t .step-in .ensures .0)))
+    (advanced-is (run s) (half n) (set n) (block s) (unfinished l) _ (ap (λ (low : List ℤ). low ++ drop (half n) (s .args .held .now)) (t .step-in .ensures .0)))
     (t .step-in .ensures .1 ∙ frame-on (run s) (half n) (set n) (block s))
     ∙ taken-done (run s) (block s) (out s) (clear n)
-    ∙ asked l
+    ∙ taken-is l
 
 pub take-spec : {M : Type 1} → statement M
 take-spec =
     tie.close
     (tie.spec
     (λ c κs. search needs)
+    (λ c κs. search needs)
     (λ c. search needs)
     returns
-    (λ c. search needs)
-    returns-2
-    (λ c. search needs)
-    returns-3
-    (λ c. search needs)
-    returns-4
-    (λ c. search needs)
-    returns-5
     fault-of-requires
     (λ c. search needs)
     (λ c. search needs)
@@ -174,9 +160,9 @@ take-spec =
     slice-aggregate-step-in
     step-in-requires
     (λ c. search needs)
-    returns-6
+    returns-2
     (λ c. search needs)
-    returns-7
+    returns-3
     (λ c. search needs)
     (λ c. search needs)
-    returns-8)
+    returns-4)

@@ -15,7 +15,7 @@ use Rattle.integers.proofs.Num.{Num}
 use Rattle.tables.specs.Widths.{halfWidth}
 use Rattle.tables.proofs.ByWidth.{half-width-le}
 use Rattle.steps.specs.Steps.{tangent, sine}
-use Rattle.steps.proofs.Undo.{width-half}
+use Rattle.steps.proofs.Lengths.{width-half}
 use Rattle.width_tables.proofs.TableSizes.{tangents-long, tangents-within, sines-long, sines-within}
 use Rattle.fold.proofs.FoldLaws.{bits-size, entry-size, a-rotated, b-rotated, tangent-num, sine-num}
 use Rattle.fold.proofs.folding.pair_of.Statement.{statement}

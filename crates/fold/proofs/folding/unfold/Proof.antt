@@ -15,7 +15,7 @@ use Rattle.integers.proofs.Num.{Num, num}
 use Rattle.tables.specs.Widths.{halfWidth}
 use Rattle.tables.proofs.ByWidth.{half-width-le}
 use Rattle.steps.specs.Steps.{tangent, sine, unrotatedA, unrotatedB, unfolded}
-use Rattle.steps.proofs.Undo.{width-half}
+use Rattle.steps.proofs.Lengths.{width-half}
 use Rattle.width_tables.proofs.TableSizes.{tangents-long, tangents-within, sines-long, sines-within}
 use Rattle.fold.proofs.FoldLaws.{entry-size, Ends, ends-none, ends-front, ends-back, ends-all, a-rotated, b-rotated, tangent-num, sine-num, blockAt, front-at, back-at}
 use Rattle.fold.proofs.folding.unfold.Statement.{statement}

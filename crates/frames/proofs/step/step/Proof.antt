@@ -16,7 +16,7 @@ use Rattle.stages.proofs.PartLaws.{half-in-fours}
 use Rattle.stages.proofs.FrameSizes.{long4, long5, within4, within5}
 use Rattle.steps.specs.Limits.{foldedLimit}
 use Rattle.steps.specs.Steps.{lower, topOf, bottomOf}
-use Rattle.steps.proofs.Undo.{width-half, length-top, length-bottom}
+use Rattle.steps.proofs.Lengths.{width-half, length-top, length-bottom}
 use Rattle.slices.proofs.Parts.{part-long, front-le, rest-long, rest-put}
 use Rattle.frames.proofs.FrameLaws.{stages-halves, top-within, bottom-within}
 use Rattle.runs.proofs.RecordLaws.{width-le}

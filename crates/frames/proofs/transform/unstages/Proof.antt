@@ -12,7 +12,8 @@ use Rattle.tables.specs.Widths.{halfWidth}
 use Rattle.tables.proofs.Reading.{half-is}
 use Rattle.slices.specs.Own.Moves.{wovenAt}
 use Rattle.stages.specs.Own.Stages.{untop2, unbottom1}
-use Rattle.steps.proofs.Undo.{width-half}
+use Rattle.steps.specs.Limits.{coefficientLimit}
+use Rattle.steps.proofs.Lengths.{width-half}
 use Rattle.stages.proofs.PartLaws.{half-in-fours}
 use Rattle.stages.proofs.FrameSizes.{unlong2, unlong1}
 use Rattle.slices.proofs.Parts.{part-long}
@@ -39,7 +40,7 @@ module _ (s : tie.Start) where
   out-long : length (s .args .out .now) ≡ N
   out-long = s .pre .1 .1 .1 .1 .0 .1
 
-  inside : Within 1048576 work
+  inside : Within coefficientLimit work
   inside = s .pre .1 .1 .1 .1 .1
 
   half-long : (half ≡ M) × (M + M ≡ N)
@@ -93,7 +94,7 @@ backward-requires c κs =
           record { top-long = q .before .before .before .top .given ∙ s .pre .1 .1 .0 .top-long; bottom-long = c .before .before .before .before .bottom .given ∙ s .pre .1 .1 .0 .bottom-long },
           (
             s .pre .1 .1 .1 .0,
-            (subst (Within 1048576) (sym (top1 p)) (take-within (N s) 1048576 (work s) (inside s) (M s)), subst (Within 1048576) (sym (bottom1 q)) (drop-within (N s) 1048576 (work s) (inside s) (M s))),
+            (subst (Within coefficientLimit) (sym (top1 p)) (take-within (N s) coefficientLimit (work s) (inside s) (M s)), subst (Within coefficientLimit) (sym (bottom1 q)) (drop-within (N s) coefficientLimit (work s) (inside s) (M s))),
           ),
         ),
       ),

@@ -13,7 +13,7 @@ use Rattle.tables.proofs.ByWidth.{half-width-le}
 use Rattle.tables.proofs.Reading.{half-is}
 use Rattle.steps.specs.Limits.{readingLimit, foldedLimit}
 use Rattle.steps.specs.Steps.{unfolded}
-use Rattle.steps.proofs.Undo.{width-half}
+use Rattle.steps.proofs.Lengths.{width-half}
 use Rattle.runs.specs.Answers.{firstBeyond}
 use Rattle.runs.specs.declared.answer.Found.the-variants.{Nothing}
 use Rattle.slices.proofs.Parts.{part-long}

@@ -2,7 +2,7 @@
 use borrow.Author.Needs.{needs}
 use mathlib.Core.Path.{_≡_, sym, ap, _∙_}
 use lib.IntN.{ℤ}
-use mir.Syntax.{w64}
+use mir.Syntax.{w32}
 use Rattle.integers.proofs.Held.{held}
 use Rattle.runs.specs.Answers.{firstBeyond}
 use Rattle.gate.proofs.GateLaws.{outside, within}
@@ -10,7 +10,7 @@ use Rattle.gate.proofs.questions.inside.Statement.{statement}
 use Rattle.gate.proofs.questions.inside.Tie as tie
 
 seen : (f : tie.After-first-beyond) → firstBeyond (f .before .args .limit) (f .before .args .x .now) 0 ≡ f .first-beyond .result
-seen f = let s = f .before in ap (λ (l : ℤ). firstBeyond l (s .args .x .now) 0) (sym (held w64 (s .args .limit) (s .fits .limit) .is)) ∙ sym (f .first-beyond .ensures)
+seen f = let s = f .before in ap (λ (l : ℤ). firstBeyond l (s .args .x .now) 0) (sym (held w32 (s .args .limit) (s .fits .limit) .is)) ∙ sym (f .first-beyond .ensures)
 
 enum-told : tie.Need-enum-told
 enum-told c = search needs

@@ -65,10 +65,15 @@ first-at-requires-3 : tie.Need-first-at-requires-3 Inv-loop μ-loop
 first-at-requires-3 c κs = let l = left (c .before .before .before) (c .before .before .loop-test .taken) in asked (c .before .before .before) (c .before .before .loop-test .taken) (omega (arith, l))
 
 add-first-at-3 : tie.Need-add-first-at-3 Inv-loop μ-loop
-add-first-at-3 c = record { fits = omega (arith, left (c .before .before .before .before) (c .before .before .before .loop-test .taken)) }
+add-first-at-3 c =
+    let at-loop = c .before .before .before .before in
+    record { fits = omega (arith, left at-loop (c .before .before .before .loop-test .taken)) }
 
 first-at-requires-4 : tie.Need-first-at-requires-4 Inv-loop μ-loop
-first-at-requires-4 c κs = let l = left (c .before .before .before .before) (c .before .before .before .loop-test .taken) in asked (c .before .before .before .before) (c .before .before .before .loop-test .taken) (omega (arith, l))
+first-at-requires-4 c κs =
+    let at-loop = c .before .before .before .before in
+    let l = left at-loop (c .before .before .before .loop-test .taken) in
+    asked at-loop (c .before .before .before .loop-test .taken) (omega (arith, l))
 
 -- the amounts of a turn
 module _ (c : tie.After-first-at4 Inv-loop μ-loop) where
@@ -76,7 +81,9 @@ module _ (c : tie.After-first-at4 Inv-loop μ-loop) where
   k = c .before .before .before .before .before
 
   abbrev here : i k < length (list k)
-  here = c .before .before .before .before .loop-test .taken
+  here =
+      let in-loop = c .before .before .before .before in
+      in-loop .loop-test .taken
 
   gaves : Gaves (amount k (length (list k))) (i k) (c .before .before .before .first-at .result) (c .before .before .first-at2 .result) (c .before .first-at3 .result) (c .first-at4 .result)
   gaves =

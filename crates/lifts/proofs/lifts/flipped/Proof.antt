@@ -1,14 +1,12 @@
 -- `lifts::lifts::flipped` meets its contract.
 use native.Mathlib.Omega.{arith}
-use mathlib.Core.Path.{sym, ap, _∙_}
+use mathlib.Core.Path.{sym, _∙_}
 use lib.IntN.{pos, _-ℤ_}
 use mir.Syntax.{w64}
 use mir.Val.{SFits, ofZ}
-use Rattle.integers.proofs.Held.{held}
-use Rattle.integers.proofs.Held.{Held, asks-minus, h-minus}
+use Rattle.integers.proofs.Held.{Held, held, asks-minus, h-minus}
 use Rattle.integers.proofs.Words.{minus-small}
-use Rattle.lifts.specs.Own.Moves.{flipped}
-use Rattle.lifts.proofs.MoveLaws.{odd-even, odd-odd, even-even, even-odd}
+use Rattle.lifts.proofs.MoveLaws.{flipped-odd, flipped-even}
 use Rattle.lifts.proofs.lifts.flipped.Statement.{statement}
 use Rattle.lifts.proofs.lifts.flipped.Tie as tie
 
@@ -19,22 +17,13 @@ negative : (s : tie.Start) → SFits w64 (pos 0 -ℤ s .args .x)
 negative s = minus-small w64 (s .args .x) (omega (arith, s .pre))
 
 returns : tie.Need-returns
-returns c = let s = c .before .before in x s .is ∙ sym (ap (λ e. flipped e (s .args .i) (s .args .x)) (c .if2 .taken) ∙ odd-even (s .args .i) (s .args .x) (c .before .if1 .taken))
+returns c = let s = c .before in x s .is ∙ sym (flipped-odd (s .args .i) (s .args .x) (c .if1 .taken))
 
 sub-result : tie.Need-sub-result
-sub-result c = let s = c .before .before in asks-minus (x s) (negative s)
+sub-result c = let s = c .before in asks-minus (x s) (negative s)
 
 returns-2 : tie.Need-returns-2
-returns-2 c = let s = c .before .before in h-minus (x s) (negative s) .is ∙ sym (ap (λ e. flipped e (s .args .i) (s .args .x)) (c .if2 .left) ∙ odd-odd (s .args .i) (s .args .x) (c .before .if1 .taken))
-
-sub-result-2 : tie.Need-sub-result-2
-sub-result-2 c = let s = c .before .before in asks-minus (x s) (negative s)
-
-returns-3 : tie.Need-returns-3
-returns-3 c = let s = c .before .before in h-minus (x s) (negative s) .is ∙ sym (ap (λ e. flipped e (s .args .i) (s .args .x)) (c .if3 .taken) ∙ even-even (s .args .i) (s .args .x) (c .before .if1 .left))
-
-returns-4 : tie.Need-returns-4
-returns-4 c = let s = c .before .before in x s .is ∙ sym (ap (λ e. flipped e (s .args .i) (s .args .x)) (c .if3 .left) ∙ even-odd (s .args .i) (s .args .x) (c .before .if1 .left))
+returns-2 c = let s = c .before in h-minus (x s) (negative s) .is ∙ sym (flipped-even (s .args .i) (s .args .x) (c .if1 .left))
 
 pub flipped-spec : {M : Type 1} → statement M
-flipped-spec = tie.close (tie.spec returns sub-result returns-2 sub-result-2 returns-3 returns-4)
+flipped-spec = tie.close (tie.spec returns sub-result returns-2)

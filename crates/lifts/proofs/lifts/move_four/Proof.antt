@@ -1,14 +1,13 @@
 -- `lifts::lifts::move_four` meets its contract.
 use borrow.Author.Needs.{needs}
 use native.Mathlib.Omega.{arith}
-use mathlib.Core.Path.{_≡_, refl, sym, ap, _∙_}
-use mathlib.Core.Bool.{Bool, true, false}
+use mathlib.Core.Path.{_≡_, sym, ap, _∙_}
+use mathlib.Core.Bool.{Bool}
 use mathlib.Core.List.{List}
 use Prim.Native.Nat.{ℕ, _+_, _^_, _-_}
 use lib.IntN.{ℤ}
 use Rattle.integers.specs.Places.{tab, places, at}
 use Rattle.integers.proofs.PlaceLaws.{within-up}
-use Rattle.slices.specs.Own.Fours.{signed}
 use Rattle.slices.specs.Own.Fours.{listed, stored}
 use Rattle.slices.proofs.FourLaws.{four-places, listed-within}
 use Rattle.slices.specs.declared.fours.Four.{Four}
@@ -16,11 +15,6 @@ use Rattle.slices.specs.Own.Moves.{moved}
 use Rattle.lifts.specs.Own.Moves.{movedFour}
 use Rattle.lifts.proofs.lifts.move_four.Statement.{statement}
 use Rattle.lifts.proofs.lifts.move_four.Tie as tie
-
-signed-is : (undo : Bool) (y amount : ℤ) → signed undo y amount ≡ moved undo y amount
-unfolding moved
-signed-is true y amount = refl
-signed-is false y amount = refl
 
 joined-requires : tie.Need-joined-requires
 joined-requires c κs =
@@ -33,16 +27,16 @@ unfolding stored
 stored-same l p f g e = rw (ap (λ x. at x 0) e, ap (λ x. at x 1) e, ap (λ x. at x 2) e, ap (λ x. at x 3) e)
 
 -- sums or differences of four numbers from place i on
-joined-is : (undo : Bool) (y : List ℤ) (i : ℕ) (f x : Four) → listed x ≡ places 4 (λ j. at y (i + j)) → places 4 (λ j. signed undo (at (listed x) j) (at (listed f) j)) ≡ listed (movedFour undo y i f)
+joined-is : (undo : Bool) (y : List ℤ) (i : ℕ) (f x : Four) → listed x ≡ places 4 (λ j. at y (i + j)) → places 4 (λ j. moved undo (at (listed x) j) (at (listed f) j)) ≡ listed (movedFour undo y i f)
 unfolding tab
 joined-is undo y i f x e =
     let zero : i ≡ i + 0 = omega arith in
     sym
-    (four-places (λ j. signed undo (at (listed x) j) (at (listed f) j))
-    (sym (signed-is undo (at y i) (f .a)) ∙ ap (λ z. signed undo z (f .a)) (ap (at y) zero ∙ sym (ap (λ l. at l 0) e)))
-    (sym (signed-is undo (at y (i + 1)) (f .b)) ∙ ap (λ z. signed undo z (f .b)) (sym (ap (λ l. at l 1) e)))
-    (sym (signed-is undo (at y (i + 2)) (f .c)) ∙ ap (λ z. signed undo z (f .c)) (sym (ap (λ l. at l 2) e)))
-    (sym (signed-is undo (at y (i + 3)) (f .d)) ∙ ap (λ z. signed undo z (f .d)) (sym (ap (λ l. at l 3) e))))
+    (four-places (λ j. moved undo (at (listed x) j) (at (listed f) j))
+    (ap (λ z. moved undo z (f .a)) (ap (at y) zero ∙ sym (ap (λ l. at l 0) e)))
+    (ap (λ z. moved undo z (f .b)) (sym (ap (λ l. at l 1) e)))
+    (ap (λ z. moved undo z (f .c)) (sym (ap (λ l. at l 2) e)))
+    (ap (λ z. moved undo z (f .d)) (sym (ap (λ l. at l 3) e))))
 
 returns : tie.Need-returns
 returns c =

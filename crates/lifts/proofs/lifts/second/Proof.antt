@@ -56,34 +56,57 @@ second-at-requires-2 : tie.Need-second-at-requires-2 Inv-loop μ-loop
 second-at-requires-2 c κs = let k = c .before .before .before .before in asked k (c .before .before .before .loop-test .taken) (i k + 1) (omega arith) (omega arith)
 
 add-second-at-2 : tie.Need-add-second-at-2 Inv-loop μ-loop
-add-second-at-2 c = let k = c .before .before .before .before .before .before in record { fits = omega (arith, left k (c .before .before .before .before .before .loop-test .taken)) }
+add-second-at-2 c =
+    let in-loop = c .before .before .before .before .before in
+    let k = in-loop .before in
+    record { fits = omega (arith, left k (in-loop .loop-test .taken)) }
 
 second-at-requires-3 : tie.Need-second-at-requires-3 Inv-loop μ-loop
-second-at-requires-3 c κs = let k = c .before .before .before .before .before .before in asked k (c .before .before .before .before .before .loop-test .taken) (i k + 2) (omega arith) (omega arith)
+second-at-requires-3 c κs =
+    let in-loop = c .before .before .before .before .before in
+    let k = in-loop .before in
+    asked k (in-loop .loop-test .taken) (i k + 2) (omega arith) (omega arith)
 
 add-second-at-3 : tie.Need-add-second-at-3 Inv-loop μ-loop
-add-second-at-3 c = let k = c .before .before .before .before .before .before .before .before in record { fits = omega (arith, left k (c .before .before .before .before .before .before .before .loop-test .taken)) }
+add-second-at-3 c =
+    let in-loop = c .before .before .before .before .before .before .before in
+    let k = in-loop .before in
+    record { fits = omega (arith, left k (in-loop .loop-test .taken)) }
 
 second-at-requires-4 : tie.Need-second-at-requires-4 Inv-loop μ-loop
-second-at-requires-4 c κs = let k = c .before .before .before .before .before .before .before .before in asked k (c .before .before .before .before .before .before .before .loop-test .taken) (i k + 3) (omega arith) (omega arith)
+second-at-requires-4 c κs =
+    let in-loop = c .before .before .before .before .before .before .before in
+    let k = in-loop .before in
+    asked k (in-loop .loop-test .taken) (i k + 3) (omega arith) (omega arith)
 
 put-requires : tie.Need-put-requires Inv-loop μ-loop
-put-requires c κs = let k = c .before .before .before .before .before .before .before .before .before .before in left k (c .before .before .before .before .before .before .before .before .before .loop-test .taken)
+put-requires c κs =
+    let in-loop = c .before .before .before .before .before .before .before .before .before in
+    let k = in-loop .before in
+    left k (in-loop .loop-test .taken)
 
 add-i : tie.Need-add-i Inv-loop μ-loop
-add-i c = let k = c .before .before .before .before .before .before .before .before .before .before .before .before in record { fits = omega (arith, left k (c .before .before .before .before .before .before .before .before .before .before .before .loop-test .taken)) }
+add-i c =
+    let in-loop = c .before .before .before .before .before .before .before .before .before .before .before in
+    let k = in-loop .before in
+    record { fits = omega (arith, left k (in-loop .loop-test .taken)) }
 
 loop-less : tie.Need-loop-less Inv-loop μ-loop
-loop-less c = let k = c .before .before .before .before .before .before .before .before .before .before .before .before in omega (arith, long k, c .before .before .before .before .before .before .before .before .before .before .before .loop-test .taken)
+loop-less c =
+    let in-loop = c .before .before .before .before .before .before .before .before .before .before .before in
+    let k = in-loop .before in
+    omega (arith, long k, in-loop .loop-test .taken)
 
 loop-again : tie.Need-loop-again Inv-loop μ-loop
 loop-again c =
-    let k = c .before .before .before .before .before .before .before .before .before .before .before .before in
+    let at-second-at3 = c .before .before .before .before .before in
+    let at-second-at = at-second-at3 .before .before .before .before in
+    let k = at-second-at .before .before .before in
     subst (Turns _ (s k .args .top .now) (i k + 4)) (sym (c .before .put .ensures))
-    (turns-next (k .loop .inv) (s k .pre .0) (c .before .before .before .before .before .before .before .before .before .before .before .loop-test .taken)
-    (c .before .before .before .before .before .before .before .before .before .second-at .ok) (c .before .before .before .before .before .before .before .before .before .second-at .ensures)
-    (c .before .before .before .before .before .before .before .second-at2 .ok) (c .before .before .before .before .before .before .before .second-at2 .ensures)
-    (c .before .before .before .before .before .second-at3 .ok) (c .before .before .before .before .before .second-at3 .ensures)
+    (turns-next (k .loop .inv) (s k .pre .0) (at-second-at .before .before .loop-test .taken)
+    (at-second-at .second-at .ok) (at-second-at .second-at .ensures)
+    (at-second-at3 .before .before .second-at2 .ok) (at-second-at3 .before .before .second-at2 .ensures)
+    (at-second-at3 .second-at3 .ok) (at-second-at3 .second-at3 .ensures)
     (c .before .before .before .second-at4 .ok) (c .before .before .before .second-at4 .ensures))
 
 same-length : tie.Need-same-length Inv-loop μ-loop

@@ -65,16 +65,16 @@ unfolding second
 returns c =
     let r = c .before .before .before in
     let i = s (a r) .args .i in
-    held-ok w64 _ (c .flipped .ok) .is ∙ c .flipped .ensures ∙ ap (flipped true i) (num-sub (top r) (rounded r) tt .holds .is) ∙ ap (λ u. second u i (at (s (a r) .args .top .now) i) (amount r)) (sym (c .before .before .if1 .taken))
+    held-ok w64 _ (c .flipped .ok) .is ∙ c .flipped .ensures ∙ ap (flipped i) (num-sub (top r) (rounded r) tt .holds .is) ∙ ap (λ u. second u i (at (s (a r) .args .top .now) i) (amount r)) (sym (c .before .before .if1 .taken))
 
 flipped-requires-2 : tie.Need-flipped-requires-2
 flipped-requires-2 c κs = num-within (top (c .before .before)) (omega arith)
 
-flipped-num : (c : tie.After-flipped2) → Num w64 (2 ^ 60) (ofZ w64 (c .flipped2 .result)) (let b = s (a (c .before .before .before)) .args in flipped true (b .i) (at (b .top .now) (b .i)))
+flipped-num : (c : tie.After-flipped2) → Num w64 (2 ^ 60) (ofZ w64 (c .flipped2 .result)) (let b = s (a (c .before .before .before)) .args in flipped (b .i) (at (b .top .now) (b .i)))
 flipped-num c =
     let r = c .before .before .before in
     let i = s (a r) .args .i in
-    num-call w64 _ (c .flipped2 .ok) (c .flipped2 .ensures ∙ ap (flipped true i) (top r .holds .is)) (rw (flipped-size true i (at (s (a r) .args .top .now) i)) (top r .size))
+    num-call w64 _ (c .flipped2 .ok) (c .flipped2 .ensures ∙ ap (flipped i) (top r .holds .is)) (rw (flipped-size i (at (s (a r) .args .top .now) i)) (top r .size))
 
 add-result : tie.Need-add-result
 add-result c = add-asks (flipped-num c) (rounded (c .before .before .before)) tt

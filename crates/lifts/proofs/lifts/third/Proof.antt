@@ -87,10 +87,15 @@ third-at-requires-3 : tie.Need-third-at-requires-3 Inv-loop μ-loop
 third-at-requires-3 c κs = let l = left (c .before .before .before) (c .before .before .loop-test .taken) in asked (c .before .before .before) (c .before .before .loop-test .taken) (omega (arith, l)) (omega (arith, l))
 
 add-third-at-6 : tie.Need-add-third-at-6 Inv-loop μ-loop
-add-third-at-6 c = record { fits = omega (arith, left (c .before .before .before .before) (c .before .before .before .loop-test .taken)) }
+add-third-at-6 c =
+    let at-loop = c .before .before .before .before in
+    record { fits = omega (arith, left at-loop (c .before .before .before .loop-test .taken)) }
 
 third-at-requires-4 : tie.Need-third-at-requires-4 Inv-loop μ-loop
-third-at-requires-4 c κs = let l = left (c .before .before .before .before) (c .before .before .before .loop-test .taken) in asked (c .before .before .before .before) (c .before .before .before .loop-test .taken) (omega (arith, l)) (omega (arith, l))
+third-at-requires-4 c κs =
+    let at-loop = c .before .before .before .before in
+    let l = left at-loop (c .before .before .before .loop-test .taken) in
+    asked at-loop (c .before .before .before .loop-test .taken) (omega (arith, l)) (omega (arith, l))
 
 -- the amounts of a turn
 module _ (c : tie.After-third-at4 Inv-loop μ-loop) where
@@ -98,7 +103,9 @@ module _ (c : tie.After-third-at4 Inv-loop μ-loop) where
   k = c .before .before .before .before .before
 
   abbrev here : i k < length (list k)
-  here = c .before .before .before .before .loop-test .taken
+  here =
+      let in-loop = c .before .before .before .before in
+      in-loop .loop-test .taken
 
   -- the place from the end, and the length
   far : {r : ℤ} (j m : ℕ) → m ≡ length (list k) - 1 - j

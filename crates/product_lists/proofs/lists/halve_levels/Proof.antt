@@ -1,7 +1,7 @@
 -- `product_lists::lists::halve_levels` meets its contract.
 use native.Mathlib.Omega.{arith}
 use Rattle.product_lists.specs.Own.Tables.{Halved}
-use Rattle.products.proofs.WholeLaws.{half-fours, count-some}
+use Rattle.products.proofs.LevelRooms.{half-fours, count-some}
 use Rattle.product_lists.proofs.TableLaws.{halved-top, halve-room, lists-fit, halve-small, halved-next, halved-end}
 use Rattle.product_lists.proofs.lists.halve_levels.Statement.{statement}
 use Rattle.product_lists.proofs.lists.halve_levels.Tie as tie

@@ -43,23 +43,33 @@ nine-at-requires : tie.Need-nine-at-requires Inv-loop μ-loop
 nine-at-requires c κs = let k = c .before .before .before .before in omega (arith, c .before .before .before .loop-test .taken, long k, room-long k, lists-long k)
 
 leaf-requires : tie.Need-leaf-requires Inv-loop μ-loop
-leaf-requires c κs = let k = c .before .before .before .before .before in leafed-leaf (k .loop .inv .1) (c .before .before .before .before .loop-test .taken) (c .before .before .taken .result) (c .nine-at .result) (c .before .before .taken .ensures) (c .nine-at .ensures) (k .before .pre)
+leaf-requires c κs =
+    let in-loop = c .before .before .before .before in
+    let k = in-loop .before in
+    leafed-leaf (k .loop .inv .1) (in-loop .loop-test .taken) (c .before .before .taken .result) (c .nine-at .result) (c .before .before .taken .ensures) (c .nine-at .ensures) (k .before .pre)
 
 put-requires : tie.Need-put-requires Inv-loop μ-loop
-put-requires c κs = let k = c .before .before .before .before .before .before in omega (arith, c .before .before .before .before .before .loop-test .taken, long k, room-long k, lists-long k)
+put-requires c κs =
+    let in-loop = c .before .before .before .before .before in
+    let k = in-loop .before in
+    omega (arith, in-loop .loop-test .taken, long k, room-long k, lists-long k)
 
 add-v : tie.Need-add-v Inv-loop μ-loop
-add-v c = let k = c .before .before .before .before .before .before .before .before in omega (arith, c .before .before .before .before .before .before .before .loop-test .taken, long k, room-long k, lists-long k)
+add-v c =
+    let in-loop = c .before .before .before .before .before .before .before in
+    let k = in-loop .before in
+    omega (arith, in-loop .loop-test .taken, long k, room-long k, lists-long k)
 
 loop-less : tie.Need-loop-less Inv-loop μ-loop
 loop-less c = omega arith
 
 loop-again : tie.Need-loop-again Inv-loop μ-loop
 loop-again c =
-    let k = c .before .before .before .before .before .before .before .before in
-    let l = c .before .before .before .before .before .before .before .loop-test .taken in
+    let at-taken = c .before .before .before .before .before in
+    let k = at-taken .before .before .before in
+    let l = at-taken .before .before .loop-test .taken in
     let a = k .before .args in
-    (omega arith, subst (Leafed (a .k) (k .loop .v + 1) (a .lists .now) (a .room .now)) (sym (c .before .put .ensures)) (leafed-next (k .loop .inv .1) l (c .before .before .before .before .before .taken .result) (c .before .before .before .nine-at .result) (c .before .before .before .before .before .taken .ensures) (c .before .before .before .nine-at .ensures) (omega (arith, l, room-long k)) (c .before .before .leaf .result) (c .before .before .leaf .ensures)))
+    (omega arith, subst (Leafed (a .k) (k .loop .v + 1) (a .lists .now) (a .room .now)) (sym (c .before .put .ensures)) (leafed-next (k .loop .inv .1) l (at-taken .taken .result) (c .before .before .before .nine-at .result) (at-taken .taken .ensures) (c .before .before .before .nine-at .ensures) (omega (arith, l, room-long k)) (c .before .before .leaf .result) (c .before .before .leaf .ensures)))
 
 same-length : tie.Need-same-length Inv-loop μ-loop
 same-length c = long (c .before)

@@ -13,10 +13,11 @@ use Rattle.products.proofs.leaf.nine_at.Tie as tie
 
 returns : tie.Need-returns
 returns c =
-    let s = c .before .before .before .before .before in
+    let at-taken = c .before .before .before .before in
+    let s = at-taken .before in
     let x = s .args .x .now in
     let p = s .args .p in
-    let low = c .before .before .before .before .taken in
+    let low = at-taken .taken in
     let high = c .before .before .before .taken2 in
     let l = c .before .struct-told .given in
     let h = c .struct-told2 .given in

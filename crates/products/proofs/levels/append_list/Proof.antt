@@ -38,42 +38,57 @@ taken-requires : tie.Need-taken-requires Inv-loop μ-loop
 taken-requires c κs = omega (arith, c .before .before .before .pre .0, within (c .before .before) (c .before .loop-test .taken), long (c .before .before))
 
 add-taken-2 : tie.Need-add-taken-2 Inv-loop μ-loop
-add-taken-2 c = omega (arith, c .before .before .before .before .before .pre .0, within (c .before .before .before .before) (c .before .before .before .loop-test .taken))
+add-taken-2 c =
+    let at-loop = c .before .before .before .before in
+    omega (arith, at-loop .before .pre .0, within at-loop (c .before .before .before .loop-test .taken))
 
 add-taken-3 : tie.Need-add-taken-3 Inv-loop μ-loop
-add-taken-3 c = omega (arith, c .before .before .before .before .before .pre .0, within (c .before .before .before .before) (c .before .before .before .loop-test .taken))
+add-taken-3 c =
+    let at-loop = c .before .before .before .before in
+    omega (arith, at-loop .before .pre .0, within at-loop (c .before .before .before .loop-test .taken))
 
 taken-requires-2 : tie.Need-taken-requires-2 Inv-loop μ-loop
-taken-requires-2 c κs = omega (arith, c .before .before .before .before .before .pre .0, within (c .before .before .before .before) (c .before .before .before .loop-test .taken), long (c .before .before .before .before))
+taken-requires-2 c κs =
+    let at-loop = c .before .before .before .before in
+    omega (arith, at-loop .before .pre .0, within at-loop (c .before .before .before .loop-test .taken), long at-loop)
 
 add-put : tie.Need-add-put Inv-loop μ-loop
-add-put c = omega (arith, c .before .before .before .before .before .before .before .pre .0, within (c .before .before .before .before .before .before) (c .before .before .before .before .before .loop-test .taken))
+add-put c =
+    let in-loop = c .before .before .before .before .before in
+    omega (arith, in-loop .before .before .pre .0, within (in-loop .before) (in-loop .loop-test .taken))
 
 plus-requires : tie.Need-plus-requires Inv-loop μ-loop
 plus-requires c κs =
-    let k = c .before .before .before .before .before .before in
-    let l = within k (c .before .before .before .before .before .loop-test .taken) in (
+    let in-loop = c .before .before .before .before .before in
+    let k = in-loop .before in
+    let l = within k (in-loop .loop-test .taken) in (
       listed-within (c .before .before .before .taken .result) _ (2 ^ 62 - 1) (c .before .before .before .taken .ensures) (λ j q. read-within k _ (omega arith) (omega arith)),
       listed-within (c .before .taken2 .result) _ (2 ^ 62 - 1) (c .before .taken2 .ensures) (λ j q. read-within k _ (omega arith) (omega arith)),
     )
 
 put-requires : tie.Need-put-requires Inv-loop μ-loop
-put-requires c κs = omega (arith, c .before .before .before .before .before .before .before .before .pre .0, within (c .before .before .before .before .before .before .before) (c .before .before .before .before .before .before .loop-test .taken), long (c .before .before .before .before .before .before .before))
+put-requires c κs =
+    let in-loop = c .before .before .before .before .before .before in
+    omega (arith, in-loop .before .before .pre .0, within (in-loop .before) (in-loop .loop-test .taken), long (in-loop .before))
 
 add-i : tie.Need-add-i Inv-loop μ-loop
-add-i c = omega (arith, within (c .before .before .before .before .before .before .before .before .before) (c .before .before .before .before .before .before .before .before .loop-test .taken), c .before .before .before .before .before .before .before .before .before .before .pre .0)
+add-i c =
+    let in-loop = c .before .before .before .before .before .before .before .before in
+    omega (arith, within (in-loop .before) (in-loop .loop-test .taken), in-loop .before .before .pre .0)
 
 loop-less : tie.Need-loop-less Inv-loop μ-loop
 loop-less c = omega arith
 
 loop-again : tie.Need-loop-again Inv-loop μ-loop
 loop-again c =
-    let k = c .before .before .before .before .before .before .before .before .before in
-    let l = within k (c .before .before .before .before .before .before .before .before .loop-test .taken) in
+    let at-taken2 = c .before .before .before .before in
+    let in-loop = at-taken2 .before .before .before .before in
+    let k = in-loop .before in
+    let l = within k (in-loop .loop-test .taken) in
     let a = k .before .args in
     let f : ℕ → ℤ = λ j. at (a .room .now) (a .from + j) +ℤ at (a .room .now) (a .from + a .h + j) in
     let read : (p : ℕ) → p < a .to → at (k .loop .room) p ≡ at (a .room .now) p = k .loop .inv .2 .old in
-    let z = op-is _+ℤ_ (c .before .before .before .before .before .before .taken .result) (c .before .before .before .before .taken2 .result) (c .before .before .plus .result) _ _ (c .before .before .before .before .before .before .taken .ensures) (c .before .before .before .before .taken2 .ensures) (c .before .before .plus .ensures) in
+    let z = op-is _+ℤ_ (at-taken2 .before .before .taken .result) (at-taken2 .taken2 .result) (c .before .before .plus .result) _ _ (at-taken2 .before .before .taken .ensures) (at-taken2 .taken2 .ensures) (c .before .before .plus .ensures) in
     let y = z ∙ places-ext 4 _ _ (λ j q. ap₂ _+ℤ_ (read (a .from + k .loop .i + j) (omega (arith, k .before .pre .0)) ∙ ap (at (a .room .now)) (let e : a .from + k .loop .i + j ≡ a .from + (k .loop .i + j) = omega arith in e)) (read (a .from + a .h + k .loop .i + j) (omega (arith, k .before .pre .0)) ∙ ap (at (a .room .now)) (let e : a .from + a .h + k .loop .i + j ≡ a .from + a .h + (k .loop .i + j) = omega arith in e))) in
     (omega arith, omega arith, subst (Written f (a .to) (k .loop .i + 4) (a .room .now)) (sym (c .before .put .ensures)) (written-next (k .loop .inv .2) (omega (arith, k .before .pre .0)) (c .before .before .plus .result) y))
 

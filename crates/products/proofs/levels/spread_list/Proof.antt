@@ -4,7 +4,8 @@ use Prim.Native.Nat.{ℕ, _+_, _-_, _%_, _^_, _≤_, _<_}
 use lib.IntN.{natAbs}
 use Rattle.integers.specs.Places.{at}
 use lib.ListN.{length}
-use Rattle.slices.specs.Own.Fours.{stored, signed}
+use Rattle.slices.specs.Own.Fours.{stored}
+use Rattle.slices.specs.Own.Moves.{moved}
 use Rattle.products.specs.Own.Rooms.{Spread}
 use Rattle.slices.proofs.FourLaws.{listed-within, length-stored}
 use Rattle.products.proofs.RoomLaws.{op-is, spread-none, spread-read-first, spread-read-second, spread-read-middle, spread-next}
@@ -12,7 +13,7 @@ use Rattle.products.proofs.levels.spread_list.Statement.{statement}
 use Rattle.products.proofs.levels.spread_list.Tie as tie
 
 abbrev Inv-loop : tie.InvT-loop
-Inv-loop less room₀ to from h i₀ room i = (i ≤ h) × (i % 4 ≡ 0) × Spread (signed less) to h from i room₀ room
+Inv-loop less room₀ to from h i₀ room i = (i ≤ h) × (i % 4 ≡ 0) × Spread (moved less) to h from i room₀ room
 
 abbrev μ-loop : tie.MeasureT-loop
 μ-loop less room₀ to from h i₀ room i = h - i
@@ -45,67 +46,95 @@ taken-requires : tie.Need-taken-requires Inv-loop μ-loop
 taken-requires c κs = omega (arith, c .before .before .before .pre .0, within (c .before .before) (c .before .loop-test .taken), long (c .before .before))
 
 add-taken-2 : tie.Need-add-taken-2 Inv-loop μ-loop
-add-taken-2 c = omega (arith, c .before .before .before .before .before .pre .0, within (c .before .before .before .before) (c .before .before .before .loop-test .taken), long (c .before .before .before .before))
+add-taken-2 c =
+    let at-loop = c .before .before .before .before in
+    omega (arith, at-loop .before .pre .0, within at-loop (c .before .before .before .loop-test .taken), long at-loop)
 
 taken-requires-2 : tie.Need-taken-requires-2 Inv-loop μ-loop
-taken-requires-2 c κs = omega (arith, c .before .before .before .before .before .pre .0, within (c .before .before .before .before) (c .before .before .before .loop-test .taken), long (c .before .before .before .before))
+taken-requires-2 c κs =
+    let at-loop = c .before .before .before .before in
+    omega (arith, at-loop .before .pre .0, within at-loop (c .before .before .before .loop-test .taken), long at-loop)
 
 add-taken-3 : tie.Need-add-taken-3 Inv-loop μ-loop
-add-taken-3 c = omega (arith, c .before .before .before .before .before .before .before .pre .0, within (c .before .before .before .before .before .before) (c .before .before .before .before .before .loop-test .taken), long (c .before .before .before .before .before .before))
+add-taken-3 c =
+    let in-loop = c .before .before .before .before .before in
+    omega (arith, in-loop .before .before .pre .0, within (in-loop .before) (in-loop .loop-test .taken), long (in-loop .before))
 
 add-taken-4 : tie.Need-add-taken-4 Inv-loop μ-loop
-add-taken-4 c = omega (arith, c .before .before .before .before .before .before .before .pre .0, within (c .before .before .before .before .before .before) (c .before .before .before .before .before .loop-test .taken), long (c .before .before .before .before .before .before))
+add-taken-4 c =
+    let in-loop = c .before .before .before .before .before in
+    omega (arith, in-loop .before .before .pre .0, within (in-loop .before) (in-loop .loop-test .taken), long (in-loop .before))
 
 taken-requires-3 : tie.Need-taken-requires-3 Inv-loop μ-loop
-taken-requires-3 c κs = omega (arith, c .before .before .before .before .before .before .before .pre .0, within (c .before .before .before .before .before .before) (c .before .before .before .before .before .loop-test .taken), long (c .before .before .before .before .before .before))
+taken-requires-3 c κs =
+    let in-loop = c .before .before .before .before .before in
+    omega (arith, in-loop .before .before .pre .0, within (in-loop .before) (in-loop .loop-test .taken), long (in-loop .before))
 
 add-put : tie.Need-add-put Inv-loop μ-loop
-add-put c = omega (arith, c .before .before .before .before .before .before .before .before .before .pre .0, within (c .before .before .before .before .before .before .before .before) (c .before .before .before .before .before .before .before .loop-test .taken), long (c .before .before .before .before .before .before .before .before))
+add-put c =
+    let in-loop = c .before .before .before .before .before .before .before in
+    omega (arith, in-loop .before .before .pre .0, within (in-loop .before) (in-loop .loop-test .taken), long (in-loop .before))
 
 joined-requires : tie.Need-joined-requires Inv-loop μ-loop
 joined-requires c κs =
-    let k = c .before .before .before .before .before .before .before .before in
-    let l = c .before .before .before .before .before .before .before .loop-test .taken in
-    (listed-within (c .before .before .before .taken2 .result) _ (2 ^ 62 - 1) (c .before .before .before .taken2 .ensures) (first-within k l), listed-within (c .before .before .before .before .before .taken .result) _ (2 ^ 62 - 1) (c .before .before .before .before .before .taken .ensures) (middle-within k l))
+    let at-taken = c .before .before .before .before .before in
+    let k = at-taken .before .before .before in
+    let l = at-taken .before .before .loop-test .taken in
+    (listed-within (c .before .before .before .taken2 .result) _ (2 ^ 62 - 1) (c .before .before .before .taken2 .ensures) (first-within k l), listed-within (at-taken .taken .result) _ (2 ^ 62 - 1) (at-taken .taken .ensures) (middle-within k l))
 
 put-requires : tie.Need-put-requires Inv-loop μ-loop
-put-requires c κs = omega (arith, c .before .before .before .before .before .before .before .before .before .before .pre .0, within (c .before .before .before .before .before .before .before .before .before) (c .before .before .before .before .before .before .before .before .loop-test .taken), long (c .before .before .before .before .before .before .before .before .before))
+put-requires c κs =
+    let in-loop = c .before .before .before .before .before .before .before .before in
+    omega (arith, in-loop .before .before .pre .0, within (in-loop .before) (in-loop .loop-test .taken), long (in-loop .before))
 
 add-put-2 : tie.Need-add-put-2 Inv-loop μ-loop
-add-put-2 c = omega (arith, c .before .before .before .before .before .before .before .before .before .before .before .before .before .pre .0, within (c .before .before .before .before .before .before .before .before .before .before .before .before) (c .before .before .before .before .before .before .before .before .before .before .before .loop-test .taken), long (c .before .before .before .before .before .before .before .before .before .before .before .before))
+add-put-2 c =
+    let in-loop = c .before .before .before .before .before .before .before .before .before .before .before in
+    omega (arith, in-loop .before .before .pre .0, within (in-loop .before) (in-loop .loop-test .taken), long (in-loop .before))
 
 add-put-3 : tie.Need-add-put-3 Inv-loop μ-loop
-add-put-3 c = omega (arith, c .before .before .before .before .before .before .before .before .before .before .before .before .before .pre .0, within (c .before .before .before .before .before .before .before .before .before .before .before .before) (c .before .before .before .before .before .before .before .before .before .before .before .loop-test .taken), long (c .before .before .before .before .before .before .before .before .before .before .before .before))
+add-put-3 c =
+    let in-loop = c .before .before .before .before .before .before .before .before .before .before .before in
+    omega (arith, in-loop .before .before .pre .0, within (in-loop .before) (in-loop .loop-test .taken), long (in-loop .before))
 
 joined-requires-2 : tie.Need-joined-requires-2 Inv-loop μ-loop
 joined-requires-2 c κs =
-    let k = c .before .before .before .before .before .before .before .before .before .before .before .before in
-    let l = c .before .before .before .before .before .before .before .before .before .before .before .loop-test .taken in
-    (listed-within (c .before .before .before .before .before .taken3 .result) _ (2 ^ 62 - 1) (c .before .before .before .before .before .taken3 .ensures) (second-within k l), listed-within (c .before .before .before .before .before .before .before .before .before .taken .result) _ (2 ^ 62 - 1) (c .before .before .before .before .before .before .before .before .before .taken .ensures) (middle-within k l))
+    let at-taken3 = c .before .before .before .before .before in
+    let at-taken = at-taken3 .before .before .before .before in
+    let k = at-taken .before .before .before in
+    let l = at-taken .before .before .loop-test .taken in
+    (listed-within (at-taken3 .taken3 .result) _ (2 ^ 62 - 1) (at-taken3 .taken3 .ensures) (second-within k l), listed-within (at-taken .taken .result) _ (2 ^ 62 - 1) (at-taken .taken .ensures) (middle-within k l))
 
 put-requires-2 : tie.Need-put-requires-2 Inv-loop μ-loop
 put-requires-2 c κs =
-    let k = c .before .before .before .before .before .before .before .before .before .before .before .before .before in
-    let e = ap length (c .before .before .before .put .ensures) ∙ length-stored (k .loop .room) (k .before .args .to + k .loop .i) (c .before .before .before .before .joined .result) in
-    omega (arith, k .before .pre .0, within k (c .before .before .before .before .before .before .before .before .before .before .before .before .loop-test .taken), long k, e)
+    let at-joined = c .before .before .before .before in
+    let in-loop = at-joined .before .before .before .before .before .before .before .before in
+    let k = in-loop .before in
+    let e = ap length (c .before .before .before .put .ensures) ∙ length-stored (k .loop .room) (k .before .args .to + k .loop .i) (at-joined .joined .result) in
+    omega (arith, k .before .pre .0, within k (in-loop .loop-test .taken), long k, e)
 
 add-i : tie.Need-add-i Inv-loop μ-loop
-add-i c = omega (arith, within (c .before .before .before .before .before .before .before .before .before .before .before .before .before .before .before) (c .before .before .before .before .before .before .before .before .before .before .before .before .before .before .loop-test .taken), c .before .before .before .before .before .before .before .before .before .before .before .before .before .before .before .before .fits .h)
+add-i c =
+    let in-loop = c .before .before .before .before .before .before .before .before .before .before .before .before .before .before in
+    omega (arith, within (in-loop .before) (in-loop .loop-test .taken), in-loop .before .before .fits .h)
 
 loop-less : tie.Need-loop-less Inv-loop μ-loop
 loop-less c = omega arith
 
 loop-again : tie.Need-loop-again Inv-loop μ-loop
 loop-again c =
-    let k = c .before .before .before .before .before .before .before .before .before .before .before .before .before .before .before in
+    let at-put = c .before .before .before .before .before in
+    let at-taken2 = at-put .before .before .before .before .before in
+    let in-loop = at-taken2 .before .before .before .before in
+    let k = in-loop .before in
     let a = k .before .args in
-    let l = within k (c .before .before .before .before .before .before .before .before .before .before .before .before .before .before .loop-test .taken) in
-    let x = op-is (signed (a .less)) (c .before .before .before .before .before .before .before .before .before .before .taken2 .result) (c .before .before .before .before .before .before .before .before .before .before .before .before .taken .result) (c .before .before .before .before .before .before .joined .result) _ _ (c .before .before .before .before .before .before .before .before .before .before .taken2 .ensures) (c .before .before .before .before .before .before .before .before .before .before .before .before .taken .ensures) (c .before .before .before .before .before .before .joined .ensures) in
-    let y = op-is (signed (a .less)) (c .before .before .before .before .before .before .before .before .taken3 .result) (c .before .before .before .before .before .before .before .before .before .before .before .before .taken .result) (c .before .before .joined2 .result) _ _ (c .before .before .before .before .before .before .before .before .taken3 .ensures) (c .before .before .before .before .before .before .before .before .before .before .before .before .taken .ensures) (c .before .before .joined2 .ensures) in
-    let e = c .before .put2 .ensures ∙ ap (λ t. stored t (a .to + a .h + k .loop .i) (c .before .before .joined2 .result)) (c .before .before .before .before .before .put .ensures) in (
+    let l = within k (in-loop .loop-test .taken) in
+    let x = op-is (moved (a .less)) (at-taken2 .taken2 .result) (at-taken2 .before .before .taken .result) (at-put .before .joined .result) _ _ (at-taken2 .taken2 .ensures) (at-taken2 .before .before .taken .ensures) (at-put .before .joined .ensures) in
+    let y = op-is (moved (a .less)) (at-put .before .before .before .taken3 .result) (at-taken2 .before .before .taken .result) (c .before .before .joined2 .result) _ _ (at-put .before .before .before .taken3 .ensures) (at-taken2 .before .before .taken .ensures) (c .before .before .joined2 .ensures) in
+    let e = c .before .put2 .ensures ∙ ap (λ t. stored t (a .to + a .h + k .loop .i) (c .before .before .joined2 .result)) (at-put .put .ensures) in (
       omega (arith, l),
       omega (arith, k .loop .inv .1),
-      subst (Spread (signed (a .less)) (a .to) (a .h) (a .from) (k .loop .i + 4) (a .room .now)) (sym e) (spread-next (k .loop .inv .2) (k .before .pre .0 .1) l (omega (arith, k .before .pre .0)) (c .before .before .before .before .before .before .joined .result) (c .before .before .joined2 .result) x y),
+      subst (Spread (moved (a .less)) (a .to) (a .h) (a .from) (k .loop .i + 4) (a .room .now)) (sym e) (spread-next (k .loop .inv .2) (k .before .pre .0 .1) l (omega (arith, k .before .pre .0)) (at-put .before .joined .result) (c .before .before .joined2 .result) x y),
     )
 
 same-length : tie.Need-same-length Inv-loop μ-loop
@@ -115,7 +144,7 @@ returns : tie.Need-returns Inv-loop μ-loop
 returns c =
     let k = c .before in
     let e : k .loop .i ≡ k .before .args .h = omega arith in
-    subst (λ n. Spread (signed (k .before .args .less)) (k .before .args .to) (k .before .args .h) (k .before .args .from) n (k .before .args .room .now) (k .loop .room)) e (k .loop .inv .2)
+    subst (λ n. Spread (moved (k .before .args .less)) (k .before .args .to) (k .before .args .h) (k .before .args .from) n (k .before .args .room .now) (k .loop .room)) e (k .loop .inv .2)
 
 pub spread-list-spec : {M : Type 1} → statement M
 spread-list-spec =

@@ -26,7 +26,9 @@ add-n : tie.Need-add-n Inv-loop μ-loop
 add-n c = let k = c .before .before .before .before in omega (arith, double-le (k .loop .inv) (c .before .before .before .loop-test .taken), k .before .fits .m)
 
 loop-less : tie.Need-loop-less Inv-loop μ-loop
-loop-less c = omega (arith, c .before .before .before .loop-test .taken, double-le (c .before .before .before .before .loop .inv) (c .before .before .before .loop-test .taken), positive (c .before .before .before .before .loop .inv))
+loop-less c =
+    let at-loop = c .before .before .before .before in
+    omega (arith, c .before .before .before .loop-test .taken, double-le (at-loop .loop .inv) (c .before .before .before .loop-test .taken), positive (at-loop .loop .inv))
 
 loop-again : tie.Need-loop-again Inv-loop μ-loop
 loop-again c = let k = c .before .before .before .before in ascended-next (k .loop .inv) (c .before .before .before .loop-test .taken) (c .before .spread .last .0) (c .before .spread .kept .0) (c .before .spread .ensures)

@@ -1,7 +1,8 @@
 -- `products::whole::descend` meets its contract.
 use native.Mathlib.Omega.{arith}
 use Rattle.products.specs.Own.Whole.{Descended}
-use Rattle.products.proofs.WholeLaws.{descended-top, half-fours, count-some, descend-room, descend-small, count-fits, descended-next, descended-end}
+use Rattle.products.proofs.LevelRooms.{half-fours, count-some}
+use Rattle.products.proofs.WholeLaws.{descended-top, descend-room, descend-small, count-fits, descended-next, descended-end}
 use Rattle.products.proofs.whole.descend.Statement.{statement}
 use Rattle.products.proofs.whole.descend.Tie as tie
 

@@ -71,10 +71,16 @@ row-requires-4 c κs =
     (h, (k .before .pre .1 .0, k .before .pre .1 .1 _ h))
 
 put-requires : tie.Need-put-requires Inv-loop μ-loop
-put-requires c κs = let k = c .before .before .before .before .before .before in omega (arith, long k, four-left k (c .before .before .before .before .before .loop-test .taken))
+put-requires c κs =
+    let in-loop = c .before .before .before .before .before in
+    let k = in-loop .before in
+    omega (arith, long k, four-left k (in-loop .loop-test .taken))
 
 add-k : tie.Need-add-k Inv-loop μ-loop
-add-k c = let k = c .before .before .before .before .before .before .before .before in omega (arith, k .before .pre .0, four-left k (c .before .before .before .before .before .before .before .loop-test .taken))
+add-k c =
+    let in-loop = c .before .before .before .before .before .before .before in
+    let k = in-loop .before in
+    omega (arith, k .before .pre .0, four-left k (in-loop .loop-test .taken))
 
 loop-less : tie.Need-loop-less Inv-loop μ-loop
 loop-less c = omega arith
@@ -82,11 +88,12 @@ loop-less c = omega arith
 loop-again : tie.Need-loop-again Inv-loop μ-loop
 unfolding stored
 loop-again c =
-    let k = c .before .before .before .before .before .before .before .before in
-    let l = four-left k (c .before .before .before .before .before .before .before .loop-test .taken) in
-    let a = c .before .before .before .before .before .before .row in
-    let b = c .before .before .before .before .before .row2 in
-    let d = c .before .before .before .before .row3 in
+    let at-row3 = c .before .before .before .before in
+    let k = at-row3 .before .before .before .before in
+    let l = four-left k (at-row3 .before .before .before .loop-test .taken) in
+    let a = at-row3 .before .before .row in
+    let b = at-row3 .before .row2 in
+    let d = at-row3 .row3 in
     let e = c .before .before .before .row4 in
     let filled = filling-four (k .loop .inv .2) (given (rows k) (k .loop .k) (a .result) (a .ok) (a .ensures)) (given (rows k) (k .loop .k + 1) (b .result) (b .ok) (b .ensures)) (given (rows k) (k .loop .k + 2) (d .result) (d .ok) (d .ensures)) (given (rows k) (k .loop .k + 3) (e .result) (e .ok) (e .ensures)) in
     (omega arith, omega (arith, k .loop .inv .1), subst (Filling (rows k) (k .before .args .out .now) (k .loop .k + 4)) (sym (c .before .put .ensures)) filled)

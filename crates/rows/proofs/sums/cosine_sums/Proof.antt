@@ -131,7 +131,9 @@ slice-relend-prefix-gather : tie.Need-slice-relend-prefix-gather
 slice-relend-prefix-gather c = front-le (c .before .before .before)
 
 slice-aggregate-gather : tie.Need-slice-aggregate-gather
-slice-aggregate-gather c = front-long (c .before .before .before .before)
+slice-aggregate-gather c =
+    let start′ = c .before .before .before .before in
+    front-long start′
 
 gather-requires : tie.Need-gather-requires
 gather-requires c κs =
@@ -140,16 +142,25 @@ gather-requires c κs =
     ((sym (front-long s) ∙ known s .half ∙ sym (s .pre .1 .1 .0 .0), in-fours a), (order a, λ m h. row-size (s .args .alternated) (N s) (places-are a) (signs-are a) (within-up (s .pre .1 .1 .1) (omega arith)) m))
 
 mul-product : tie.Need-mul-product
-mul-product c = let w = known (c .before .before .before .before .before .before) in omega arith
+mul-product c =
+    let start′ = c .before .before .before .before .before .before in
+    let w = known start′ in
+    omega arith
 
 sub-product : tie.Need-sub-product
-sub-product c = let w = known (c .before .before .before .before .before .before) in omega arith
+sub-product c =
+    let start′ = c .before .before .before .before .before .before in
+    let w = known start′ in
+    omega arith
 
 part-product-start : tie.Need-part-product-start
 part-product-start c = sub-product c
 
 part-product-end : tie.Need-part-product-end
-part-product-end c = let w = known (c .before .before .before .before .before .before) in search needs
+part-product-end c =
+    let start′ = c .before .before .before .before .before .before in
+    let w = known start′ in
+    search needs
 
 product-requires : tie.Need-product-requires
 product-requires c κs =

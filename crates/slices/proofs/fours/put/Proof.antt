@@ -9,37 +9,59 @@ use Rattle.slices.proofs.fours.put.Statement.{statement}
 use Rattle.slices.proofs.fours.put.Tie as tie
 
 mul-a : tie.Need-mul-a
-mul-a c = record { fits = omega (arith, c .before .before .before .before .pre) }
+mul-a c =
+    let start = c .before .before .before .before in
+    record { fits = omega (arith, start .pre) }
 
 slice-set-from-a : tie.Need-slice-set-from-a
-slice-set-from-a c = omega (arith, c .before .before .before .before .pre)
+slice-set-from-a c =
+    let start = c .before .before .before .before in
+    omega (arith, start .pre)
 
 add-b : tie.Need-add-b
-add-b c = omega (arith, c .before .before .before .before .pre)
+add-b c =
+    let start = c .before .before .before .before in
+    omega (arith, start .pre)
 
 mul-b : tie.Need-mul-b
-mul-b c = record { fits = omega (arith, c .before .before .before .before .pre) }
+mul-b c =
+    let start = c .before .before .before .before in
+    record { fits = omega (arith, start .pre) }
 
 slice-set-from-b : tie.Need-slice-set-from-b
-slice-set-from-b c = simp length-set (omega (arith, c .before .before .before .before .pre))
+slice-set-from-b c =
+    let start = c .before .before .before .before in
+    simp length-set (omega (arith, start .pre))
 
 add-c : tie.Need-add-c
-add-c c = omega (arith, c .before .before .before .before .pre)
+add-c c =
+    let start = c .before .before .before .before in
+    omega (arith, start .pre)
 
 mul-c : tie.Need-mul-c
-mul-c c = record { fits = omega (arith, c .before .before .before .before .pre) }
+mul-c c =
+    let start = c .before .before .before .before in
+    record { fits = omega (arith, start .pre) }
 
 slice-set-from-c : tie.Need-slice-set-from-c
-slice-set-from-c c = simp length-set (omega (arith, c .before .before .before .before .pre))
+slice-set-from-c c =
+    let start = c .before .before .before .before in
+    simp length-set (omega (arith, start .pre))
 
 add-d : tie.Need-add-d
-add-d c = omega (arith, c .before .before .before .before .pre)
+add-d c =
+    let start = c .before .before .before .before in
+    omega (arith, start .pre)
 
 mul-d : tie.Need-mul-d
-mul-d c = record { fits = omega (arith, c .before .before .before .before .pre) }
+mul-d c =
+    let start = c .before .before .before .before in
+    record { fits = omega (arith, start .pre) }
 
 slice-set-from-d : tie.Need-slice-set-from-d
-slice-set-from-d c = simp length-set (omega (arith, c .before .before .before .before .pre))
+slice-set-from-d c =
+    let start = c .before .before .before .before in
+    simp length-set (omega (arith, start .pre))
 
 returns : tie.Need-returns
 unfolding stored

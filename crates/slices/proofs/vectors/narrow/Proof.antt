@@ -32,15 +32,22 @@ put-narrow-requires c κs =
     (four-left k (c .before .before .loop-test .taken), listed-within _ _ (2 ^ 30) (c .taken .ensures) (λ j l. k .before .pre .1 .size (k .loop .i + j)))
 
 add-i : tie.Need-add-i Inv-loop μ-loop
-add-i c = let k = c .before .before .before .before .before in record { fits = omega (arith, four-left k (c .before .before .before .before .loop-test .taken)) }
+add-i c =
+    let in-loop = c .before .before .before .before in
+    let k = in-loop .before in
+    record { fits = omega (arith, four-left k (in-loop .loop-test .taken)) }
 
 loop-less : tie.Need-loop-less Inv-loop μ-loop
-loop-less c = let k = c .before .before .before .before .before in omega (arith, k .loop .inv .2 .long, c .before .before .before .before .loop-test .taken)
+loop-less c =
+    let in-loop = c .before .before .before .before in
+    let k = in-loop .before in
+    omega (arith, k .loop .inv .2 .long, in-loop .loop-test .taken)
 
 loop-again : tie.Need-loop-again Inv-loop μ-loop
 loop-again c =
-    let k = c .before .before .before .before .before in
-    let l = four-left k (c .before .before .before .before .loop-test .taken) in
+    let in-loop = c .before .before .before .before in
+    let k = in-loop .before in
+    let l = four-left k (in-loop .loop-test .taken) in
     let x = k .before .args .x .now in (
       omega (arith, l, k .loop .inv .2 .long),
       omega (arith, k .loop .inv .1),

@@ -40,13 +40,19 @@ cast-d : tie.Need-cast-d
 cast-d c = let s = c .before .before .before .before .before .before .before .before in asks-cast w32 (wide s 3) (fits s 3)
 
 slice-set-from-b : tie.Need-slice-set-from-b
-slice-set-from-b c = simp length-set (omega (arith, c .before .before .before .before .before .before .before .before .pre))
+slice-set-from-b c =
+    let start = c .before .before .before .before .before .before .before .before in
+    simp length-set (omega (arith, start .pre))
 
 slice-set-from-c : tie.Need-slice-set-from-c
-slice-set-from-c c = simp length-set (omega (arith, c .before .before .before .before .before .before .before .before .pre))
+slice-set-from-c c =
+    let start = c .before .before .before .before .before .before .before .before in
+    simp length-set (omega (arith, start .pre))
 
 slice-set-from-d : tie.Need-slice-set-from-d
-slice-set-from-d c = simp length-set (omega (arith, c .before .before .before .before .before .before .before .before .pre))
+slice-set-from-d c =
+    let start = c .before .before .before .before .before .before .before .before in
+    simp length-set (omega (arith, start .pre))
 
 returns : tie.Need-returns
 unfolding stored

@@ -19,7 +19,9 @@ cast-t16 : tie.Need-cast-t16
 cast-t16 c = asks-wide (at (c .before .before .before .args .x .now) (c .before .before .before .args .p + 2)) (c .t15 .given)
 
 cast-t21 : tie.Need-cast-t21
-cast-t21 c = asks-wide (at (c .before .before .before .before .args .x .now) (c .before .before .before .before .args .p + 3)) (c .t20 .given)
+cast-t21 c =
+    let start = c .before .before .before .before in
+    asks-wide (at (start .args .x .now) (start .args .p + 3)) (c .t20 .given)
 
 returns : tie.Need-returns
 returns c =

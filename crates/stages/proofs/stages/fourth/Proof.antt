@@ -6,7 +6,7 @@ use Prim.Native.Nat.{_-_, _/_, _%_}
 use lib.ListN.{take, drop}
 use Rattle.tables.specs.Widths.{halfWidth}
 use Rattle.tables.proofs.Reading.{half-is}
-use Rattle.steps.proofs.Undo.{width-half}
+use Rattle.steps.proofs.Lengths.{width-half}
 use Rattle.width_tables.specs.Own.Parts.{Sines}
 use Rattle.width_tables.proofs.TableSizes.{sines-long, sines-within}
 use Rattle.stages.proofs.PartLaws.{half-in-fours, half-small, tables-room, sines-part}

@@ -7,21 +7,21 @@ use lib.IntN.{ℤ}
 use lib.ListN.{length, take, drop}
 use lib.Seq.{drop-drop}
 use Rattle.tables.specs.Widths.{halfWidth}
+use Rattle.runs.specs.Answers.{told}
 use Rattle.runs.specs.declared.record.Run.{Run}
-use Rattle.runs.specs.Record.{frameLimit, opened}
+use Rattle.runs.specs.Record.{blockLimit, frameLimit, nextCount, opened}
 use Rattle.runs.specs.Gate.{Given}
 use Rattle.runs.proofs.Searches.{all-within}
 use Rattle.runs.proofs.RecordLaws.{width-pos}
 use Rattle.gate.proofs.FaultLaws.{few-readings, block-next, block-in, no-block, block-long, part-is}
 use Rattle.gate.proofs.PartLaws.{written, written-rest}
-use Rattle.frames.specs.Own.Faults.{toldFault, countAfter}
 use Rattle.runs.specs.Back.{undoneIn, takenBack}
 use Rattle.runs.specs.WholeBack.{answerFrom, outputsFrom}
 use Rattle.runs.proofs.BackLaws.{ReachedBack}
 use Rattle.runs.proofs.OneByOne.{answer-next, here-taken}
 use Rattle.whole_back.proofs.LoopLaws.{blocks-next, no-blocks}
-use Rattle.whole_back.proofs.RoomLaws.{SameRoom, halves-same, room-same}
-use Rattle.whole_back.proofs.Undoing.{low-within, block-given, run-after, reached-after}
+use Rattle.asking_back.proofs.RoomLaws.{SameRoom, halves-same, room-same}
+use Rattle.asking_back.proofs.Undoing.{low-within, block-given, run-after, reached-after}
 use Rattle.whole_back.proofs.whole.blocks_before.Statement.{statement}
 use Rattle.whole_back.proofs.whole.blocks_before.Tie as tie
 
@@ -73,7 +73,7 @@ module _ (i : tie.In-loop Inv-loop μ-loop) where
   in-readings : place at + N (from at) ≤ length (readings at)
   in-readings = omega (arith, in-frames, at .loop .inv .3)
 
-  end-le : place at + N (from at) ≤ 8388608
+  end-le : place at + N (from at) ≤ blockLimit * 128
   end-le = omega (arith, in-frames, few-readings (N (from at)) (frames (from at)) (from at .pre .1 .0))
 
   counted : at .loop .count < frameLimit
@@ -103,15 +103,15 @@ module _ (h : tie.After-z Inv-loop μ-loop) where
   block = step .undo .last .1 .1 .1 .1 .1 .0
 
   abbrev after : Run
-  after = opened (N (from here)) (countAfter (here .loop .count) (step .undo .result)) kept
+  after = opened (N (from here)) (nextCount (told (step .undo .result) .0) (here .loop .count)) kept
 
   kept-long : length kept ≡ halfWidth (N (from here))
   kept-long = h .before .before .before .before .before .before .before .held .given ∙ here .loop .inv .2 .long
 
-  undone : _≡_ {A = Given} (toldFault (step .undo .result), after, block) (undoneIn (run here) part out)
+  undone : _≡_ {A = Given} (told (step .undo .result), after, block) (undoneIn (run here) part out)
   undone = step .undo .ensures ∙ ap₂ (undoneIn (run here)) (part-is (place here) (N (from here)) (frames (from here))) (part-is (place here) (N (from here)) (readings here))
 
-  given : _≡_ {A = Given} (toldFault (step .undo .result), after, block) (takenBack (run here) part out)
+  given : _≡_ {A = Given} (told (step .undo .result), after, block) (takenBack (run here) part out)
   given =
       block-given (N (from here)) (here .loop .count) (low here) kept part out block (step .undo .result) (here .loop .inv .2) (counted inside) kept-long undone
       (block-long (place here) (N (from here)) (frames (from here)) (in-frames inside))
@@ -121,14 +121,11 @@ module _ (h : tie.After-z Inv-loop μ-loop) where
   more = omega (arith, inside .loop-test .taken)
 
   -- no call is refused
-  none : toldFault (step .undo .result) .0 ≡ 0
+  none : told (step .undo .result) .0 ≡ 0
   none = here-taken (N (from here)) _ (run here) (drop (place here) (frames (from here))) (drop (place here) (readings here)) more (sym given) (place here + N (from here)) (here .loop .inv .5)
 
   next : after ≡ opened (N (from here)) (here .loop .count + 1) kept
   next = run-after (N (from here)) (here .loop .count) (low here) kept part out block (step .undo .result) (here .loop .inv .2) (counted inside) kept-long undone none
-
-div-blocks : tie.Need-div-blocks Inv-loop μ-loop
-div-blocks c = width-pos (N c) (c .pre .1 .0 .wide)
 
 loop-holds : tie.Need-loop-holds Inv-loop μ-loop
 loop-holds c = (
@@ -146,33 +143,6 @@ loop-holds c = (
   subst (λ (n : ℕ). answerFrom (N c) n (opened (N c) 1 (c .args .held .now)) (length (frames c) / N c) (frames c) (c .args .readings .now) .0 ≡ 0) (omega arith) (c .pre .1 .1 .1 .1 .1 .1),
   refl,
 )
-
-add-end : tie.Need-add-end Inv-loop μ-loop
-add-end c = record { fits = omega (arith, end-le c) }
-
-mul-undo : tie.Need-mul-undo Inv-loop μ-loop
-mul-undo c = record { fits = omega (arith, end-le c) }
-
-sub-undo : tie.Need-sub-undo Inv-loop μ-loop
-sub-undo c = omega arith
-
-part-undo-start : tie.Need-part-undo-start Inv-loop μ-loop
-part-undo-start c = omega arith
-
-part-undo-end : tie.Need-part-undo-end Inv-loop μ-loop
-part-undo-end c = in-frames c
-
-mul-undo-2 : tie.Need-mul-undo-2 Inv-loop μ-loop
-mul-undo-2 c = record { fits = omega (arith, end-le (c .before .before)) }
-
-sub-undo-2 : tie.Need-sub-undo-2 Inv-loop μ-loop
-sub-undo-2 c = omega arith
-
-part-undo-start-2 : tie.Need-part-undo-start-2 Inv-loop μ-loop
-part-undo-start-2 c = omega arith
-
-part-undo-end-2 : tie.Need-part-undo-end-2 Inv-loop μ-loop
-part-undo-end-2 c = in-readings (c .before .before)
 
 undo-requires : tie.Need-undo-requires Inv-loop μ-loop
 undo-requires c κs =
@@ -199,15 +169,6 @@ undo-requires c κs =
         ),
       ),
     )
-
-add-count : tie.Need-add-count Inv-loop μ-loop
-add-count c = record { fits = omega (arith, counted (inside c)) }
-
-sub-blocks : tie.Need-sub-blocks Inv-loop μ-loop
-sub-blocks c = omega arith
-
-loop-less : tie.Need-loop-less Inv-loop μ-loop
-loop-less c = omega arith
 
 loop-again : tie.Need-loop-again Inv-loop μ-loop
 loop-again c =
@@ -240,30 +201,6 @@ loop-again c =
           ∙ ap (λ (r : Run). take (place k + N s) new ++ outputsFrom (N s) r (k .loop .blocks - 1) (drop (place k + N s) (frames s)) (drop (place k + N s) new)) (next c),
     )
 
-same-length : tie.Need-same-length Inv-loop μ-loop
-same-length c = let k = c .before in k .loop .inv .2 .long ∙ sym (from k .pre .1 .1 .0 .0)
-
-same-length-2 : tie.Need-same-length-2 Inv-loop μ-loop
-same-length-2 c = let k = c .before in k .loop .inv .3 ∙ sym (from k .pre .1 .1 .0 .3)
-
-same-length-3 : tie.Need-same-length-3 Inv-loop μ-loop
-same-length-3 c = c .before .loop .inv .4 .folded-same
-
-same-length-4 : tie.Need-same-length-4 Inv-loop μ-loop
-same-length-4 c = c .before .loop .inv .4 .wide-same
-
-same-length-5 : tie.Need-same-length-5 Inv-loop μ-loop
-same-length-5 c = c .before .loop .inv .4 .top-same
-
-same-length-6 : tie.Need-same-length-6 Inv-loop μ-loop
-same-length-6 c = c .before .loop .inv .4 .bottom-same
-
-same-length-7 : tie.Need-same-length-7 Inv-loop μ-loop
-same-length-7 c = c .before .loop .inv .4 .y-same
-
-same-length-8 : tie.Need-same-length-8 Inv-loop μ-loop
-same-length-8 c = c .before .loop .inv .4 .z-same
-
 returns : tie.Need-returns Inv-loop μ-loop
 returns c =
     let k = c .before in
@@ -279,28 +216,28 @@ blocks-before-spec =
     (tie.spec
     Inv-loop
     μ-loop
-    div-blocks
+    (λ c. width-pos (N c) (c .pre .1 .0 .wide))
     loop-holds
-    add-end
-    mul-undo
-    sub-undo
-    part-undo-start
-    part-undo-end
-    mul-undo-2
-    sub-undo-2
-    part-undo-start-2
-    part-undo-end-2
+    (λ c. record { fits = omega (arith, end-le c) })
+    (λ c. record { fits = omega (arith, end-le c) })
+    (λ c. omega arith)
+    (λ c. omega arith)
+    (λ c. in-frames c)
+    (λ c. record { fits = omega (arith, end-le (c .before .before)) })
+    (λ c. omega arith)
+    (λ c. omega arith)
+    (λ c. in-readings (c .before .before))
     undo-requires
-    add-count
-    sub-blocks
-    loop-less
+    (λ c. record { fits = omega (arith, counted (inside c)) })
+    (λ c. omega arith)
+    (λ c. omega arith)
     loop-again
-    same-length
-    same-length-2
-    same-length-3
-    same-length-4
-    same-length-5
-    same-length-6
-    same-length-7
-    same-length-8
+    (λ c. let k = c .before in k .loop .inv .2 .long ∙ sym (from k .pre .1 .1 .0 .0))
+    (λ c. let k = c .before in k .loop .inv .3 ∙ sym (from k .pre .1 .1 .0 .3))
+    (λ c. c .before .loop .inv .4 .folded-same)
+    (λ c. c .before .loop .inv .4 .wide-same)
+    (λ c. c .before .loop .inv .4 .top-same)
+    (λ c. c .before .loop .inv .4 .bottom-same)
+    (λ c. c .before .loop .inv .4 .y-same)
+    (λ c. c .before .loop .inv .4 .z-same)
     returns)

@@ -8,15 +8,15 @@ use lib.IntN.{ℤ, pos}
 use lib.ListN.{length, length-replicate}
 use Rattle.tables.specs.Widths.{halfWidth}
 use Rattle.slices.proofs.Parts.{part-long}
+use Rattle.runs.specs.Answers.{told}
 use Rattle.runs.specs.declared.record.Run.{Run}
-use Rattle.runs.specs.Record.{zeros, opened}
+use Rattle.runs.specs.Record.{zeros, nextCount, opened}
 use Rattle.runs.specs.Gate.{Given}
 use Rattle.runs.specs.Forward.{started}
 use Rattle.gate.proofs.FaultLaws.{width-room}
-use Rattle.frames.specs.Own.Faults.{toldFault, countAfter}
 use Rattle.runs.specs.Back.{takenBack}
 use Rattle.runs.proofs.BackLaws.{started-back, ReachedBack, back-first}
-use Rattle.whole_back.proofs.Undoing.{low-within, frame-taken, run-after, reached-after}
+use Rattle.asking_back.proofs.Undoing.{low-within, frame-taken, run-after, reached-after}
 use Rattle.whole_back.proofs.whole.first_frame.Statement.{statement}
 use Rattle.whole_back.proofs.whole.first_frame.Tie as tie
 
@@ -36,12 +36,12 @@ module _ (s : tie.Start) where
   started-is : started N .1 ≡ opened N 0 low
   started-is = started-back N (s .pre .0) ∙ ap (opened N 0) (sym (s .pre .1 .1 .0 .1))
 
-module _ (c : tie.After-spare) where
+module _ (c : tie.After-zero-block) where
   abbrev from : tie.Start
   from = c .before
 
-  block-in : N from ≤ length (c .spare .result)
-  block-in = width-room (N from) (c .spare .result) (from .pre .0) (c .spare .ensures)
+  block-in : N from ≤ length (c .zero-block .result)
+  block-in = width-room (N from) (c .zero-block .result) (from .pre .0) (sym (ap length (c .zero-block .ensures) ∙ length-replicate 128 (pos 0)))
 
 -- the frame undone
 module _ (a : tie.After-z) where
@@ -58,13 +58,13 @@ module _ (a : tie.After-z) where
   kept-long = a .before .before .before .before .before .before .before .held .given ∙ begun start .long
 
   given : _≡_ {A = Given} (takenBack (started (N start) .1) (frame start) (zeros (N start)))
-      (toldFault (step .undo .result), opened (N start) (countAfter 0 (step .undo .result)) kept, takenBack (opened (N start) 0 (low start)) (frame start) (zeros (N start)) .2)
+      (told (step .undo .result), opened (N start) (nextCount (told (step .undo .result) .0) 0) kept, takenBack (opened (N start) 0 (low start)) (frame start) (zeros (N start)) .2)
   given =
       ap (λ (r : Run). takenBack r (frame start) (zeros (N start))) (started-is start)
       ∙ frame-taken (N start) 0 (low start) kept (frame start) _ _ (step .undo .result) (begun start) (omega arith) kept-long (step .undo .ensures) (zeros (N start)) (start .pre .1 .1 .0 .0) (length-replicate (N start) (pos 0))
 
   module _ (z : takenBack (started (N start) .1) (frame start) (zeros (N start)) .0 .0 ≡ 0) where
-    none : toldFault (step .undo .result) .0 ≡ 0
+    none : told (step .undo .result) .0 ≡ 0
     none = sym (ap (λ (g : Given). g .0 .0) given) ∙ z
 
     after : opened (N start) 1 kept ≡ takenBack (started (N start) .1) (frame start) (zeros (N start)) .1
@@ -77,7 +77,7 @@ array-borrow-prefix-block : tie.Need-array-borrow-prefix-block
 array-borrow-prefix-block c = block-in (c .before)
 
 slice-aggregate-undo : tie.Need-slice-aggregate-undo
-slice-aggregate-undo c = let m = c .before .before in part-long _ (m .spare .result) (block-in m)
+slice-aggregate-undo c = let m = c .before .before in part-long _ (m .zero-block .result) (block-in m)
 
 undo-requires : tie.Need-undo-requires
 undo-requires c κs =
@@ -87,7 +87,7 @@ undo-requires c κs =
       (
         s .pre .1 .0,
         (
-          (s .pre .1 .1 .0 .0, begun s .long, s .pre .1 .1 .1 .0 .0, s .pre .1 .1 .1 .0 .1, sym (part-long _ (m .spare .result) (block-in m))),
+          (s .pre .1 .1 .0 .0, begun s .long, s .pre .1 .1 .1 .0 .0, s .pre .1 .1 .1 .0 .1, sym (part-long _ (m .zero-block .result) (block-in m))),
           (s .pre .1 .1 .1 .1 .0, (s .pre .1 .1 .1 .1 .1, low-within (begun s))),
         ),
       ),

@@ -19,7 +19,8 @@ use Rattle.gate.proofs.FaultLaws.{width-room, half-room}
 use Rattle.gate.proofs.ReadyLaws.{none-held}
 use Rattle.runs.specs.Back.{takenBack}
 use Rattle.runs.specs.WholeBack.{answerFrom, outputsFrom}
-use Rattle.whole_back.proofs.LoopLaws.{one-frame, one-block-less, rest-blocks, answer-left, outputs-left}
+use Rattle.asking_back.proofs.FrameCounts.{one-frame}
+use Rattle.whole_back.proofs.LoopLaws.{one-block-less, rest-blocks, answer-left, outputs-left}
 use Rattle.runs.proofs.OneByOne.{first-yes}
 use Rattle.frames.proofs.RoomLaws.{product-le, halves-lent}
 use Rattle.whole_back.proofs.whole.readings_of.Statement.{statement}
@@ -132,39 +133,6 @@ module _ (c : tie.After-z2) where
   after : opened (N start) 1 kept ≡ takenBack (started (N start) .1) (take (N start) (frames start)) (zeros (N start)) .1
   after = step .first-frame .ensures (taken start) .0
 
-slice-aggregate-first-frame : tie.Need-slice-aggregate-first-frame
-slice-aggregate-first-frame c = let s = from (c .before) in part-long _ (frames s) (long s)
-
-array-borrow-prefix-held : tie.Need-array-borrow-prefix-held
-array-borrow-prefix-held c = held-in (c .before)
-
-slice-aggregate-first-frame-2 : tie.Need-slice-aggregate-first-frame-2
-slice-aggregate-first-frame-2 c = let m = c .before .before in part-long _ (held m) (held-in m)
-
-array-borrow-prefix-folded : tie.Need-array-borrow-prefix-folded
-array-borrow-prefix-folded c = folded-in (c .before .before)
-
-slice-aggregate-first-frame-3 : tie.Need-slice-aggregate-first-frame-3
-slice-aggregate-first-frame-3 c = let m = c .before .before .before in part-long _ (folded m) (folded-in m)
-
-array-borrow-prefix-wide : tie.Need-array-borrow-prefix-wide
-array-borrow-prefix-wide c = wide-in (c .before .before .before)
-
-slice-aggregate-first-frame-4 : tie.Need-slice-aggregate-first-frame-4
-slice-aggregate-first-frame-4 c = let m = c .before .before .before .before in part-long _ (wide m) (wide-in m)
-
-array-borrow-prefix-top : tie.Need-array-borrow-prefix-top
-array-borrow-prefix-top c = top-in (c .before .before .before .before)
-
-slice-aggregate-first-frame-5 : tie.Need-slice-aggregate-first-frame-5
-slice-aggregate-first-frame-5 c = let m = c .before .before .before .before .before in part-long _ (top m) (top-in m)
-
-array-borrow-prefix-bottom : tie.Need-array-borrow-prefix-bottom
-array-borrow-prefix-bottom c = bottom-in (c .before .before .before .before .before)
-
-slice-aggregate-first-frame-6 : tie.Need-slice-aggregate-first-frame-6
-slice-aggregate-first-frame-6 c = let m = c .before .before .before .before .before .before in part-long _ (bottom m) (bottom-in m)
-
 first-frame-requires : tie.Need-first-frame-requires
 first-frame-requires c κs =
     let m = c .before .before .before .before .before .before .before .before in
@@ -185,36 +153,6 @@ first-frame-requires c κs =
         ),
       ),
     )
-
-array-borrow-prefix-held-2 : tie.Need-array-borrow-prefix-held-2
-array-borrow-prefix-held-2 c = let a = c .before in front-le _ (kept a) _ (held-long a)
-
-slice-aggregate-blocks-before : tie.Need-slice-aggregate-blocks-before
-slice-aggregate-blocks-before c = let a = c .before .before in front-long _ (kept a) _ (held-long a)
-
-array-borrow-prefix-folded-2 : tie.Need-array-borrow-prefix-folded-2
-array-borrow-prefix-folded-2 c = let a = c .before .before .before in front-le _ (folded-left a) _ (folded-long a)
-
-slice-aggregate-blocks-before-2 : tie.Need-slice-aggregate-blocks-before-2
-slice-aggregate-blocks-before-2 c = let a = c .before .before .before .before in front-long _ (folded-left a) _ (folded-long a)
-
-array-borrow-prefix-wide-2 : tie.Need-array-borrow-prefix-wide-2
-array-borrow-prefix-wide-2 c = let a = c .before .before .before .before in front-le _ (wide-left a) _ (wide-long a)
-
-slice-aggregate-blocks-before-3 : tie.Need-slice-aggregate-blocks-before-3
-slice-aggregate-blocks-before-3 c = let a = c .before .before .before .before .before in front-long _ (wide-left a) _ (wide-long a)
-
-array-borrow-prefix-top-2 : tie.Need-array-borrow-prefix-top-2
-array-borrow-prefix-top-2 c = let a = c .before .before .before .before .before in front-le _ (top-left a) _ (top-long a)
-
-slice-aggregate-blocks-before-4 : tie.Need-slice-aggregate-blocks-before-4
-slice-aggregate-blocks-before-4 c = let a = c .before .before .before .before .before .before in front-long _ (top-left a) _ (top-long a)
-
-array-borrow-prefix-bottom-2 : tie.Need-array-borrow-prefix-bottom-2
-array-borrow-prefix-bottom-2 c = let a = c .before .before .before .before .before .before in front-le _ (bottom-left a) _ (bottom-long a)
-
-slice-aggregate-blocks-before-5 : tie.Need-slice-aggregate-blocks-before-5
-slice-aggregate-blocks-before-5 c = let a = c .before .before .before .before .before .before .before in front-long _ (bottom-left a) _ (bottom-long a)
 
 blocks-before-requires : tie.Need-blocks-before-requires
 blocks-before-requires c κs =
@@ -266,17 +204,17 @@ readings-of-spec =
     (λ c κs. search needs)
     (λ c κs. search needs)
     (λ c κs. search needs)
-    slice-aggregate-first-frame
-    array-borrow-prefix-held
-    slice-aggregate-first-frame-2
-    array-borrow-prefix-folded
-    slice-aggregate-first-frame-3
-    array-borrow-prefix-wide
-    slice-aggregate-first-frame-4
-    array-borrow-prefix-top
-    slice-aggregate-first-frame-5
-    array-borrow-prefix-bottom
-    slice-aggregate-first-frame-6
+    (λ c. let s = from (c .before) in part-long _ (frames s) (long s))
+    (λ c. held-in (c .before))
+    (λ c. let m = c .before .before in part-long _ (held m) (held-in m))
+    (λ c. folded-in (c .before .before))
+    (λ c. let m = c .before .before .before in part-long _ (folded m) (folded-in m))
+    (λ c. wide-in (c .before .before .before))
+    (λ c. let m = c .before .before .before .before in part-long _ (wide m) (wide-in m))
+    (λ c. top-in (c .before .before .before .before))
+    (λ c. let m = c .before .before .before .before .before in part-long _ (top m) (top-in m))
+    (λ c. bottom-in (c .before .before .before .before .before))
+    (λ c. let m = c .before .before .before .before .before .before in part-long _ (bottom m) (bottom-in m))
     (λ c. search needs)
     (λ c. search needs)
     first-frame-requires
@@ -284,16 +222,16 @@ readings-of-spec =
     (λ c. search needs)
     (λ c. search needs)
     (λ c. search needs)
-    array-borrow-prefix-held-2
-    slice-aggregate-blocks-before
-    array-borrow-prefix-folded-2
-    slice-aggregate-blocks-before-2
-    array-borrow-prefix-wide-2
-    slice-aggregate-blocks-before-3
-    array-borrow-prefix-top-2
-    slice-aggregate-blocks-before-4
-    array-borrow-prefix-bottom-2
-    slice-aggregate-blocks-before-5
+    (λ c. let a = c .before in front-le _ (kept a) _ (held-long a))
+    (λ c. let a = c .before .before in front-long _ (kept a) _ (held-long a))
+    (λ c. let a = c .before .before .before in front-le _ (folded-left a) _ (folded-long a))
+    (λ c. let a = c .before .before .before .before in front-long _ (folded-left a) _ (folded-long a))
+    (λ c. let a = c .before .before .before .before in front-le _ (wide-left a) _ (wide-long a))
+    (λ c. let a = c .before .before .before .before .before in front-long _ (wide-left a) _ (wide-long a))
+    (λ c. let a = c .before .before .before .before .before in front-le _ (top-left a) _ (top-long a))
+    (λ c. let a = c .before .before .before .before .before .before in front-long _ (top-left a) _ (top-long a))
+    (λ c. let a = c .before .before .before .before .before .before in front-le _ (bottom-left a) _ (bottom-long a))
+    (λ c. let a = c .before .before .before .before .before .before .before in front-long _ (bottom-left a) _ (bottom-long a))
     (λ c. search needs)
     (λ c. search needs)
     blocks-before-requires

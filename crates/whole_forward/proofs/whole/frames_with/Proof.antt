@@ -10,9 +10,9 @@ use Rattle.tables.specs.Widths.{halfWidth}
 use Rattle.tables.proofs.Reading.{half-is}
 use Rattle.steps.specs.Limits.{readingLimit}
 use Rattle.steps.specs.Steps.{held, frame}
-use Rattle.steps.proofs.Undo.{length-held}
+use Rattle.steps.proofs.Lengths.{length-held}
 use Rattle.slices.proofs.Parts.{part-long, front}
-use Rattle.runs.specs.Record.{zeros}
+use Rattle.runs.specs.Record.{blockLimit, zeros}
 use Rattle.gate.proofs.GateLaws.{rest-part}
 use Rattle.runs.proofs.RecordLaws.{width-pos}
 use Rattle.gate.proofs.FaultLaws.{width-room, half-room, front-same, few-readings, block-next, block-in, no-block, block-long, part-is}
@@ -50,6 +50,9 @@ module _ (s : tie.Start Inv-loop μ-loop) where
   fits : Wide N 1906 64 648
   fits = large-room N (s .pre .1 .0 .wide)
 
+  few : length readings ≤ blockLimit * 128
+  few = few-readings N readings (s .pre .1 .0)
+
 module _ (k : tie.At-loop Inv-loop μ-loop) where
   abbrev from : tie.Start Inv-loop μ-loop
   from = k .before .before .before .before .before .before
@@ -63,18 +66,11 @@ module _ (k : tie.At-loop Inv-loop μ-loop) where
   abbrev kept : List ℤ
   kept = k .loop .held
 
-  place-le : place ≤ 8388608
-  place-le = omega (arith, k .loop .inv .0, few-readings (N from) (readings from) (from .pre .1 .0))
-
-  -- the room lent
   held-le : half from ≤ length kept
   held-le = half-room (N from) (half from) kept (halved from) (k .loop .inv .2)
 
-  evens-le : half from ≤ length (k .loop .top)
-  evens-le = top-le (fits from) (k .loop .inv .3)
-
-  odds-le : half from ≤ length (k .loop .bottom)
-  odds-le = bottom-le (fits from) (k .loop .inv .3)
+  halves-le : (half from ≤ length (k .loop .top)) × (half from ≤ length (k .loop .bottom))
+  halves-le = (top-le (fits from) (k .loop .inv .3), bottom-le (fits from) (k .loop .inv .3))
 
 -- a block is left
 module _ (i : tie.In-loop Inv-loop μ-loop) where
@@ -86,9 +82,6 @@ module _ (i : tie.In-loop Inv-loop μ-loop) where
 
   in-frames : place at + N (from at) ≤ length (frames at)
   in-frames = omega (arith, in-readings, at .loop .inv .1)
-
-  end-le : place at + N (from at) ≤ 8388608
-  end-le = omega (arith, in-readings, few-readings (N (from at)) (readings (from at)) (from at .pre .1 .0))
 
 -- none is left: the finish's block is zeros
 module _ (z : tie.After-zero-block Inv-loop μ-loop) where
@@ -110,9 +103,6 @@ module _ (z : tie.After-zero-block Inv-loop μ-loop) where
   last-long : length (take (length (frames over) - place over) (drop (place over) (frames over))) ≡ N (from over)
   last-long = ap length (rest-part (length (frames over)) (place over) (place over) (frames over) refl refl) ∙ omega (arith, length-drop (place over) (frames over), last-at)
 
-div-left : tie.Need-div-left Inv-loop μ-loop
-div-left c = let s = c .before .before .before .before .before in width-pos (N s) (s .pre .1 .0 .wide)
-
 loop-holds : tie.Need-loop-holds Inv-loop μ-loop
 loop-holds c =
     let s = c .before .before .before .before .before in
@@ -123,57 +113,6 @@ loop-holds c =
       record { top-long = c .before .before .before .of-64 .ensures; bottom-long = c .before .before .of-642 .ensures; y-long = c .before .of-648 .ensures; z-long = c .of-6482 .ensures },
       stepping-first (N s) (half s) (readings s) (s .args .frames .now) (h .nothing-held .result) (halved s) (s .pre .1 .0) (s .pre .1 .1 .1) (h .nothing-held .ensures),
     )
-
-add-end : tie.Need-add-end Inv-loop μ-loop
-add-end c = record { fits = omega (arith, end-le c) }
-
-mul-step : tie.Need-mul-step Inv-loop μ-loop
-mul-step c = record { fits = omega (arith, end-le c) }
-
-sub-step : tie.Need-sub-step Inv-loop μ-loop
-sub-step c = omega arith
-
-part-step-start : tie.Need-part-step-start Inv-loop μ-loop
-part-step-start c = omega arith
-
-part-step-end : tie.Need-part-step-end Inv-loop μ-loop
-part-step-end c = in-readings c
-
-array-borrow-prefix-held : tie.Need-array-borrow-prefix-held Inv-loop μ-loop
-array-borrow-prefix-held c = held-le (c .before .before)
-
-slice-aggregate-step : tie.Need-slice-aggregate-step Inv-loop μ-loop
-slice-aggregate-step c = let k = c .before .before .before in part-long _ (kept k) (held-le k)
-
-mul-step-2 : tie.Need-mul-step-2 Inv-loop μ-loop
-mul-step-2 c = record { fits = omega (arith, place-le (c .before .before .before)) }
-
-sub-step-2 : tie.Need-sub-step-2 Inv-loop μ-loop
-sub-step-2 c = omega arith
-
-part-step-start-2 : tie.Need-part-step-start-2 Inv-loop μ-loop
-part-step-start-2 c = omega arith
-
-part-step-end-2 : tie.Need-part-step-end-2 Inv-loop μ-loop
-part-step-end-2 c = in-frames (c .before .before)
-
-array-borrow-prefix-top : tie.Need-array-borrow-prefix-top Inv-loop μ-loop
-array-borrow-prefix-top c = evens-le (c .before .before .before .before)
-
-slice-aggregate-step-2 : tie.Need-slice-aggregate-step-2 Inv-loop μ-loop
-slice-aggregate-step-2 c = let k = c .before .before .before .before .before in part-long _ (k .loop .top) (evens-le k)
-
-array-borrow-prefix-bottom : tie.Need-array-borrow-prefix-bottom Inv-loop μ-loop
-array-borrow-prefix-bottom c = odds-le (c .before .before .before .before .before)
-
-slice-aggregate-step-3 : tie.Need-slice-aggregate-step-3 Inv-loop μ-loop
-slice-aggregate-step-3 c = let k = c .before .before .before .before .before .before in part-long _ (k .loop .bottom) (odds-le k)
-
-slice-aggregate-step-4 : tie.Need-slice-aggregate-step-4 Inv-loop μ-loop
-slice-aggregate-step-4 c = c .before .before .before .before .before .before .before .loop .inv .3 .y-long
-
-slice-aggregate-step-5 : tie.Need-slice-aggregate-step-5 Inv-loop μ-loop
-slice-aggregate-step-5 c = c .before .before .before .before .before .before .before .before .loop .inv .3 .z-long
 
 step-requires : tie.Need-step-requires Inv-loop μ-loop
 step-requires c κs =
@@ -204,12 +143,6 @@ step-requires c κs =
       ),
     )
 
-sub-left : tie.Need-sub-left Inv-loop μ-loop
-sub-left c = omega arith
-
-loop-less : tie.Need-loop-less Inv-loop μ-loop
-loop-less c = omega arith
-
 loop-again : tie.Need-loop-again Inv-loop μ-loop
 loop-again c =
     let t = c .before .before .before .before .before .before in
@@ -221,8 +154,8 @@ loop-again c =
       c .before .before .before .before .frames .given .1 ∙ k .loop .inv .1,
       front-same (half s) (kept k) (t .step .last .1 .1 .1 .0) (held-le k) (c .before .before .before .before .before .held2 .given) ∙ k .loop .inv .2,
       record {
-        top-long = k .loop .inv .3 .top-long ∙ sym (front-same (half s) (k .loop .top) (t .step .last .1 .1 .1 .1 .1 .0) (evens-le k) (c .before .before .before .top2 .given));
-        bottom-long = k .loop .inv .3 .bottom-long ∙ sym (front-same (half s) (k .loop .bottom) (t .step .last .1 .1 .1 .1 .1 .1 .0) (odds-le k) (c .before .before .bottom2 .given));
+        top-long = k .loop .inv .3 .top-long ∙ sym (front-same (half s) (k .loop .top) (t .step .last .1 .1 .1 .1 .1 .0) (halves-le k .0) (c .before .before .before .top2 .given));
+        bottom-long = k .loop .inv .3 .bottom-long ∙ sym (front-same (half s) (k .loop .bottom) (t .step .last .1 .1 .1 .1 .1 .1 .0) (halves-le k .1) (c .before .before .bottom2 .given));
         y-long = sym (c .before .y2 .given);
         z-long = sym (c .z2 .given);
       },
@@ -230,48 +163,6 @@ loop-again c =
           (t .step .ensures .1 ∙ ap (frame (N s) (take (half s) (kept k))) same)
           (front (half s) (t .step .last .1 .1 .1 .0) (drop (half s) (kept k)) (ap length (t .step .ensures .0) ∙ length-held (N s) _ ∙ sym (halved s)) ∙ t .step .ensures .0 ∙ ap (held (N s)) same),
     )
-
-array-share-prefix-zeros : tie.Need-array-share-prefix-zeros Inv-loop μ-loop
-array-share-prefix-zeros c = zeros-le c
-
-slice-aggregate-step-6 : tie.Need-slice-aggregate-step-6 Inv-loop μ-loop
-slice-aggregate-step-6 c = part-long _ (c .before .zero-block .result) (zeros-le (c .before))
-
-array-borrow-prefix-held-2 : tie.Need-array-borrow-prefix-held-2 Inv-loop μ-loop
-array-borrow-prefix-held-2 c = held-le (c .before .before .before)
-
-slice-aggregate-step-7 : tie.Need-slice-aggregate-step-7 Inv-loop μ-loop
-slice-aggregate-step-7 c = let k = c .before .before .before .before in part-long _ (kept k) (held-le k)
-
-mul-step-3 : tie.Need-mul-step-3 Inv-loop μ-loop
-mul-step-3 c = record { fits = omega (arith, place-le (c .before .before .before .before)) }
-
-sub-step-3 : tie.Need-sub-step-3 Inv-loop μ-loop
-sub-step-3 c = omega (arith, last-at (c .before .before))
-
-part-step-start-3 : tie.Need-part-step-start-3 Inv-loop μ-loop
-part-step-start-3 c = omega (arith, last-at (c .before .before))
-
-part-step-end-3 : tie.Need-part-step-end-3 Inv-loop μ-loop
-part-step-end-3 c = omega arith
-
-array-borrow-prefix-top-2 : tie.Need-array-borrow-prefix-top-2 Inv-loop μ-loop
-array-borrow-prefix-top-2 c = evens-le (c .before .before .before .before .before)
-
-slice-aggregate-step-8 : tie.Need-slice-aggregate-step-8 Inv-loop μ-loop
-slice-aggregate-step-8 c = let k = c .before .before .before .before .before .before in part-long _ (k .loop .top) (evens-le k)
-
-array-borrow-prefix-bottom-2 : tie.Need-array-borrow-prefix-bottom-2 Inv-loop μ-loop
-array-borrow-prefix-bottom-2 c = odds-le (c .before .before .before .before .before .before)
-
-slice-aggregate-step-9 : tie.Need-slice-aggregate-step-9 Inv-loop μ-loop
-slice-aggregate-step-9 c = let k = c .before .before .before .before .before .before .before in part-long _ (k .loop .bottom) (odds-le k)
-
-slice-aggregate-step-10 : tie.Need-slice-aggregate-step-10 Inv-loop μ-loop
-slice-aggregate-step-10 c = c .before .before .before .before .before .before .before .before .loop .inv .3 .y-long
-
-slice-aggregate-step-11 : tie.Need-slice-aggregate-step-11 Inv-loop μ-loop
-slice-aggregate-step-11 c = c .before .before .before .before .before .before .before .before .before .loop .inv .3 .z-long
 
 step-requires-2 : tie.Need-step-requires-2 Inv-loop μ-loop
 step-requires-2 c κs =
@@ -297,9 +188,6 @@ step-requires-2 c κs =
       ),
     )
 
-same-length : tie.Need-same-length Inv-loop μ-loop
-same-length c = let k = over (c .before .before .before .before .before .before .before .before .before .before .before .before .before .before) in c .before .before .before .before .frames2 .given .1 ∙ k .loop .inv .1 ∙ sym (from k .pre .1 .1 .0)
-
 returns : tie.Need-returns Inv-loop μ-loop
 returns c =
     let z = c .before .before .before .before .before .before .before .before .before .before .before .before .before .before in
@@ -319,44 +207,44 @@ frames-with-spec =
     (λ c κs. tt)
     (λ c κs. tt)
     (λ c κs. tt)
-    div-left
+    (λ c. let s = c .before .before .before .before .before in width-pos (N s) (s .pre .1 .0 .wide))
     loop-holds
-    add-end
-    mul-step
-    sub-step
-    part-step-start
-    part-step-end
-    array-borrow-prefix-held
-    slice-aggregate-step
-    mul-step-2
-    sub-step-2
-    part-step-start-2
-    part-step-end-2
-    array-borrow-prefix-top
-    slice-aggregate-step-2
-    array-borrow-prefix-bottom
-    slice-aggregate-step-3
-    slice-aggregate-step-4
-    slice-aggregate-step-5
+    (λ c. record { fits = omega (arith, in-readings c, few (from (at c))) })
+    (λ c. record { fits = omega (arith, in-readings c, few (from (at c))) })
+    (λ c. omega arith)
+    (λ c. omega arith)
+    (λ c. in-readings c)
+    (λ c. held-le (c .before .before))
+    (λ c. let k = c .before .before .before in part-long _ (kept k) (held-le k))
+    (λ c. let k = c .before .before .before in record { fits = omega (arith, k .loop .inv .0, few (from k)) })
+    (λ c. omega arith)
+    (λ c. omega arith)
+    (λ c. in-frames (c .before .before))
+    (λ c. halves-le (c .before .before .before .before) .0)
+    (λ c. let k = c .before .before .before .before .before in part-long _ (k .loop .top) (halves-le k .0))
+    (λ c. halves-le (c .before .before .before .before .before) .1)
+    (λ c. let k = c .before .before .before .before .before .before in part-long _ (k .loop .bottom) (halves-le k .1))
+    (λ c. c .before .before .before .before .before .before .before .loop .inv .3 .y-long)
+    (λ c. c .before .before .before .before .before .before .before .before .loop .inv .3 .z-long)
     step-requires
-    sub-left
-    loop-less
+    (λ c. omega arith)
+    (λ c. omega arith)
     loop-again
     (λ c κs. tt)
-    array-share-prefix-zeros
-    slice-aggregate-step-6
-    array-borrow-prefix-held-2
-    slice-aggregate-step-7
-    mul-step-3
-    sub-step-3
-    part-step-start-3
-    part-step-end-3
-    array-borrow-prefix-top-2
-    slice-aggregate-step-8
-    array-borrow-prefix-bottom-2
-    slice-aggregate-step-9
-    slice-aggregate-step-10
-    slice-aggregate-step-11
+    (λ c. zeros-le c)
+    (λ c. part-long _ (c .before .zero-block .result) (zeros-le (c .before)))
+    (λ c. held-le (c .before .before .before))
+    (λ c. let k = c .before .before .before .before in part-long _ (kept k) (held-le k))
+    (λ c. let k = c .before .before .before .before in record { fits = omega (arith, k .loop .inv .0, few (from k)) })
+    (λ c. omega (arith, last-at (c .before .before)))
+    (λ c. omega (arith, last-at (c .before .before)))
+    (λ c. omega arith)
+    (λ c. halves-le (c .before .before .before .before .before) .0)
+    (λ c. let k = c .before .before .before .before .before .before in part-long _ (k .loop .top) (halves-le k .0))
+    (λ c. halves-le (c .before .before .before .before .before .before) .1)
+    (λ c. let k = c .before .before .before .before .before .before .before in part-long _ (k .loop .bottom) (halves-le k .1))
+    (λ c. c .before .before .before .before .before .before .before .before .loop .inv .3 .y-long)
+    (λ c. c .before .before .before .before .before .before .before .before .before .loop .inv .3 .z-long)
     step-requires-2
-    same-length
+    (λ c. let k = over (c .before .before .before .before .before .before .before .before .before .before .before .before .before .before) in c .before .before .before .before .frames2 .given .1 ∙ k .loop .inv .1 ∙ sym (from k .pre .1 .1 .0))
     returns)

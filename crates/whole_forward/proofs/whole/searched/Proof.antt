@@ -8,6 +8,7 @@ use lib.IntN.{ℤ}
 use lib.ListN.{length, take, drop}
 use Rattle.frames.proofs.FrameLaws.{width-in-fours}
 use Rattle.gate.specs.Own.Faults.{faultOf, firstFault}
+use Rattle.runs.specs.Record.{blockLimit}
 use Rattle.runs.proofs.RecordLaws.{width-le, width-pos}
 use Rattle.gate.proofs.FaultLaws.{few-readings, block-next, block-in, block-long, part-is, dead-place, beyond-place, dead-here, beyond-here, clear-here, none-left}
 use Rattle.whole_forward.proofs.whole.searched.Statement.{statement}
@@ -37,7 +38,7 @@ module _ (i : tie.In-loop Inv-loop μ-loop) where
   inner : place + N from ≤ length (readings from)
   inner = block-in place (i .before .loop .left) (N from) _ (i .before .loop .inv .0) (i .loop-test .taken)
 
-  end-le : place + N from ≤ 8388608
+  end-le : place + N from ≤ blockLimit * 128
   end-le = omega (arith, inner, few-readings (N from) (readings from) (from .pre))
 
 module _ (f : tie.After-fault-of Inv-loop μ-loop) where

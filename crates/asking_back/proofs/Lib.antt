@@ -1,0 +1,4 @@
+pub mod FrameCounts
+pub mod PlacedLaws
+pub mod RoomLaws
+pub mod Undoing

@@ -1,0 +1,140 @@
+// Every frame of a whole run back is asked, and nothing is written: the answer of the first refused call.
+ghost use mathlib.Core.Path.{_≡_};
+ghost use Prim.Native.Nat.{_-_, _*_, _≤_};
+ghost use lib.IntN.{pos};
+ghost use lib.ListN.{length};
+ghost use Rattle.tables.specs.Widths.{halfWidth};
+ghost use Rattle.width_tables.specs.Filled.{Filled};
+ghost use Rattle.width_tables.specs.Own.Parts.{Halves, Room};
+ghost use Rattle.runs.specs.Answers.{told, firstBeyond};
+ghost use Rattle.runs.specs.Record.{frameLimit, zeros};
+ghost use Rattle.runs.specs.Answers;
+ghost use Rattle.runs.specs.WholeBack.{firstAnswer};
+ghost use Rattle.asking_back.specs.Own.Ready.{Frames, toldHeld};
+use frames::step;
+use frames::undo;
+use gate::questions;
+use runs::answer::Answer;
+use runs::answer::Found;
+use runs::record;
+use slices::room;
+
+// An answer with its place counted through the run; 12 counts by blocks.
+fn placed(width: usize, offset: usize, answer: Answer) -> Answer
+    requires { ⌜ (offset ≤ frameLimit * 128) × (told answer .1 ≤ 128) ⌝ }
+    ensures { λ r. ⌜ told r ≡ Answers.placed width offset (told answer) ⌝ }
+{
+    match answer {
+        Answer::DeadMark(i) => Answer::DeadMark(offset + i),
+        Answer::Range(i) => Answer::Range(offset + i),
+        Answer::Folded(i) => Answer::Folded(offset + i),
+        Answer::Halves(i) => Answer::Halves(offset + i),
+        Answer::Unfolded(i) => {
+            if offset < width {
+                return Answer::Unfolded(i);
+            }
+            Answer::Unfolded(offset - width + i)
+        }
+        Answer::Done => Answer::Done,
+        Answer::Width => Answer::Width,
+        Answer::Record => Answer::Record,
+        Answer::Closed => Answer::Closed,
+        Answer::Full => Answer::Full,
+        Answer::Empty => Answer::Empty,
+        Answer::InputLength => Answer::InputLength,
+        Answer::OutputLength => Answer::OutputLength,
+    }
+}
+
+// Question 11 at the finish, which counts with the last frame.
+fn ended(offset: usize, held: &[i64]) -> Answer
+    requires { ⌜ (offset ≤ frameLimit * 128) × (length (now held) ≤ 64) ⌝ }
+    ensures { λ r. ⌜ told r ≡ toldHeld offset (firstBeyond (pos 0) (now (held .entry)) 0) ⌝ }
+{
+    let lower = questions::first_beyond(held, 0);
+    if let Found::At(place) = lower {
+        return Answer::Halves(offset + place);
+    }
+    Answer::Done
+}
+
+// The answer of the first refused call of a fresh run. block is room for what a frame writes, and what follows it is room to work in.
+fn answer_of(
+    width: usize,
+    t: &[i64],
+    frames: &[i32],
+    held: &mut [i64],
+    block: &mut [i32],
+    folded: &mut [i64],
+    wide: &mut [i64],
+    top: &mut [i64],
+    bottom: &mut [i64],
+    y: &mut [i64],
+    z: &mut [i64],
+) -> Answer
+    requires { ⌜ Filled width (now t) ⌝ }
+    requires { ⌜ now held ≡ zeros (halfWidth width) ⌝ }
+    requires { ⌜ Frames width (now frames) ⌝ }
+    requires { ⌜ (length (now folded) ≡ width) × (length (now wide) ≡ width) × (length (now block) ≡ width) ⌝ }
+    requires { ⌜ Halves width (now top) (now bottom) ⌝ }
+    requires { ⌜ Room width (now y) (now z) ⌝ }
+    ensures { λ r. ⌜ told r ≡ firstAnswer width (now (frames .entry)) (zeros (length (now (frames .entry)) - width)) ⌝ }
+{
+    let mut at = 0;
+    let mut count = 0;
+    let mut left = frames.len() / width;
+    while 0 < left {
+        let end = at + width;
+        let answer = undo::undo(
+            width,
+            count,
+            t,
+            &frames[at..end],
+            held,
+            block,
+            folded,
+            wide,
+            top,
+            bottom,
+            y,
+            z,
+        );
+        if runs::answer::number(answer) != 0 {
+            return placed(width, at, answer);
+        }
+        at = end;
+        count += 1;
+        left -= 1;
+    }
+    ended(at - width, held)
+}
+
+// The same, in room of its own.
+pub fn first_answer(width: usize, t: &[i64], frames: &[i32]) -> Answer
+    requires { ⌜ Filled width (now t) ⌝ }
+    requires { ⌜ Frames width (now frames) ⌝ }
+    ensures { λ r. ⌜ told r ≡ firstAnswer width (now (frames .entry)) (zeros (length (now (frames .entry)) - width)) ⌝ }
+{
+    let half = width / 2;
+    let mut held = record::nothing_held();
+    let mut block = step::zero_block();
+    let mut folded = room::of_128();
+    let mut wide = room::of_128();
+    let mut top = room::of_64();
+    let mut bottom = room::of_64();
+    let mut y = room::of_648();
+    let mut z = room::of_648();
+    answer_of(
+        width,
+        t,
+        frames,
+        &mut held[..half],
+        &mut block[..width],
+        &mut folded[..width],
+        &mut wide[..width],
+        &mut top[..half],
+        &mut bottom[..half],
+        &mut y,
+        &mut z,
+    )
+}

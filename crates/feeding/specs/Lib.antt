@@ -1,0 +1,9 @@
+pub mod Program
+pub mod Feed
+pub mod Lines
+pub mod Budget
+pub mod Theorems
+pub mod Ending
+pub mod Text
+pub mod TextTheorems
+pub mod Own

@@ -1,0 +1,2 @@
+-- Serves the code and the proofs; no promise cites it.
+pub mod Behind

@@ -1,0 +1,3 @@
+pub mod Piece
+pub mod Run
+pub mod Own

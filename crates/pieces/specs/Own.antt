@@ -1,0 +1,3 @@
+-- Serves the code alone; no promise cites it.
+pub mod Gathers
+pub mod Refills

@@ -1,0 +1,28 @@
+-- A whole run, for every program: what its loop keeps, and what holds where it ends.
+use mathlib.Core.Path.{_≡_}
+use mathlib.Core.List.{List, _++_}
+use Prim.Native.Nat.{ℕ}
+use lib.ListN.{take}
+use Rattle.feeding.specs.Program.{Program}
+use Rattle.feeding.specs.Feed.{begun, fed, ended}
+use Rattle.feeding.specs.Lines.{printedOf}
+use Rattle.pieces.specs.Piece.{Place, reader}
+
+-- A run that began in s has come to p by the bytes that it read, and has written all that they print.
+pub record Came (P : Program) (s : P .State) (line : List ℕ) (p : Place P) : Type 0 where
+  pub read : List ℕ
+  pub written : List ℕ
+  pub is : reader P (p .state) (take (p .had) line) written ≡ fed P (begun P s) read
+
+-- What it read are the pieces before and this one up to its place, one after another.
+pub record Ran (P : Program) (s : P .State) (piece line : List ℕ) (p : Place P) : Type 0 where
+  pub before : List ℕ
+  pub written : List ℕ
+  pub is : reader P (p .state) (take (p .had) line) written ≡ fed P (begun P s) (before ++ take (p .at) piece)
+
+-- The end of a run: the bytes that wait are the last that it writes.
+pub record Whole (P : Program) (s : P .State) (r : Place P) (out : List ℕ) : Type 0 where
+  pub read : List ℕ
+  pub written : List ℕ
+  pub prints : written ++ take (r .waiting) out ≡ printedOf P s read
+  pub ends : r .state ≡ ended P (fed P (begun P s) read) .0

@@ -1,0 +1,25 @@
+-- `stream::piece::hand_on` meets its contract.
+use borrow.Author.Needs.{needs}
+use native.Mathlib.Omega.{arith}
+use Rattle.pieces.proofs.PieceLaws.{hands-on}
+use Rattle.feeding.specs.Text.{textProgram}
+use Rattle.stream.proofs.TextLaws.{line-given}
+use Rattle.stream.proofs.piece.hand_on.Statement.{statement}
+use Rattle.stream.proofs.piece.hand_on.Tie as tie
+
+take-requires : tie.Need-take-requires
+take-requires c κs = search needs
+
+put-requires : tie.Need-put-requires
+put-requires c κs = search needs
+
+same-length : tie.Need-same-length
+same-length c = search needs
+
+returns : tie.Need-returns
+returns c =
+    let t = c .before .before .before .before in
+    hands-on textProgram _ _ _ _ _ (c .before .before .put .ensures) (line-given _ _ _ (omega arith) (t .take .ensures .0))
+
+pub hand-on-spec : {M : Type 1} → statement M
+hand-on-spec = tie.close (tie.spec take-requires put-requires same-length returns)

@@ -1,0 +1,143 @@
+-- `stream::run::run` meets its contract, and ends: each turn counts down the bytes that the program still accepts.
+use borrow.Author.Needs.{needs}
+use native.Mathlib.Omega.{arith}
+use mathlib.Core.Path.{_≡_, refl, sym, _∙_}
+use mathlib.Core.Logic.{inl, inr, ⊎-elim}
+use lib.ListN.{length}
+use Rattle.feeding.specs.Text.{sessionBegun, textProgram}
+use Rattle.feeding.proofs.LinesLeft.{text-bounded}
+use Rattle.pieces.proofs.SliceLaws.{part-long}
+use Rattle.pieces.proofs.TurnLaws.{Turns, turnsLeft, turns-first, turns-came, turn-begins, turn-again, turn-less}
+use Rattle.stream.specs.Text.{textLimits, placeOf}
+use Rattle.stream.proofs.run.run.Statement.{statement}
+use Rattle.stream.proofs.run.run.Tie as tie
+
+abbrev Inv-loop : tie.InvT-loop
+Inv-loop way input output buffer₀ line₀ out₀ progress₀ count₀ lost₀ on₀ buffer line out progress count lost on =
+    Turns textProgram textLimits (sessionBegun way) buffer line out (placeOf progress) count lost on × (length buffer ≡ length buffer₀) × (length out ≡ 65536)
+
+abbrev μ-loop : tie.MeasureT-loop
+μ-loop way input output buffer₀ line₀ out₀ progress₀ count₀ lost₀ on₀ buffer line out progress count lost on =
+    turnsLeft textProgram text-bounded line (placeOf progress) on
+
+large-buffer-requires : tie.Need-large-buffer-requires Inv-loop μ-loop
+large-buffer-requires c κs = search needs
+
+begin-requires : tie.Need-begin-requires Inv-loop μ-loop
+begin-requires c κs = search needs
+
+loop-holds : tie.Need-loop-holds Inv-loop μ-loop
+loop-holds c = (turns-first textProgram _ _ _ (c .begin .ensures) tt (search needs) (search needs), refl, search needs)
+
+refill-requires : tie.Need-refill-requires Inv-loop μ-loop
+refill-requires c κs = search needs
+
+slice-reshare-prefix-take : tie.Need-slice-reshare-prefix-take Inv-loop μ-loop
+slice-reshare-prefix-take c = search needs
+
+slice-aggregate-take : tie.Need-slice-aggregate-take Inv-loop μ-loop
+slice-aggregate-take c = part-long _ _ (omega (arith, c .before .before .before .before .refill .ensures .fits, c .before .before .before .buffer .given))
+
+slice-aggregate-take-2 : tie.Need-slice-aggregate-take-2 Inv-loop μ-loop
+slice-aggregate-take-2 c = search needs
+
+slice-aggregate-take-3 : tie.Need-slice-aggregate-take-3 Inv-loop μ-loop
+slice-aggregate-take-3 c = search needs
+
+take-requires : tie.Need-take-requires Inv-loop μ-loop
+take-requires c κs =
+    let f = c .before .before .before .before .before .before in
+    turn-begins textProgram (f .before .before .before .loop .inv .0) (f .refill .ensures) (c .before .before .before .before .before .buffer .given)
+
+array-share-prefix-out : tie.Need-array-share-prefix-out Inv-loop μ-loop
+array-share-prefix-out c = search needs
+
+slice-aggregate-write : tie.Need-slice-aggregate-write Inv-loop μ-loop
+slice-aggregate-write c = part-long _ _ (omega (arith, c .before .before .before .take .ensures .within .room))
+
+write-requires : tie.Need-write-requires Inv-loop μ-loop
+write-requires c κs = search needs
+
+lost-requires : tie.Need-lost-requires Inv-loop μ-loop
+lost-requires c κs = search needs
+
+is-over-requires : tie.Need-is-over-requires Inv-loop μ-loop
+is-over-requires c κs = search needs
+
+goes-on-requires : tie.Need-goes-on-requires Inv-loop μ-loop
+goes-on-requires c κs = search needs
+
+-- the step, and the read before it
+abbrev turned : tie.After-goes-on Inv-loop μ-loop → tie.After-take Inv-loop μ-loop
+turned c = c .before .before .before .before .before .before .before .before
+
+abbrev filled : tie.After-take Inv-loop μ-loop → tie.After-refill Inv-loop μ-loop
+filled t = t .before .before .before .before .before .before .before
+
+loop-less : tie.Need-loop-less Inv-loop μ-loop
+loop-less c =
+    let t = turned c in
+    let f = filled t in
+    turn-less textProgram (f .before .before .before .loop .inv .0) (f .refill .ensures) (t .before .before .before .before .before .before .buffer .given) (f .before .before .loop-test .taken) (t .take .ensures) text-bounded
+    (λ e. let g = c .goes-on .ensures e in (g .0, sym (c .before .is-over .ensures) ∙ g .2))
+
+loop-again : tie.Need-loop-again Inv-loop μ-loop
+loop-again c =
+    let t = turned c in
+    let f = filled t in (
+      turn-again textProgram (f .before .before .before .loop .inv .0) (f .refill .ensures) (t .before .before .before .before .before .before .buffer .given) (f .before .before .loop-test .taken) (t .take .ensures) (search needs) (search needs) (λ e. c .goes-on .ensures e .1),
+      search needs,
+      search needs,
+    )
+
+same-length : tie.Need-same-length Inv-loop μ-loop
+same-length c = search needs
+
+returns : tie.Need-returns Inv-loop μ-loop
+returns c = inl refl
+
+slice-aggregate-finish : tie.Need-slice-aggregate-finish Inv-loop μ-loop
+slice-aggregate-finish c = search needs
+
+slice-aggregate-finish-2 : tie.Need-slice-aggregate-finish-2 Inv-loop μ-loop
+slice-aggregate-finish-2 c = search needs
+
+finish-requires : tie.Need-finish-requires Inv-loop μ-loop
+finish-requires c κs = (turns-came textProgram (c .before .before .before .before .loop .inv .0) (c .before .before .if1 .left), search needs)
+
+same-length-2 : tie.Need-same-length-2 Inv-loop μ-loop
+same-length-2 c = search needs
+
+returns-2 : tie.Need-returns-2 Inv-loop μ-loop
+returns-2 c = ⊎-elim inl (λ e. inr (_, e)) (c .before .finish .ensures .ending)
+
+pub run-spec : {M : Type 1} → statement M
+run-spec =
+    tie.close
+    (tie.spec
+    Inv-loop
+    μ-loop
+    large-buffer-requires
+    begin-requires
+    loop-holds
+    refill-requires
+    slice-reshare-prefix-take
+    slice-aggregate-take
+    slice-aggregate-take-2
+    slice-aggregate-take-3
+    take-requires
+    array-share-prefix-out
+    slice-aggregate-write
+    write-requires
+    lost-requires
+    is-over-requires
+    goes-on-requires
+    loop-less
+    loop-again
+    same-length
+    returns
+    slice-aggregate-finish
+    slice-aggregate-finish-2
+    finish-requires
+    same-length-2
+    returns-2)

@@ -1,0 +1,83 @@
+// The loop of the text programs: read, call, write, while it goes on. Nothing here decides anything about lines.
+ghost use mathlib.Core.Path.{_≡_};
+ghost use Prim.Native.Nat.{_≤_};
+ghost use lib.ListN.{length};
+ghost use Rattle.pieces.specs.Run.{Came};
+ghost use Rattle.feeding.specs.Text.{sessionBegun, textProgram};
+ghost use Rattle.stream.specs.Text.{placeOf};
+ghost use Rattle.stream.specs.Run.{Finished, EndedAs};
+use crate::piece;
+use crate::piece::Progress;
+use crate::session;
+use pieces::reading;
+use pieces::writing;
+use text_runs::state::Way;
+use text_state::ending;
+use feeding::session::Ending;
+
+// The end of the input. Where the last of it cannot be written, the run did not end.
+fn finish(way: Way, output: i32, line: &[u8], out: &mut [u8], progress: Progress) -> Ending
+    requires { ⌜ Came textProgram (sessionBegun way) (now line) (placeOf progress) ⌝ }
+    requires { ⌜ (length (now line) ≡ 2048) × (progress .had ≤ 2048) × (progress .waiting ≡ 0) × (4096 ≤ length (now out)) ⌝ }
+    ensures { λ r. ⌜ Finished way r (now (out .exit)) ⌝ }
+{
+    let ended = piece::end(line, out, progress);
+    let n = ended.waiting;
+    let last = ended.session;
+    if writing::write(output, &out[..n]) {
+        return last.ending;
+    }
+    Ending::Open
+}
+
+// Reads pieces of at most the buffer's length, each answered before the next one, so that a live input is answered as it comes.
+pub fn run(way: Way, input: i32, output: i32, buffer: &mut [u8]) -> Ending
+    ensures { λ r. ⌜ EndedAs way r ⌝ }
+{
+    let mut line = [0u8; 2048];
+    let mut out = io::large_buffer();
+    let fresh = session::begin(way);
+    let mut progress = Progress {
+        session: fresh,
+        had: 0,
+        waiting: 0,
+        at: 0,
+    };
+    let mut count = 0;
+    let mut lost = false;
+    let mut on = true;
+    while on {
+        let filled = reading::refill(input, buffer, count, progress.at);
+        count = filled.count;
+        let session = progress.session;
+        let begun = Progress {
+            session: session,
+            had: progress.had,
+            waiting: 0,
+            at: filled.at,
+        };
+        let taken = piece::take(&buffer[..count], &mut line, &mut out, begun);
+        let waiting = taken.waiting;
+        let written = writing::write(output, &out[..waiting]);
+        let after = taken.session;
+        progress = Progress {
+            session: after,
+            had: taken.had,
+            waiting: 0,
+            at: taken.at,
+        };
+        lost = reading::lost(filled.failed, written);
+        on = reading::goes_on(count, lost, session::is_over(after));
+    }
+    if lost {
+        return Ending::Open;
+    }
+    finish(way, output, &line, &mut out, progress)
+}
+
+// A refusal's line on standard error, for whoever keeps standard output.
+pub fn tell(ending: Ending) {
+    let mut text = [0u8; 64];
+    let n = ending::refusal_line(ending, &mut text);
+    io::write_all(libc::STDERR_FILENO, &text[..n]);
+}

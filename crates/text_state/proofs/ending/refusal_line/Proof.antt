@@ -1,0 +1,81 @@
+-- `text_state::ending::refusal_line` meets its contract.
+use borrow.Author.Needs.{needs}
+use native.Mathlib.Omega.{arith}
+use mathlib.Core.Path.{sym, ap, _∙_}
+use mir.Syntax.{w32}
+use Rattle.integers.proofs.Held.{held-ok}
+use Rattle.decimal.proofs.PutLaws.{put-none, put-as, put-then}
+use Rattle.text_runs.specs.Lines.{refusedTag}
+use Rattle.feeding.specs.Ending.{refusalLine}
+use Rattle.text_state.proofs.EndingLaws.{refused-as}
+use Rattle.text_state.proofs.ending.refusal_line.Statement.{statement}
+use Rattle.text_state.proofs.ending.refusal_line.Tie as tie
+
+enum-told : tie.Need-enum-told
+enum-told c = search needs
+
+enum-told-2 : tie.Need-enum-told-2
+enum-told-2 c = search needs
+
+enum-known-ending : tie.Need-enum-known-ending
+enum-known-ending c = search needs
+
+slice-aggregate-bytes : tie.Need-slice-aggregate-bytes
+slice-aggregate-bytes c = search needs
+
+bytes-requires : tie.Need-bytes-requires
+bytes-requires c κs = search needs
+
+slice-aggregate-numbers : tie.Need-slice-aggregate-numbers
+slice-aggregate-numbers c = search needs
+
+numbers-requires : tie.Need-numbers-requires
+numbers-requires c κs = search needs
+
+slice-aggregate-bytes-2 : tie.Need-slice-aggregate-bytes-2
+slice-aggregate-bytes-2 c = search needs
+
+bytes-requires-2 : tie.Need-bytes-requires-2
+bytes-requires-2 c κs = search needs
+
+returns : tie.Need-returns
+unfolding refusalLine
+returns c = (put-as _ _ _ _ (sym (ap refusalLine (c .enum-told .given .1))) (put-none _ _), omega arith)
+
+returns-2 : tie.Need-returns-2
+unfolding refusalLine
+returns-2 c = (put-as _ _ _ _ (sym (ap refusalLine (c .enum-told2 .given .1))) (put-none _ _), omega arith)
+
+same-length : tie.Need-same-length
+same-length c = search needs
+
+returns-3 : tie.Need-returns-3
+unfolding refusalLine refusedTag
+returns-3 c =
+    let n = c .before .before .before .before .before .before .before in
+    let b = n .before .before .before .before .before in
+    let t = b .before .before .before in
+    let x = t .before .ending .given in
+    let same = refused-as (held-ok w32 _ (t .known-told .given .0 .1) .is) (held-ok w32 _ (t .known-told .given .1 .0 .1) .is) (held-ok w32 _ (t .known-told .given .1 .1 .0 .1) .is) in
+    (
+      put-as _ _ _ _ (ap refusalLine same ∙ sym (ap refusalLine (x .1))) (put-then (b .bytes .ensures) (put-then (n .numbers2 .ensures .0) (c .before .before .bytes2 .ensures))),
+      omega (arith, b .bytes .ensures .count, n .numbers2 .ensures .1, c .before .before .bytes2 .ensures .count),
+    )
+
+pub refusal-line-spec : {M : Type 1} → statement M
+refusal-line-spec =
+    tie.close
+    (tie.spec
+    enum-told
+    enum-told-2
+    enum-known-ending
+    slice-aggregate-bytes
+    bytes-requires
+    slice-aggregate-numbers
+    numbers-requires
+    slice-aggregate-bytes-2
+    bytes-requires-2
+    returns
+    returns-2
+    same-length
+    returns-3)
