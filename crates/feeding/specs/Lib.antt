@@ -6,4 +6,5 @@ pub mod Theorems
 pub mod Ending
 pub mod Text
 pub mod TextTheorems
+pub mod Samples
 pub mod Own

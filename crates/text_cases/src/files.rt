@@ -1,0 +1,54 @@
+// Files that a run is written to, and read from again.
+use decimal::compare;
+use decimal::print;
+
+// A file of its own, which is gone with the program.
+pub fn temporary() -> i32 {
+    let mut name = [0u8; 18];
+    print::bytes(&mut name, 0, b"/tmp/lapped.XXXXXX");
+    let made = os::create_temp(&mut name);
+    if made < 0 {
+        os::fail(b"a temporary file");
+    }
+    os::unlink(&name);
+    made
+}
+
+pub fn rewind(file: i32) {
+    libc::lseek(file, 0, libc::SEEK_SET);
+}
+
+pub fn empty(file: i32) {
+    libc::ftruncate(file, 0);
+    rewind(file);
+}
+
+// Whether two files have the same bytes, up to 16 MB.
+pub fn same(one: i32, other: i32) -> bool {
+    rewind(one);
+    rewind(other);
+    let mut x = io::buffer();
+    let mut y = io::buffer();
+    let mut turns = 4096;
+    while 0 < turns {
+        let n = io::read_full(one, &mut x);
+        let m = io::read_full(other, &mut y);
+        if !compare::same(&x[..n], &y[..m]) {
+            return false;
+        }
+        if n == 0 {
+            return true;
+        }
+        turns -= 1;
+    }
+    false
+}
+
+pub fn say(same: bool, what: &[u8]) {
+    if same {
+        io::write_all(1, b"the same ");
+    } else {
+        io::write_all(1, b"NOT the same ");
+    }
+    io::write_all(1, what);
+}

@@ -1,0 +1,63 @@
+// A run of more than 300 KB, forward and back.
+ghost use Prim.Native.Nat.{_≤_};
+ghost use lib.ListN.{length};
+ghost use mathlib.Core.Path.{_≡_};
+use crate::files;
+use decimal::print;
+use stream::run;
+use text_runs::state::Way;
+
+const BLOCKS: usize = 9000;
+
+// A reading of block i, from -500 to 499.
+fn reading(i: usize, j: usize) -> i32
+    requires { ⌜ (i ≤ 9000) × (j ≤ 8) ⌝ }
+{
+    let n = (i * 37 + j * 113) % 1000;
+    n as i32 - 500
+}
+
+fn write_block(file: i32, i: usize)
+    requires { ⌜ i ≤ 9000 ⌝ }
+{
+    let mut block = [0i32; 8];
+    let mut j = 0;
+    while j < 8 {
+        block[j] = reading(i, j);
+        j += 1;
+    }
+    let mut text = [0u8; 128];
+    let n = print::numbers(&mut text, 0, &block);
+    let m = print::bytes(&mut text, n, b"\n");
+    io::write_all(file, &text[..m]);
+}
+
+fn write_run(file: i32) {
+    io::write_all(file, b"8\n");
+    let mut i = 0;
+    while i < BLOCKS {
+        write_block(file, i);
+        i += 1;
+    }
+    io::write_all(file, b"end,9000\n");
+}
+
+// The run forward into one file and back into another gives its own bytes again.
+pub fn show(one: i32, other: i32, length: usize)
+    requires { ⌜ length ≤ 65536 ⌝ }
+{
+    let mut buffer = io::large_buffer();
+    let readings = files::temporary();
+    write_run(readings);
+    files::rewind(readings);
+    files::empty(one);
+    run::run(Way::Forward, readings, one, &mut buffer[..length]);
+    files::rewind(one);
+    files::empty(other);
+    run::run(Way::Back, one, other, &mut buffer[..length]);
+    files::say(
+        files::same(readings, other),
+        b"after 9000 blocks forward and back\n",
+    );
+    libc::close(readings);
+}

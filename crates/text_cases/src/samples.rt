@@ -1,0 +1,80 @@
+// Runs that a list names.
+ghost use Prim.Native.Nat.{_≤_};
+use crate::files;
+use decimal::search;
+use stream::run;
+use text_runs::state::Way;
+
+// The lengths of the pieces, besides 65,536.
+fn piece_length(i: usize) -> usize
+    ensures { λ r. ⌜ r ≤ 65536 ⌝ }
+{
+    match i {
+        0 => 1,
+        1 => 7,
+        2 => 2047,
+        3 => 2048,
+        _ => 2049,
+    }
+}
+
+fn run_from(way: Way, name: &[u8], output: i32, length: usize)
+    requires { ⌜ length ≤ 65536 ⌝ }
+{
+    let opened = os::open_read(name);
+    if opened < 0 {
+        os::fail(name);
+        return;
+    }
+    let mut buffer = io::large_buffer();
+    run::run(way, opened, output, &mut buffer[..length]);
+    libc::close(opened);
+}
+
+// Whether the run prints the same in pieces of each length.
+fn agrees(way: Way, name: &[u8], one: i32, other: i32) -> bool {
+    files::empty(one);
+    run_from(way, name, one, 65536);
+    let mut i = 0;
+    while i < 5 {
+        files::empty(other);
+        run_from(way, name, other, piece_length(i));
+        if !files::same(one, other) {
+            return false;
+        }
+        i += 1;
+    }
+    true
+}
+
+fn show(way: Way, name: &[u8], one: i32, other: i32) {
+    io::write_all(1, name);
+    io::write_all(1, b"\n");
+    run_from(way, name, 1, 65536);
+    files::say(
+        agrees(way, name, one, other),
+        b"in pieces of 1, 7, 2047, 2048 and 2049 bytes\n",
+    );
+}
+
+// One on a line.
+fn show_each(way: Way, list: &[u8], one: i32, other: i32) {
+    let mut at = 0;
+    while at < list.len() {
+        let end = search::end_of(list, at, b'\n');
+        show(way, &list[at..end], one, other);
+        at = end + 1;
+    }
+}
+
+pub fn show_listed(way: Way, name: &[u8], one: i32, other: i32) {
+    let opened = os::open_read(name);
+    if opened < 0 {
+        os::fail(name);
+        return;
+    }
+    let mut buffer = io::buffer();
+    let n = io::read_full(opened, &mut buffer);
+    libc::close(opened);
+    show_each(way, &buffer[..n], one, other);
+}
