@@ -19,10 +19,10 @@ module _ (r : tie.After-of-722) where
   N = from .args .width
 
   abbrev array : List ℤ
-  array = r .before .before .before .before .of-274 .result
+  array = let at-of-274 = r .before .before .before .before in at-of-274 .of-274 .result
 
   abbrev long : ℕ
-  long = r .before .before .before .before .before .tables-long .result
+  long = let at-tables-long = r .before .before .before .before .before in at-tables-long .tables-long .result
 
   fits : Wide N 274 16 72
   fits = small-room N (from .pre .1 .0) (from .pre .0)
@@ -54,7 +54,7 @@ module _ (f : tie.After-y2) where
   given = record { top-long = room .before .before .before .of-16 .ensures; bottom-long = room .before .before .of-162 .ensures; y-long = sym (f .y2 .given); z-long = room .of-722 .ensures }
 
 array-borrow-prefix-t : tie.Need-array-borrow-prefix-t
-array-borrow-prefix-t c = tables-in (fits c) _ (c .before .before .before .before .before .tables-long .ensures) (array c) (c .before .before .before .before .of-274 .ensures)
+array-borrow-prefix-t c = let at-of-274 = c .before .before .before .before in tables-in (fits c) _ (at-of-274 .before .tables-long .ensures) (array c) (at-of-274 .of-274 .ensures)
 
 slice-aggregate-fill : tie.Need-slice-aggregate-fill
 slice-aggregate-fill c = let r = c .before in part-long _ (array r) (array-borrow-prefix-t r)
@@ -62,13 +62,20 @@ slice-aggregate-fill c = let r = c .before in part-long _ (array r) (array-borro
 fill-requires : tie.Need-fill-requires
 fill-requires c κs =
     let r = c .before .before in
-    fill-asks (fits r) _ (r .before .before .before .before .before .tables-long .ensures) (array r) (r .before .of-72 .result) (r .before .before .before .before .of-274 .ensures) (r .before .of-72 .ensures)
+    let at-of-274 = r .before .before .before .before in
+    fill-asks (fits r) _ (at-of-274 .before .tables-long .ensures) (array r) (r .before .of-72 .result) (at-of-274 .of-274 .ensures) (r .before .of-72 .ensures)
 
 array-share-prefix-t : tie.Need-array-share-prefix-t
-array-share-prefix-t c = let r = room c in filled-le _ (r .before .before .before .before .before .tables-long .ensures) (tables c) _ (filled c)
+array-share-prefix-t c =
+    let r = room c in
+    let at-tables-long = r .before .before .before .before .before in
+    filled-le _ (at-tables-long .tables-long .ensures) (tables c) _ (filled c)
 
 slice-aggregate-step : tie.Need-slice-aggregate-step
-slice-aggregate-step c = let r = room (c .before) in filled-long _ (r .before .before .before .before .before .tables-long .ensures) (tables (c .before)) _ (filled (c .before))
+slice-aggregate-step c =
+    let r = room (c .before) in
+    let at-tables-long = r .before .before .before .before .before in
+    filled-long _ (at-tables-long .tables-long .ensures) (tables (c .before)) _ (filled (c .before))
 
 array-borrow-prefix-top : tie.Need-array-borrow-prefix-top
 array-borrow-prefix-top c = let f = c .before .before .before in top-le (fits (room f)) (given f)
@@ -86,10 +93,11 @@ step-requires : tie.Need-step-requires
 step-requires c κs =
     let f = c .before .before .before .before .before .before .before in
     let r = room f in
+    let at-tables-long = r .before .before .before .before .before in
     let s = from r in (
       s .pre .1 .0,
       (
-        filled-lent _ (r .before .before .before .before .before .tables-long .ensures) (tables f) _ (filled f),
+        filled-lent _ (at-tables-long .tables-long .ensures) (tables f) _ (filled f),
         (s .pre .1 .1 .0, (lent-halves (fits r) (given f), (lent-room (fits r) (given f), s .pre .1 .1 .1))),
       ),
     )
@@ -120,6 +128,6 @@ in-small-room-spec =
     (λ c. search needs)
     (λ c. search needs)
     step-requires
-    (λ c. c .before .before .before .before .before .held .given)
-    (λ c. c .before .before .before .before .frame .given)
+    (λ c. let at-held = c .before .before .before .before .before in at-held .held .given)
+    (λ c. let at-frame = c .before .before .before .before in at-frame .frame .given)
     (λ c. search needs))

@@ -30,7 +30,7 @@ loop-holds : tie.Need-loop-holds Inv-loop μ-loop
 loop-holds c = (omega arith, filling-none _ _, c .within-turn2 .ensures ∙ ap (λ x. x % 1024) (omega arith))
 
 cosine-requires : tie.Need-cosine-requires Inv-loop μ-loop
-cosine-requires c κs = c .before .before .before .before .pre
+cosine-requires c κs = let start = c .before .before .before .before in start .pre
 
 mul-t8 : tie.Need-mul-t8 Inv-loop μ-loop
 mul-t8 c = search needs

@@ -19,7 +19,7 @@ same-length c = search needs
 
 returns : tie.Need-returns
 unfolding byWidth halfTangents halfTangents128
-returns c = c .before .minus .ensures ∙ half-tangents-minus 128 _ (c .before .before .before .before .pre)
+returns c = let start = c .before .before .before .before in c .before .minus .ensures ∙ half-tangents-minus 128 _ (start .pre)
 
 pub minus-128-spec : {M : Type 1} → statement M
 minus-128-spec = tie.close (tie.spec slice-aggregate-minus minus-requires same-length returns)

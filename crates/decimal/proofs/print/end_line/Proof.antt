@@ -14,14 +14,18 @@ bytes-requires : tie.Need-bytes-requires
 bytes-requires c κs = search needs
 
 natural-requires : tie.Need-natural-requires
-natural-requires c κs = omega (arith, c .before .before .before .bytes .ensures .count, decimal-within (c .before .before .before .before .before .before .before .args .count))
+natural-requires c κs =
+    let start = c .before .before .before .before .before .before .before in
+    omega (arith, c .before .before .before .bytes .ensures .count, decimal-within (start .args .count))
 
 same-length : tie.Need-same-length
 same-length c = search needs
 
 returns : tie.Need-returns
 returns c =
-    (put-as _ _ _ _ (end-is _) (put-then (c .before .before .before .before .before .before .bytes .ensures) (c .before .before .natural .ensures)), omega (arith, c .before .before .before .before .before .before .bytes .ensures .count, c .before .before .natural .ensures .count, decimal-within (c .before .before .before .before .before .before .before .before .before .before .args .count)))
+    let at-bytes = c .before .before .before .before .before .before in
+    let start = at-bytes .before .before .before .before in
+    (put-as _ _ _ _ (end-is _) (put-then (at-bytes .bytes .ensures) (c .before .before .natural .ensures)), omega (arith, at-bytes .bytes .ensures .count, c .before .before .natural .ensures .count, decimal-within (start .args .count)))
 
 pub end-line-spec : {M : Type 1} → statement M
 end-line-spec =

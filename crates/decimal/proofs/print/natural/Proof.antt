@@ -25,8 +25,8 @@ part-bytes-start c = search needs
 part-bytes-end : tie.Need-part-bytes-end
 part-bytes-end c = search needs
 
-text : (c : tie.After-bytes-arg2) → take (20 - c .before .before .before .before .digits .result) (drop (c .before .before .before .before .digits .result) (c .before .before .before .before .digits .last .1 .0)) ≡ decimal (c .before .before .before .before .before .before .before .args .n)
-text c = last-part (c .before .before .before .before .digits .result) _ _ (c .before .before .before .work2 .given) (c .before .before .before .before .digits .ensures .1)
+text : (c : tie.After-bytes-arg2) → let at-digits = c .before .before .before .before in take (20 - at-digits .digits .result) (drop (at-digits .digits .result) (at-digits .digits .last .1 .0)) ≡ decimal (at-digits .before .before .before .args .n)
+text c = let at-digits = c .before .before .before .before in last-part (at-digits .digits .result) _ _ (c .before .before .before .work2 .given) (at-digits .digits .ensures .1)
 
 bytes-requires : tie.Need-bytes-requires
 bytes-requires c κs = omega (arith, ap length (text c))
@@ -37,7 +37,8 @@ same-length c = search needs
 returns : tie.Need-returns
 returns c =
     let a = c .before .before .before in
-    subst (λ t. Put (c .before .before .before .before .before .before .before .before .before .before .args .at) (c .before .before .before .before .before .before .before .before .before .before .args .out .now) t (c .before .before .bytes .result) (c .before .before .bytes .last .0)) (text a) (c .before .before .bytes .ensures)
+    let start = a .before .before .before .before .before .before .before in
+    subst (λ t. Put (start .args .at) (start .args .out .now) t (c .before .before .bytes .result) (c .before .before .bytes .last .0)) (text a) (c .before .before .bytes .ensures)
 
 pub natural-spec : {M : Type 1} → statement M
 natural-spec =

@@ -13,16 +13,20 @@ bytes-requires : tie.Need-bytes-requires
 bytes-requires c κs = search needs
 
 natural-requires : tie.Need-natural-requires
-natural-requires c κs = omega (arith, c .before .before .before .bytes .ensures .count, decimal-within (c .before .before .before .before .before .before .before .args .n))
+natural-requires c κs =
+    let start = c .before .before .before .before .before .before .before in
+    omega (arith, c .before .before .before .bytes .ensures .count, decimal-within (start .args .n))
 
 same-length : tie.Need-same-length
 same-length c = search needs
 
 returns : tie.Need-returns
 returns c =
-    let p = c .before .before .before .before .before .before .bytes .ensures in
+    let at-bytes = c .before .before .before .before .before .before in
+    let start = at-bytes .before .before .before .before in
+    let p = at-bytes .bytes .ensures in
     let q = c .before .before .natural .ensures in
-    (put-then p q, omega (arith, p .count, q .count, decimal-within (c .before .before .before .before .before .before .before .before .before .before .args .n)))
+    (put-then p q, omega (arith, p .count, q .count, decimal-within (start .args .n)))
 
 pub next-natural-spec : {M : Type 1} → statement M
 next-natural-spec =

@@ -23,8 +23,9 @@ same-length c = search needs
 
 returns : tie.Need-returns
 returns c =
-    let s = c .before .before .before .before .before .before .before .before .before .before in
-    let p = c .before .before .before .before .before .before .bytes .ensures in
+    let at-bytes = c .before .before .before .before .before .before in
+    let s = at-bytes .before .before .before .before in
+    let p = at-bytes .bytes .ensures in
     let q = c .before .before .number .ensures in
     (put-then p (put-as _ _ _ _ (ap printed (held-ok w32 (s .args .x) (s .fits .x .sfits) .is)) (q .0)), omega (arith, p .count, q .1))
 

@@ -41,8 +41,8 @@ module _ (s : tie.Start) where
   digits : (n : ℕ) → n ≡ natAbs (s .args .x) → length (decimal n) ≤ 10
   digits n e = decimal-length 10 n (omega (arith, e, size)) (omega arith)
 
-below : (c : tie.After-natural-arg) → ltZ (c .before .before .before .before .before .before .before .before .args .x) (pos 0) ≡ true
-below c = h-lt (wide (c .before .before .before .before .before .before .before .before)) (num-lit w64 0 tt .holds) (c .before .before .before .before .before .before .if1 .taken)
+below : (c : tie.After-natural-arg) → let start = c .before .before .before .before .before .before .before .before in ltZ (start .args .x) (pos 0) ≡ true
+below c = let at-if1 = c .before .before .before .before .before .before in h-lt (wide (at-if1 .before .before)) (num-lit w64 0 tt .holds) (at-if1 .if1 .taken)
 
 from : (c : tie.After-natural-arg2) → ltZ (c .before .before .before .args .x) (pos 0) ≡ false
 from c = h-lt (wide (c .before .before .before)) (num-lit w64 0 tt .holds) (c .before .if1 .left)
@@ -74,11 +74,12 @@ same-length c = search needs
 
 returns : tie.Need-returns
 returns c =
-    let s = c .before .before .before .before .before .before .before .before .before .before .before in
+    let at-bytes = c .before .before .before .before .before .before in
+    let s = at-bytes .before .before .before .before .before in
     let p = c .before .before .natural .ensures in
     let t = ap decimal (minus-size s) in (
-      put-as _ _ _ _ (ap (λ (ds : List ℕ). 45 ∷ ds) t ∙ printed-below (s .args .x) (below (c .before .before .before))) (put-then (c .before .before .before .before .before .before .bytes .ensures) p),
-      omega (arith, c .before .before .before .before .before .before .bytes .ensures .count, p .count, ap length t, digits s _ refl),
+      put-as _ _ _ _ (ap (λ (ds : List ℕ). 45 ∷ ds) t ∙ printed-below (s .args .x) (below (c .before .before .before))) (put-then (at-bytes .bytes .ensures) p),
+      omega (arith, at-bytes .bytes .ensures .count, p .count, ap length t, digits s _ refl),
     )
 
 cast-natural-2 : tie.Need-cast-natural-2

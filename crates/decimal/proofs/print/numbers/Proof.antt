@@ -21,10 +21,10 @@ abbrev μ-loop : tie.MeasureT-loop
 μ-loop out₀ at x n₀ i₀ out n i = length x - i
 
 module _ (k : tie.At-loop Inv-loop μ-loop) where
-  long : length (k .loop .out) ≡ length (k .before .before .before .before .before .before .before .before .args .out .now)
+  long : let start = k .before .before .before .before .before .before .before .before in length (k .loop .out) ≡ length (start .args .out .now)
   long = k .loop .inv .2 ∙ k .before .before .out .given
 
-  first : k .before .before .before .number .result ≤ k .before .before .before .before .before .before .before .before .args .at + 11
+  first : let start = k .before .before .before .before .before .before .before .before in k .before .before .before .number .result ≤ start .args .at + 11
   first = k .before .before .before .number .ensures .1
 
 returns : tie.Need-returns Inv-loop μ-loop
@@ -56,8 +56,10 @@ loop-less c = omega arith
 
 loop-again : tie.Need-loop-again Inv-loop μ-loop
 loop-again c =
-    let k = c .before .before .before .before .before .before .loop in
-    let x = c .before .before .before .before .before .before .before .before .before .before .before .before .before .before .args .x .now in
+    let at-loop = c .before .before .before .before .before .before in
+    let start = at-loop .before .before .before .before .before .before .before .before in
+    let k = at-loop .loop in
+    let x = start .args .x .now in
     let q = c .before .before .next-number .ensures in
     let s : k .i + 1 ≡ suc (k .i) = omega arith in
     let put = put-as _ _ _ _ (ap (λ z. comma ∷ printed z) (held-ok w32 _ (c .before .before .before .next-number-arg2 .given) .is)) (q .0) in
@@ -70,10 +72,12 @@ same-length c = long (c .before)
 returns-2 : tie.Need-returns-2 Inv-loop μ-loop
 returns-2 c =
     let k = c .before in
-    let x = k .before .before .before .before .before .before .before .before .args .x .now in
+    let at-number-arg2 = k .before .before .before .before in
+    let start = at-number-arg2 .before .before .before .before in
+    let x = start .args .x .now in
     let p = k .before .before .before .number .ensures in
     let e : k .loop .i ≡ length x = omega arith in
-    (put-as _ _ _ _ (row-first x (omega arith)) (put-then (put-as _ _ _ _ (ap printed (held-ok w32 _ (k .before .before .before .before .number-arg2 .given) .is)) (p .0)) (left-none (left-as (commas-none x (k .loop .i) e) (k .loop .inv .4)))), omega (arith, first k))
+    (put-as _ _ _ _ (row-first x (omega arith)) (put-then (put-as _ _ _ _ (ap printed (held-ok w32 _ (at-number-arg2 .number-arg2 .given) .is)) (p .0)) (left-none (left-as (commas-none x (k .loop .i) e) (k .loop .inv .4)))), omega (arith, first k))
 
 pub numbers-spec : {M : Type 1} → statement M
 numbers-spec =

@@ -14,23 +14,36 @@ bytes-requires : tie.Need-bytes-requires
 bytes-requires c κs = search needs
 
 natural-requires : tie.Need-natural-requires
-natural-requires c κs = omega (arith, c .before .before .before .bytes .ensures .count, decimal-within (c .before .before .before .before .before .before .before .args .number))
+natural-requires c κs =
+    let start = c .before .before .before .before .before .before .before in
+    omega (arith, c .before .before .before .bytes .ensures .count, decimal-within (start .args .number))
 
 next-natural-requires : tie.Need-next-natural-requires
-next-natural-requires c κs = omega (arith, c .before .before .before .natural .ensures .count, c .before .before .before .before .before .before .before .bytes .ensures .count, decimal-within (c .before .before .before .before .before .before .before .before .before .before .before .args .number))
+next-natural-requires c κs =
+    let at-bytes = c .before .before .before .before .before .before .before in
+    let start = at-bytes .before .before .before .before in
+    omega (arith, c .before .before .before .natural .ensures .count, at-bytes .bytes .ensures .count, decimal-within (start .args .number))
 
 next-natural-requires-2 : tie.Need-next-natural-requires-2
-next-natural-requires-2 c κs = omega (arith, c .before .before .before .next-natural .ensures .1, c .before .before .before .before .before .before .before .natural .ensures .count, c .before .before .before .before .before .before .before .before .before .before .before .bytes .ensures .count, decimal-within (c .before .before .before .before .before .before .before .before .before .before .before .before .before .before .before .args .number))
+next-natural-requires-2 c κs =
+    let at-natural = c .before .before .before .before .before .before .before in
+    let at-bytes = at-natural .before .before .before .before in
+    let start = at-bytes .before .before .before .before in
+    omega (arith, c .before .before .before .next-natural .ensures .1, at-natural .natural .ensures .count, at-bytes .bytes .ensures .count, decimal-within (start .args .number))
 
 same-length : tie.Need-same-length
 same-length c = search needs
 
 returns : tie.Need-returns
 returns c =
-    let s = c .before .before .before .before .before .before .before .before .before .before .before .before .before .before .before .before .before .before .args in
-    let tag = c .before .before .before .before .before .before .before .before .before .before .before .before .before .before .bytes .ensures in
-    let number = c .before .before .before .before .before .before .before .before .before .before .natural .ensures in
-    let line = c .before .before .before .before .before .before .next-natural .ensures in
+    let at-next-natural = c .before .before .before .before .before .before in
+    let at-natural = at-next-natural .before .before .before .before in
+    let at-bytes = at-natural .before .before .before .before in
+    let start = at-bytes .before .before .before .before in
+    let s = start .args in
+    let tag = at-bytes .bytes .ensures in
+    let number = at-natural .natural .ensures in
+    let line = at-next-natural .next-natural .ensures in
     let place = c .before .before .next-natural2 .ensures in (
       put-as _ _ _ _ (refusal-is (s .number) (s .line) (s .place)) (put-then tag (put-then number (put-then (line .0) (place .0)))),
       omega (arith, tag .count, number .count, line .1, place .1, decimal-within (s .number)),

@@ -20,7 +20,7 @@ module _ (e : tie.Else1) where
   size = e .before .before .size .given .0 .0
 
   small : size ≤ 2147483648
-  small = size-within (e .before .before .before .before .pre) (e .before .before .size .given .1)
+  small = let start = e .before .before .before .before in size-within (start .pre) (e .before .before .size .given .1)
 
   value : Held w64 size (pos size)
   value = num w64 (pos size) small tt .holds

@@ -30,7 +30,8 @@ negative-requires c κs = rw (c .size-of .ensures) (sized-within 2147483648 _)
 returns-2 : tie.Need-returns-2
 returns-2 c =
     let t = c .before .before .before in
-    let s = t .before .before .before .before .args .field .now in
+    let start = t .before .before .before .before in
+    let s = start .args .field .now in
     c .negative .ensures ∙ ap negative (c .before .size-of .ensures ∙ ap (sized 2147483648) (rest-part s)) ∙ signed s (t .before .before .if1 .left) (t .if2 .taken)
 
 size-of-requires-2 : tie.Need-size-of-requires-2

@@ -27,7 +27,7 @@ abbrev μ-loop : tie.MeasureT-loop
 -- the field that was read
 module _ (f : tie.After-end-of Inv-loop μ-loop) where
   abbrev line : List ℕ
-  line = f .before .before .before .before .args .line .now
+  line = let start = f .before .before .before .before in start .args .line .now
 
   abbrev at : ℕ
   at = f .before .before .loop .at

@@ -119,16 +119,16 @@ put-two-requires : tie.Need-put-two-requires Inv-loop μ-loop
 put-two-requires c κs = let i = c .before .before .before .before .before in (omega (arith, below i, i .before .loop .inv .2 .long), omega (arith, below i, i .before .loop .inv .2 .long))
 
 sub-put-two-3 : tie.Need-sub-put-two-3 Inv-loop μ-loop
-sub-put-two-3 c = omega (arith, below (c .before .before .before .before .before .before .before .before))
+sub-put-two-3 c = let in-loop = c .before .before .before .before .before .before .before .before in omega (arith, below in-loop)
 
 sub-put-two-4 : tie.Need-sub-put-two-4 Inv-loop μ-loop
-sub-put-two-4 c = omega (arith, below (c .before .before .before .before .before .before .before .before))
+sub-put-two-4 c = let in-loop = c .before .before .before .before .before .before .before .before in omega (arith, below in-loop)
 
 add-put-two-3 : tie.Need-add-put-two-3 Inv-loop μ-loop
-add-put-two-3 c = omega (arith, below (c .before .before .before .before .before .before .before .before))
+add-put-two-3 c = let in-loop = c .before .before .before .before .before .before .before .before in omega (arith, below in-loop)
 
 mul-put-two-2 : tie.Need-mul-put-two-2 Inv-loop μ-loop
-mul-put-two-2 c = record { fits = omega (arith, below (c .before .before .before .before .before .before .before .before)) }
+mul-put-two-2 c = let in-loop = c .before .before .before .before .before .before .before .before in record { fits = omega (arith, below in-loop) }
 
 slice-copy-out-put-two-2 : tie.Need-slice-copy-out-put-two-2 Inv-loop μ-loop
 slice-copy-out-put-two-2 c = let i = c .before .before .before .before .before .before .before .before in omega (arith, below i, lengths (from i), i .before .loop .inv .3 .long)
@@ -137,7 +137,7 @@ put-two-requires-2 : tie.Need-put-two-requires-2 Inv-loop μ-loop
 put-two-requires-2 c κs = let i = c .before .before .before .before .before .before .before .before .before .before in (omega (arith, below i, i .before .loop .inv .1 .long), omega (arith, below i, i .before .loop .inv .1 .long))
 
 add-put-two-4 : tie.Need-add-put-two-4 Inv-loop μ-loop
-add-put-two-4 c = omega (arith, below (c .before .before .before .before .before .before .before .before .before .before .before .before .before))
+add-put-two-4 c = let in-loop = c .before .before .before .before .before .before .before .before .before .before .before .before .before in omega (arith, below in-loop)
 
 put-two-requires-3 : tie.Need-put-two-requires-3 Inv-loop μ-loop
 put-two-requires-3 c κs =
@@ -155,7 +155,8 @@ loop-again c =
     let p = c .before in
     let t = p .before .before .before .before .before in
     let b = t .before .before .before .before .before in
-    (omega (arith, below (b .before .before .before .before .before .before)), top-turn t, bottom-turn b, held-turn p)
+    let in-loop = b .before .before .before .before .before .before in
+    (omega (arith, below in-loop), top-turn t, bottom-turn b, held-turn p)
 
 same-length : tie.Need-same-length Inv-loop μ-loop
 same-length c = c .before .loop .inv .3 .long

@@ -90,7 +90,8 @@ cast-rotated-2 c = let s = c .before .before .before .before in asks-wide (at (x
 
 rotated-requires : tie.Need-rotated-requires
 rotated-requires c κs =
-    let p = c .before .before .before .before .pre .1 in
+    let start = c .before .before .before .before in
+    let p = start .pre .1 in
     (entry-size (tangents-within _ _ (p .0)) tt _, entry-size (sines-within _ _ (p .1 .0)) tt _, bits-size (A (c .before)), bits-size (B c))
 
 returns : tie.Need-returns

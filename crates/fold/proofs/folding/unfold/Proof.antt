@@ -120,7 +120,10 @@ shared-slice-copy-out-rotated-4 : tie.Need-shared-slice-copy-out-rotated-4 Inv-l
 shared-slice-copy-out-rotated-4 c = let t = c .before .before .before in omega (arith, below t, lengths (s t))
 
 rotated-requires : tie.Need-rotated-requires Inv-loop μ-loop
-rotated-requires c κs = let p = s (c .before .before .before .before) .pre .1 in (entry-size (tangents-within _ _ (p .0)) tt _, entry-size (sines-within _ _ (p .1 .0)) tt _, entry-size (p .1 .1 .1 .1 .0) tt _, entry-size (p .1 .1 .1 .1 .1) tt _)
+rotated-requires c κs =
+    let in-loop = c .before .before .before .before in
+    let p = s in-loop .pre .1 in
+    (entry-size (tangents-within _ _ (p .0)) tt _, entry-size (sines-within _ _ (p .1 .0)) tt _, entry-size (p .1 .1 .1 .1 .0) tt _, entry-size (p .1 .1 .1 .1 .1) tt _)
 
 slice-set-from-a : tie.Need-slice-set-from-a Inv-loop μ-loop
 slice-set-from-a c = let u = t c in omega (arith, below u, twice (s u), u .before .loop .inv .1 .long)

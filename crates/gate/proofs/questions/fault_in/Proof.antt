@@ -17,10 +17,16 @@ enum-told : tie.Need-enum-told
 enum-told c = search needs
 
 returns-2 : tie.Need-returns-2
-returns-2 c = let f = c .before .before .before in beyond-found (f .before .before .before .before .args .block .now) (none-dead (f .before)) _ (sym (f .first-beyond .ensures) ∙ c .before .beyond .given .1)
+returns-2 c =
+    let f = c .before .before .before in
+    let start = f .before .before .before .before in
+    beyond-found (start .args .block .now) (none-dead (f .before)) _ (sym (f .first-beyond .ensures) ∙ c .before .beyond .given .1)
 
 returns-3 : tie.Need-returns-3
-returns-3 c = let f = c .before .before in none-found (f .before .before .before .before .args .block .now) (none-dead (f .before)) (sym (f .first-beyond .ensures) ∙ c .enum-told2 .given .1)
+returns-3 c =
+    let f = c .before .before in
+    let start = f .before .before .before .before in
+    none-found (start .args .block .now) (none-dead (f .before)) (sym (f .first-beyond .ensures) ∙ c .enum-told2 .given .1)
 
 pub fault-in-spec : {M : Type 1} → statement M
 fault-in-spec =

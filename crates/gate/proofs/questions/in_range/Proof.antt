@@ -30,10 +30,10 @@ one-at-most false = omega arith
 -- what a turn counts
 module _ (c : tie.After-out-of-range Inv-loop μ-loop) where
   abbrev limit : ℤ
-  limit = toZ w32 (ofZ w32 (c .before .before .before .before .args .limit))
+  limit = let start = c .before .before .before .before in toZ w32 (ofZ w32 (start .args .limit))
 
   abbrev value : ℤ
-  value = at (c .before .before .before .before .args .x .now) (c .before .before .before .loop .i)
+  value = let start = c .before .before .before .before in at (start .args .x .now) (c .before .before .before .loop .i)
 
   told : c .out-of-range .result ≡ cond (beyond limit value) 1 0
   told = c .out-of-range .ensures ∙ ap (λ v. cond (beyond limit v) 1 0) (held-ok w32 value (c .before .out-of-range-arg .given) .is)

@@ -31,12 +31,13 @@ widen-requires : tie.Need-widen-requires
 widen-requires c κs = let s = c .before .before .before in (s .pre .0 .2, s .pre .0 .1)
 
 first-beyond-requires : tie.Need-first-beyond-requires
-first-beyond-requires c κs = limit-pos (c .before .before .before .before .before .before)
+first-beyond-requires c κs = let start = c .before .before .before .before .before .before in limit-pos start
 
 returns-2 : tie.Need-returns-2
 returns-2 c =
     let w = c .before .before .before in
-    c .first-beyond .ensures ∙ ap₂ (λ z l. firstBeyond z l 0) (limit-is (w .before .before .before .before)) (w .widen .ensures)
+    let start = w .before .before .before .before in
+    c .first-beyond .ensures ∙ ap₂ (λ z l. firstBeyond z l 0) (limit-is start) (w .widen .ensures)
 
 pub seldom-beyond-spec : {M : Type 1} → statement M
 seldom-beyond-spec = tie.close (tie.spec in-range-requires returns widen-requires first-beyond-requires (λ c. search needs) returns-2)

@@ -88,7 +88,7 @@ returns-4 c =
     c .clear2 .ensures ∙ front-is e _ ∙ none-taken (start e .args .top) (run (start e)) (has-width e) (counted i .if2 .left) (rest-seen i ∙ not-false _ (f .if3 .left)) (c .before .before .if4 .taken)
 
 slice-aggregate-clear-2 : tie.Need-slice-aggregate-clear-2
-slice-aggregate-clear-2 c = let e = first (c .before .before .before .before) in part-long _ (held e) (half-le e)
+slice-aggregate-clear-2 c = let at-clear = c .before .before .before .before in let e = first at-clear in part-long _ (held e) (half-le e)
 
 returns-5 : tie.Need-returns-5
 returns-5 c =
@@ -98,7 +98,7 @@ returns-5 c =
     c .clear3 .ensures ∙ front-is e _ ∙ run-over (start e .args .top) (run (start e)) (has-width e) (counted i .if2 .left) (rest-seen i ∙ not-false _ (f .if3 .left)) (c .before .before .before .if4 .left) (c .before .before .if5 .taken)
 
 slice-aggregate-inside : tie.Need-slice-aggregate-inside
-slice-aggregate-inside c = let e = first (c .before .before .before .before) in part-long _ (held e) (half-le e)
+slice-aggregate-inside c = let at-clear = c .before .before .before .before in let e = first at-clear in part-long _ (held e) (half-le e)
 
 returns-6 : tie.Need-returns-6
 returns-6 c =

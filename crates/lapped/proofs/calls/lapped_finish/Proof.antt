@@ -11,10 +11,10 @@ use Rattle.lapped.proofs.calls.lapped_finish.Tie as tie
 
 module _ (t : tie.After-finish) where
   abbrev numbers : List ℤ
-  numbers = t .before .before .before .before .args .run .now
+  numbers = let start = t .before .before .before .before in start .args .run .now
 
   abbrev out : List ℤ
-  out = t .before .before .before .before .args .frame .now
+  out = let start = t .before .before .before .before in start .args .frame .now
 
 hand-back-requires : tie.Need-hand-back-requires
 hand-back-requires c κs =

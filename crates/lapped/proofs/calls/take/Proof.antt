@@ -90,9 +90,9 @@ take-spec =
     (λ c. long (c .before .before))
     (λ c. long (c .before .before))
     (λ c. search needs)
-    (λ c κs. rest-long (numbers (from (c .before .before .before .before))) (room (c .before .before .before .before)))
+    (λ c κs. let back-4 = c .before .before .before .before in rest-long (numbers (from back-4)) (room back-4))
     store-count-requires
     (λ c κs. search needs)
-    (λ c. c .before .before .run2 .given ∙ c .before .before .before .before .before .before .run .given .1)
-    (λ c. c .before .before .before .before .before .out .given)
+    (λ c. let at-run = c .before .before .before .before .before .before in c .before .before .run2 .given ∙ at-run .run .given .1)
+    (λ c. let at-out = c .before .before .before .before .before in at-out .out .given)
     returns-2)

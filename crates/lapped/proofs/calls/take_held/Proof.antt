@@ -4,10 +4,10 @@ use Rattle.lapped.proofs.calls.take_held.Statement.{statement}
 use Rattle.lapped.proofs.calls.take_held.Tie as tie
 
 returns : tie.Need-returns
-returns c = rw (c .before .before .before .before .before .if1 .taken) (c .before .before .take .ensures)
+returns c = let then1 = c .before .before .before .before .before in rw (then1 .if1 .taken) (c .before .before .take .ensures)
 
 returns-2 : tie.Need-returns-2
-returns-2 c = rw (c .before .before .before .before .before .if1 .left) (c .before .before .take2 .ensures)
+returns-2 c = let else1 = c .before .before .before .before .before in rw (else1 .if1 .left) (c .before .before .take2 .ensures)
 
 pub take-held-spec : {M : Type 1} → statement M
 take-held-spec =

@@ -34,21 +34,24 @@ taken-requires : tie.Need-taken-requires Inv-loop μ-loop
 taken-requires c κs = omega (arith, c .before .before .before .pre, within (c .before .before) (c .before .loop-test .taken), long (c .before .before))
 
 add-put : tie.Need-add-put Inv-loop μ-loop
-add-put c = omega (arith, c .before .before .before .before .before .pre, within (c .before .before .before .before) (c .before .before .before .loop-test .taken), long (c .before .before .before .before))
+add-put c = let at-loop = c .before .before .before .before in omega (arith, at-loop .before .pre, within at-loop (c .before .before .before .loop-test .taken), long at-loop)
 
 put-requires : tie.Need-put-requires Inv-loop μ-loop
-put-requires c κs = omega (arith, c .before .before .before .before .before .pre, within (c .before .before .before .before) (c .before .before .before .loop-test .taken), long (c .before .before .before .before))
+put-requires c κs =
+    let at-loop = c .before .before .before .before in
+    omega (arith, at-loop .before .pre, within at-loop (c .before .before .before .loop-test .taken), long at-loop)
 
 add-i : tie.Need-add-i Inv-loop μ-loop
-add-i c = omega (arith, within (c .before .before .before .before .before .before) (c .before .before .before .before .before .loop-test .taken), c .before .before .before .before .before .before .before .fits .h)
+add-i c = let in-loop = c .before .before .before .before .before in omega (arith, within (in-loop .before) (in-loop .loop-test .taken), in-loop .before .before .fits .h)
 
 loop-less : tie.Need-loop-less Inv-loop μ-loop
 loop-less c = omega arith
 
 loop-again : tie.Need-loop-again Inv-loop μ-loop
 loop-again c =
-    let k = c .before .before .before .before .before .before in
-    let l = within k (c .before .before .before .before .before .loop-test .taken) in
+    let in-loop = c .before .before .before .before .before in
+    let k = in-loop .before in
+    let l = within k (in-loop .loop-test .taken) in
     let a = k .before .args in
     let z = c .before .before .before .taken .ensures ∙ places-ext 4 _ _ (λ j q. k .loop .inv .2 .old (a .from + k .loop .i + j) (omega (arith, k .before .pre)) ∙ ap (at (a .room .now)) (let e : a .from + k .loop .i + j ≡ a .from + (k .loop .i + j) = omega arith in e)) in
     (omega arith, omega arith, subst (Written (λ j. at (a .room .now) (a .from + j)) (a .to) (k .loop .i + 4) (a .room .now)) (sym (c .before .put .ensures)) (written-next (k .loop .inv .2) (omega (arith, k .before .pre)) (c .before .before .before .taken .result) z))

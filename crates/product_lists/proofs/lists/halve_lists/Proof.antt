@@ -21,8 +21,9 @@ subtract-requires c κs =
 
 returns : tie.Need-returns
 returns c L d =
-    let s = c .before .before .before .before .before .before in
-    halved-laid (s .args .q) (s .args .k) (s .args .room .now) (c .before .before .before .before .copy-middles .last .0) (c .before .before .before .before .copy-middles .ensures) (c .before .subtract .last .0) (c .before .subtract .ensures) L d (s .pre .0 .2)
+    let at-copy-middles = c .before .before .before .before in
+    let s = at-copy-middles .before .before in
+    halved-laid (s .args .q) (s .args .k) (s .args .room .now) (at-copy-middles .copy-middles .last .0) (at-copy-middles .copy-middles .ensures) (c .before .subtract .last .0) (c .before .subtract .ensures) L d (s .pre .0 .2)
 
 pub halve-lists-spec : {M : Type 1} → statement M
 halve-lists-spec =

@@ -16,7 +16,10 @@ nines-requires c κs =
     ((f p .1 .long, long), leaves-small (s .pre .0) f)
 
 returns : tie.Need-returns
-returns c = let s = c .before .before .before .before .before .before .before in leaf-lists (s .pre .0) (c .before .before .before .before .before .halve-levels .ensures) (c .before .nines .last .1 .0) (c .before .nines .ensures)
+returns c =
+    let at-halve-levels = c .before .before .before .before .before in
+    let s = at-halve-levels .before .before in
+    leaf-lists (s .pre .0) (at-halve-levels .halve-levels .ensures) (c .before .nines .last .1 .0) (c .before .nines .ensures)
 
 pub leaf-lists-spec : {M : Type 1} → statement M
 leaf-lists-spec =

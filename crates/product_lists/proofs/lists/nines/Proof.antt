@@ -34,7 +34,7 @@ taken-requires-2 : tie.Need-taken-requires-2 Inv-loop μ-loop
 taken-requires-2 c κs = omega (arith, c .before .before .before .pre .0, c .before .loop-test .taken, c .before .before .loop .inv .1 .long)
 
 mul-put-nine : tie.Need-mul-put-nine Inv-loop μ-loop
-mul-put-nine c = omega (arith, c .before .before .before .before .before .pre .0, c .before .before .before .loop-test .taken, c .before .before .before .before .loop .inv .1 .long)
+mul-put-nine c = let at-loop = c .before .before .before .before in omega (arith, at-loop .before .pre .0, c .before .before .before .loop-test .taken, at-loop .loop .inv .1 .long)
 
 nine-of-requires : tie.Need-nine-of-requires Inv-loop μ-loop
 nine-of-requires c κs =
@@ -43,20 +43,25 @@ nine-of-requires c κs =
     (listed-within (c .before .before .taken .result) _ (2 ^ 60) (c .before .before .taken .ensures) (λ j q. k .before .pre .1 _ (omega arith)), listed-within (c .before .taken2 .result) _ (2 ^ 60) (c .before .taken2 .ensures) (λ j q. k .before .pre .1 _ (omega arith)))
 
 put-nine-requires : tie.Need-put-nine-requires Inv-loop μ-loop
-put-nine-requires c κs = omega (arith, c .before .before .before .before .before .before .pre .0, c .before .before .before .before .loop-test .taken, c .before .before .before .before .before .loop .inv .1 .long)
+put-nine-requires c κs =
+    let in-loop = c .before .before .before .before in
+    omega (arith, in-loop .before .before .pre .0, in-loop .loop-test .taken, in-loop .before .loop .inv .1 .long)
 
 add-v : tie.Need-add-v Inv-loop μ-loop
-add-v c = omega (arith, c .before .before .before .before .before .before .before .before .pre .0, c .before .before .before .before .before .before .loop-test .taken, c .before .before .before .before .before .before .before .loop .inv .1 .long)
+add-v c =
+    let in-loop = c .before .before .before .before .before .before in
+    omega (arith, in-loop .before .before .pre .0, in-loop .loop-test .taken, in-loop .before .loop .inv .1 .long)
 
 loop-less : tie.Need-loop-less Inv-loop μ-loop
 loop-less c = omega arith
 
 loop-again : tie.Need-loop-again Inv-loop μ-loop
 loop-again c =
-    let k = c .before .before .before .before .before .before .before in
-    let l = c .before .before .before .before .before .before .loop-test .taken in
+    let at-taken2 = c .before .before .before .before in
+    let k = at-taken2 .before .before .before in
+    let l = at-taken2 .before .before .loop-test .taken in
     let a = k .before .args in
-    (omega arith, nines-next (a .lists .now) (k .loop .inv .1) (c .before .before .before .before .before .taken .result) (c .before .before .before .before .taken2 .result) (c .before .before .nine-of .result) (c .before .before .before .before .before .taken .ensures) (c .before .before .before .before .taken2 .ensures) (c .before .before .nine-of .ensures) (c .before .put-nine .ensures))
+    (omega arith, nines-next (a .lists .now) (k .loop .inv .1) (at-taken2 .before .taken .result) (at-taken2 .taken2 .result) (c .before .before .nine-of .result) (at-taken2 .before .taken .ensures) (at-taken2 .taken2 .ensures) (c .before .before .nine-of .ensures) (c .before .put-nine .ensures))
 
 same-length : tie.Need-same-length Inv-loop μ-loop
 same-length c = c .before .loop .inv .1 .long

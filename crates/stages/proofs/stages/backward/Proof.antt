@@ -94,7 +94,8 @@ third-requires c κs =
 
 second-requires : tie.Need-second-requires
 second-requires c κs =
-    let h = c .before .before .before .before .before .before in
+    let at-y = c .before .before .before .before in
+    let h = at-y .before .before in
     let g = g3 h in
     let s = s5 (f4 g) in (
       s .pre .0,
@@ -103,7 +104,7 @@ second-requires c κs =
         (
           record { top-long = ap length (T4 g) ∙ unlong4 (N s) (top s) (bottom s); bottom-long = ap length (B3 h) ∙ unlong3 (N s) (top s) (bottom s) },
           (
-            omega (arith, s .pre .1 .1 .1 .0 .y-long, c .before .before .before .before .y .given),
+            omega (arith, s .pre .1 .1 .1 .0 .y-long, at-y .y .given),
             (
               within-up (subst (Within 43515904) (sym (B3 h)) (unwithin3 (N s) (top s) (bottom s) (s .pre .1 .1 .1 .1 .0) (s .pre .1 .1 .1 .1 .1))) (omega arith),
               within-up (subst (Within 2621440) (sym (T4 g)) (unwithin4 (N s) (top s) (bottom s) (s .pre .1 .1 .1 .1 .0) (s .pre .1 .1 .1 .1 .1))) (omega arith),
@@ -116,6 +117,7 @@ second-requires c κs =
 first-requires : tie.Need-first-requires
 first-requires c κs =
     let k = c .before .before .before .before .before in
+    let at-y = k .before .before .before .before .before in
     let h = h2 k in
     let s = s5 (f4 (g3 h)) in (
       s .pre .0,
@@ -124,7 +126,7 @@ first-requires c κs =
         (
           record { top-long = ap length (T2 k) ∙ unlong2 (N s) (top s) (bottom s); bottom-long = ap length (B3 h) ∙ unlong3 (N s) (top s) (bottom s) },
           (
-            omega (arith, s .pre .1 .1 .1 .0 .y-long, c .before .before .before .before .before .before .before .before .before .before .y .given, c .before .before .before .y2 .given),
+            omega (arith, s .pre .1 .1 .1 .0 .y-long, at-y .y .given, c .before .before .before .y2 .given),
             (
               within-up (subst (Within 263716864) (sym (T2 k)) (unwithin2 (N s) (top s) (bottom s) (s .pre .1 .1 .1 .1 .0) (s .pre .1 .1 .1 .1 .1))) (omega arith),
               within-up (subst (Within 43515904) (sym (B3 h)) (unwithin3 (N s) (top s) (bottom s) (s .pre .1 .1 .1 .1 .0) (s .pre .1 .1 .1 .1 .1))) (omega arith),

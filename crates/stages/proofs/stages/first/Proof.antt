@@ -57,10 +57,10 @@ part-first-end : tie.Need-part-first-end
 part-first-end c = omega (arith, room (c .before .before .before))
 
 mul-first-2 : tie.Need-mul-first-2
-mul-first-2 c = record { fits = omega (arith, small (c .before .before .before .before)) }
+mul-first-2 c = let start = c .before .before .before .before in record { fits = omega (arith, small start) }
 
 part-first-end-2 : tie.Need-part-first-end-2
-part-first-end-2 c = omega (arith, room (c .before .before .before .before))
+part-first-end-2 c = let start = c .before .before .before .before in omega (arith, room start)
 
 slice-reshare-prefix-first : tie.Need-slice-reshare-prefix-first
 slice-reshare-prefix-first c = let q = c .before .before in omega (arith, half (from q), room-for-half (from q .args .width), y-long q)

@@ -76,7 +76,9 @@ second-requires c κs =
 
 third-requires : tie.Need-third-requires
 third-requires c κs =
-    let g = c .before .before .before .before .before .before in
+    let at-y2 = c .before .before .before .before in
+    let g = at-y2 .before .before in
+    let at-y = g .before .before .before .before in
     let f = f2 g in
     let s = s1 f in
     let r = s .pre .1 .1 .1 .0 in (
@@ -86,7 +88,7 @@ third-requires c κs =
         (
           record { top-long = ap length (T2 g) ∙ long2 (N s) (top s) (bottom s); bottom-long = ap length (B1 f) ∙ long1 (N s) (top s) (bottom s) },
           (
-            record { y-long = omega (arith, r .y-long, c .before .before .before .before .before .before .before .before .before .before .y .given, c .before .before .before .before .y2 .given); z-long = r .z-long },
+            record { y-long = omega (arith, r .y-long, at-y .y .given, at-y2 .y2 .given); z-long = r .z-long },
             (
               within-up (subst (Within 3950000) (sym (T2 g)) (within2 (N s) (top s) (bottom s) (s .pre .1 .1 .1 .1 .0) (s .pre .1 .1 .1 .1 .1))) (omega arith),
               within-up (subst (Within 650000) (sym (B1 f)) (within1 (N s) (top s) (bottom s) (s .pre .1 .1 .1 .1 .0) (s .pre .1 .1 .1 .1 .1))) (omega arith),

@@ -56,10 +56,10 @@ part-second-end : tie.Need-part-second-end
 part-second-end c = omega (arith, room (c .before .before .before))
 
 mul-second-2 : tie.Need-mul-second-2
-mul-second-2 c = record { fits = omega (arith, small (c .before .before .before .before)) }
+mul-second-2 c = let start = c .before .before .before .before in record { fits = omega (arith, small start) }
 
 part-second-end-2 : tie.Need-part-second-end-2
-part-second-end-2 c = omega (arith, room (c .before .before .before .before))
+part-second-end-2 c = let start = c .before .before .before .before in omega (arith, room start)
 
 slice-reshare-prefix-second : tie.Need-slice-reshare-prefix-second
 slice-reshare-prefix-second c = let q = c .before .before in omega (arith, half (from q), room-for-half (from q .args .width), y-long q)

@@ -45,7 +45,7 @@ module _ (q : tie.After-y) where
   cosines = q .before .cosine-sums .last .1 .1 .1 .1 .0
 
   abbrev secants : List ℤ
-  secants = q .before .before .before .before .secant-sums .last .1 .1 .1 .0
+  secants = let at-secant-sums = q .before .before .before .before in at-secant-sums .secant-sums .last .1 .1 .1 .0
 
   y-long : productRoom (from .args .width) ≤ length cosines
   y-long = omega (arith, q .y .given, from .pre .1 .1 .1 .0 .y-long)
@@ -57,7 +57,7 @@ module _ (q : tie.After-y) where
   rows = q .before .cosine-sums .ensures
 
   secant-rows : SecantRows (from .args .width) (from .args .top .now) secants
-  secant-rows = q .before .before .before .before .secant-sums .ensures
+  secant-rows = let at-secant-sums = q .before .before .before .before in at-secant-sums .secant-sums .ensures
 
   y-half : length (take (from .args .width / 2) cosines) ≡ halfWidth (from .args .width)
   y-half = room-long (from .pre .1 .0) (half from) cosines y-long

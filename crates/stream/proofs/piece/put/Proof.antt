@@ -27,15 +27,15 @@ unfolding given
 after-requires c κs = omega (arith, part (c .before .before))
 
 array-share-prefix-text-2 : tie.Need-array-share-prefix-text-2
-array-share-prefix-text-2 c = omega (arith, text-long (c .before .before .before .before))
+array-share-prefix-text-2 c = let at-text = c .before .before .before .before in omega (arith, text-long at-text)
 
 slice-aggregate-bytes : tie.Need-slice-aggregate-bytes
 unfolding given
-slice-aggregate-bytes c = part (c .before .before .before .before .before)
+slice-aggregate-bytes c = let at-text = c .before .before .before .before .before in part at-text
 
 bytes-requires : tie.Need-bytes-requires
 unfolding given
-bytes-requires c κs = omega (arith, part (c .before .before .before .before .before))
+bytes-requires c κs = let at-text = c .before .before .before .before .before in omega (arith, part at-text)
 
 same-length : tie.Need-same-length
 same-length c = search needs
@@ -43,9 +43,10 @@ same-length c = search needs
 returns : tie.Need-returns
 unfolding given sessionAfter
 returns c =
-    let t = c .before .before .before .before .before .before .before .before in
+    let at-after = c .before .before .before .before .before in
+    let t = at-after .before .before .before in
     record {
-      state = ap (λ e. record { state = t .before .before .args .given .state; ending = e }) (c .before .before .before .before .before .after .ensures);
+      state = ap (λ e. record { state = t .before .before .args .given .state; ending = e }) (at-after .after .ensures);
       put = c .before .before .bytes .ensures;
       short = omega (arith, part t);
       none = refl;

@@ -28,9 +28,10 @@ same-length-2 c = search needs
 
 returns : tie.Need-returns
 returns c =
-    let g = c .before .before .before .before .before .before .before .before in
+    let then1 = c .before .before .before .before .before in
+    let g = then1 .before .before .before in
     let k = g .before .before .before .before .before in
-    goes-ended textProgram (k .pre .0) (k .pre .1 .0) (k .pre .1 .2) (g .gather .ensures) (c .before .before .before .before .before .if1 .taken) (k .pre .1 .1) (c .before .before .hand-on .ensures)
+    goes-ended textProgram (k .pre .0) (k .pre .1 .0) (k .pre .1 .2) (g .gather .ensures) (then1 .if1 .taken) (k .pre .1 .1) (c .before .before .hand-on .ensures)
 
 same-length-3 : tie.Need-same-length-3
 same-length-3 c = search needs

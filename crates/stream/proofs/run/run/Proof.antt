@@ -41,7 +41,9 @@ slice-reshare-prefix-take : tie.Need-slice-reshare-prefix-take Inv-loop μ-loop
 slice-reshare-prefix-take c = search needs
 
 slice-aggregate-take : tie.Need-slice-aggregate-take Inv-loop μ-loop
-slice-aggregate-take c = part-long _ _ (omega (arith, c .before .before .before .before .refill .ensures .fits, c .before .before .before .buffer .given))
+slice-aggregate-take c =
+    let at-refill = c .before .before .before .before in
+    part-long _ _ (omega (arith, at-refill .refill .ensures .fits, c .before .before .before .buffer .given))
 
 slice-aggregate-take-2 : tie.Need-slice-aggregate-take-2 Inv-loop μ-loop
 slice-aggregate-take-2 c = search needs
@@ -51,8 +53,9 @@ slice-aggregate-take-3 c = search needs
 
 take-requires : tie.Need-take-requires Inv-loop μ-loop
 take-requires c κs =
-    let f = c .before .before .before .before .before .before in
-    turn-begins textProgram (f .before .before .before .loop .inv .0) (f .refill .ensures) (c .before .before .before .before .before .buffer .given)
+    let at-buffer = c .before .before .before .before .before in
+    let f = at-buffer .before in
+    turn-begins textProgram (f .before .before .before .loop .inv .0) (f .refill .ensures) (at-buffer .buffer .given)
 
 array-share-prefix-out : tie.Need-array-share-prefix-out Inv-loop μ-loop
 array-share-prefix-out c = search needs
@@ -86,15 +89,17 @@ stopped-why c e = ⊎-elim inl (λ r. inr (⊎-elim inl (λ o. inr (sym (c .befo
 loop-less : tie.Need-loop-less Inv-loop μ-loop
 loop-less c =
     let t = turned c in
+    let at-buffer = t .before .before .before .before .before .before in
     let f = filled t in
-    turn-less textProgram (f .before .before .before .loop .inv .0) (f .refill .ensures) (t .before .before .before .before .before .before .buffer .given) (f .before .before .loop-test .taken) (t .take .ensures) text-bounded
+    turn-less textProgram (f .before .before .before .loop .inv .0) (f .refill .ensures) (at-buffer .buffer .given) (f .before .before .loop-test .taken) (t .take .ensures) text-bounded
     (λ e. let g = c .goes-on .ensures .0 e in (g .0, sym (c .before .is-over .ensures) ∙ g .2))
 
 loop-again : tie.Need-loop-again Inv-loop μ-loop
 loop-again c =
     let t = turned c in
+    let at-buffer = t .before .before .before .before .before .before in
     let f = filled t in (
-      turn-again textProgram (f .before .before .before .loop .inv .0) (f .refill .ensures) (t .before .before .before .before .before .before .buffer .given) (f .before .before .loop-test .taken) (t .take .ensures) (search needs) (search needs) (λ e. c .goes-on .ensures .0 e .1),
+      turn-again textProgram (f .before .before .before .loop .inv .0) (f .refill .ensures) (at-buffer .buffer .given) (f .before .before .loop-test .taken) (t .take .ensures) (search needs) (search needs) (λ e. c .goes-on .ensures .0 e .1),
       search needs,
       search needs,
       λ e. record { why = stopped-why c e; whole = λ l. c .before .before .lost .ensures .0 l .0 },
@@ -113,7 +118,7 @@ slice-aggregate-finish-2 : tie.Need-slice-aggregate-finish-2 Inv-loop μ-loop
 slice-aggregate-finish-2 c = search needs
 
 finish-requires : tie.Need-finish-requires Inv-loop μ-loop
-finish-requires c κs = (turns-came textProgram (c .before .before .before .before .loop .inv .0) (c .before .before .if1 .left), search needs)
+finish-requires c κs = let at-loop = c .before .before .before .before in (turns-came textProgram (at-loop .loop .inv .0) (c .before .before .if1 .left), search needs)
 
 same-length-2 : tie.Need-same-length-2 Inv-loop μ-loop
 same-length-2 c = search needs

@@ -19,14 +19,18 @@ take-not-formed-requires-2 c κs = search needs
 
 returns-2 : tie.Need-returns-2
 unfolding lineTaken
-returns-2 c = (c .take-not-formed2 .ensures .0 ∙ rw (not-false (c .before .before .before .before .args .whole) (c .before .before .if1 .left), lt-leb (length (c .before .before .before .before .args .line .now)) 2048 (c .before .if2 .taken)), c .take-not-formed2 .ensures .1)
+returns-2 c =
+    let start = c .before .before .before .before in
+    (c .take-not-formed2 .ensures .0 ∙ rw (not-false (start .args .whole) (c .before .before .if1 .left), lt-leb (length (start .args .line .now)) 2048 (c .before .if2 .taken)), c .take-not-formed2 .ensures .1)
 
 take-formed-requires : tie.Need-take-formed-requires
 take-formed-requires c κs = search needs
 
 returns-3 : tie.Need-returns-3
 unfolding lineTaken
-returns-3 c = (c .take-formed .ensures .0 ∙ rw (not-false (c .before .before .before .before .args .whole) (c .before .before .if1 .left), le-leb (length (c .before .before .before .before .args .line .now)) 2048 (c .before .if2 .left)), c .take-formed .ensures .1)
+returns-3 c =
+    let start = c .before .before .before .before in
+    (c .take-formed .ensures .0 ∙ rw (not-false (start .args .whole) (c .before .before .if1 .left), le-leb (length (start .args .line .now)) 2048 (c .before .if2 .left)), c .take-formed .ensures .1)
 
 pub take-spec : {M : Type 1} → statement M
 take-spec =

@@ -34,19 +34,27 @@ silent-requires c κs = search needs
 
 returns : tie.Need-returns
 unfolding formed
-returns c = (c .take .ensures .0 ∙ ap (widthTaken (c .before .before .before .before .before .args .state)) (c .before .number .ensures) ∙ sym (ap (λ p. formed p (c .before .before .before .before .before .args .state) (c .before .before .before .before .before .args .line .now)) (c .before .before .enum-told .given .1)), c .take .ensures .1)
+returns c =
+    let start = c .before .before .before .before .before in
+    (c .take .ensures .0 ∙ ap (widthTaken (start .args .state)) (c .before .number .ensures) ∙ sym (ap (λ p. formed p (start .args .state) (start .args .line .now)) (c .before .before .enum-told .given .1)), c .take .ensures .1)
 
 returns-2 : tie.Need-returns-2
 unfolding formed
-returns-2 c = (c .take2 .ensures .0 ∙ sym (ap (λ p. formed p (c .before .before .before .before .args .state) (c .before .before .before .before .args .line .now)) (c .before .enum-told2 .given .1)), c .take2 .ensures .1)
+returns-2 c =
+    let start = c .before .before .before .before in
+    (c .take2 .ensures .0 ∙ sym (ap (λ p. formed p (start .args .state) (start .args .line .now)) (c .before .enum-told2 .given .1)), c .take2 .ensures .1)
 
 returns-3 : tie.Need-returns-3
 unfolding formed
-returns-3 c = (c .bad-form .ensures .0 ∙ sym (ap (λ p. formed p (c .before .before .before .before .args .state) (c .before .before .before .before .args .line .now)) (c .before .enum-told3 .given .1)), c .bad-form .ensures .1)
+returns-3 c =
+    let start = c .before .before .before .before in
+    (c .bad-form .ensures .0 ∙ sym (ap (λ p. formed p (start .args .state) (start .args .line .now)) (c .before .enum-told3 .given .1)), c .bad-form .ensures .1)
 
 returns-4 : tie.Need-returns-4
 unfolding formed
-returns-4 c = (c .silent .ensures .0 ∙ sym (ap (λ p. formed p (c .before .before .before .before .args .state) (c .before .before .before .before .args .line .now)) (c .before .enum-told4 .given .1)), c .silent .ensures .1)
+returns-4 c =
+    let start = c .before .before .before .before in
+    (c .silent .ensures .0 ∙ sym (ap (λ p. formed p (start .args .state) (start .args .line .now)) (c .before .enum-told4 .given .1)), c .silent .ensures .1)
 
 pub take-formed-spec : {M : Type 1} → statement M
 take-formed-spec =

@@ -17,10 +17,10 @@ use Rattle.text_lines.proofs.row.finish.Tie as tie
 full : (c : tie.After-room) → length (take (c .before .output-length .result) (c .room .result)) ≡ c .before .output-length .result
 full c = length-take-le _ _ (omega (arith, c .before .output-length .ensures .1, ap length (c .room .ensures)))
 
-after : (c : tie.After-out2) → length (c .before .finish .last .1 .1 .0) ≡ c .before .before .before .before .output-length .result
+after : (c : tie.After-out2) → let at-output-length = c .before .before .before .before in length (c .before .finish .last .1 .1 .0) ≡ at-output-length .output-length .result
 after c = c .out2 .given ∙ full (c .before .before .before)
 
-outputs : (c : tie.After-out2) → take (c .before .before .before .before .output-length .result) (c .before .finish .last .1 .1 .0 ++ drop (c .before .before .before .before .output-length .result) (c .before .before .before .room .result)) ≡ c .before .finish .last .1 .1 .0
+outputs : (c : tie.After-out2) → let at-output-length = c .before .before .before .before in take (at-output-length .output-length .result) (c .before .finish .last .1 .1 .0 ++ drop (at-output-length .output-length .result) (c .before .before .before .room .result)) ≡ c .before .finish .last .1 .1 .0
 outputs c = take-at _ _ _ (after c)
 
 output-length-requires : tie.Need-output-length-requires
@@ -39,19 +39,24 @@ finish-requires : tie.Need-finish-requires
 finish-requires c κs = search needs
 
 array-share-prefix-out : tie.Need-array-share-prefix-out
-array-share-prefix-out c = omega (arith, after c, length-append (c .before .finish .last .1 .1 .0) (drop (c .before .before .before .before .output-length .result) (c .before .before .before .room .result)))
+array-share-prefix-out c =
+    let at-output-length = c .before .before .before .before in
+    omega (arith, after c, length-append (c .before .finish .last .1 .1 .0) (drop (at-output-length .output-length .result) (c .before .before .before .room .result)))
 
 slice-aggregate-given-last : tie.Need-slice-aggregate-given-last
 slice-aggregate-given-last c = sym (ap length (outputs (c .before)) ∙ after (c .before))
 
 given-last-requires : tie.Need-given-last-requires
-given-last-requires c κs = (omega (arith, ap length (outputs (c .before)), after (c .before), c .before .before .before .before .before .output-length .ensures .1), λ e. closing (c .before .before .before .before .before .before .before .args .state .way) (c .before .before .before .before .before .before .before .args .state .run) _ (ap (λ (g : Given). g .0 .0) (sym (c .before .before .finish .ensures)) ∙ e))
+given-last-requires c κs =
+    let at-output-length = c .before .before .before .before .before in
+    (omega (arith, ap length (outputs (c .before)), after (c .before), at-output-length .output-length .ensures .1), λ e. closing (at-output-length .before .before .args .state .way) (at-output-length .before .before .args .state .run) _ (ap (λ (g : Given). g .0 .0) (sym (c .before .before .finish .ensures)) ∙ e))
 
 returns : tie.Need-returns
 returns c =
     let a = c .before .before in
-    let s = c .before .before .before .before .before .before .before .before .args in
-    let room = output-room (s .state .run) (a .before .before .before .before .output-length .result) (a .before .before .before .room .result) (a .before .before .before .before .output-length .ensures .0) (a .before .before .before .before .output-length .ensures .1) (a .before .before .before .room .ensures) in (
+    let at-output-length = a .before .before .before .before in
+    let s = at-output-length .before .before .args in
+    let room = output-room (s .state .run) (at-output-length .output-length .result) (a .before .before .before .room .result) (at-output-length .output-length .ensures .0) (at-output-length .output-length .ensures .1) (a .before .before .before .room .ensures) in (
       c .given-last .ensures .0
           ∙ ap (λ xs. finishGiven (s .state) (told (a .before .finish .result .answer), a .before .finish .result .run, xs)) (outputs a)
           ∙ ap (finishGiven (s .state)) (a .before .finish .ensures ∙ ap (endedBy (s .state .way) (s .state .run)) room),

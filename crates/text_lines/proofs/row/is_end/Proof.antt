@@ -23,7 +23,9 @@ same-requires : tie.Need-same-requires
 same-requires c κs = search needs
 
 returns : tie.Need-returns
-returns c = c .same .ensures ∙ ap (same (c .before .before .before .before .before .before .args .line .now)) (c .before .before .before .end-line .ensures .0 .is)
+returns c =
+    let start = c .before .before .before .before .before .before in
+    c .same .ensures ∙ ap (same (start .args .line .now)) (c .before .before .before .end-line .ensures .0 .is)
 
 pub is-end-spec : {M : Type 1} → statement M
 is-end-spec =

@@ -16,10 +16,10 @@ use Rattle.text_lines.proofs.row.take_numbers.Tie as tie
 full : (c : tie.After-room) → length (take (c .before .output-length .result) (c .room .result)) ≡ c .before .output-length .result
 full c = length-take-le _ _ (omega (arith, c .before .output-length .ensures .1, ap length (c .room .ensures)))
 
-after : (c : tie.After-out2) → length (c .before .take .last .1 .1 .1 .0) ≡ c .before .before .before .before .output-length .result
+after : (c : tie.After-out2) → let at-output-length = c .before .before .before .before in length (c .before .take .last .1 .1 .1 .0) ≡ at-output-length .output-length .result
 after c = c .out2 .given ∙ full (c .before .before .before)
 
-outputs : (c : tie.After-out2) → take (c .before .before .before .before .output-length .result) (c .before .take .last .1 .1 .1 .0 ++ drop (c .before .before .before .before .output-length .result) (c .before .before .before .room .result)) ≡ c .before .take .last .1 .1 .1 .0
+outputs : (c : tie.After-out2) → let at-output-length = c .before .before .before .before in take (at-output-length .output-length .result) (c .before .take .last .1 .1 .1 .0 ++ drop (at-output-length .output-length .result) (c .before .before .before .room .result)) ≡ c .before .take .last .1 .1 .1 .0
 outputs c = take-at _ _ _ (after c)
 
 output-length-requires : tie.Need-output-length-requires
@@ -38,19 +38,24 @@ take-requires : tie.Need-take-requires
 take-requires c κs = search needs
 
 array-share-prefix-out : tie.Need-array-share-prefix-out
-array-share-prefix-out c = omega (arith, after c, length-append (c .before .take .last .1 .1 .1 .0) (drop (c .before .before .before .before .output-length .result) (c .before .before .before .room .result)))
+array-share-prefix-out c =
+    let at-output-length = c .before .before .before .before in
+    omega (arith, after c, length-append (c .before .take .last .1 .1 .1 .0) (drop (at-output-length .output-length .result) (c .before .before .before .room .result)))
 
 slice-aggregate-given-row : tie.Need-slice-aggregate-given-row
 slice-aggregate-given-row c = sym (ap length (outputs (c .before)) ∙ after (c .before))
 
 given-row-requires : tie.Need-given-row-requires
-given-row-requires c κs = omega (arith, ap length (outputs (c .before)), after (c .before), c .before .before .before .before .before .output-length .ensures .1)
+given-row-requires c κs =
+    let at-output-length = c .before .before .before .before .before in
+    omega (arith, ap length (outputs (c .before)), after (c .before), at-output-length .output-length .ensures .1)
 
 returns : tie.Need-returns
 returns c =
     let a = c .before .before in
-    let s = c .before .before .before .before .before .before .before .before .args in
-    let room = output-room (s .state .run) (a .before .before .before .before .output-length .result) (a .before .before .before .room .result) (a .before .before .before .before .output-length .ensures .0) (a .before .before .before .before .output-length .ensures .1) (a .before .before .before .room .ensures) in (
+    let at-output-length = a .before .before .before .before in
+    let s = at-output-length .before .before .args in
+    let room = output-room (s .state .run) (at-output-length .output-length .result) (a .before .before .before .room .result) (at-output-length .output-length .ensures .0) (at-output-length .output-length .ensures .1) (a .before .before .before .room .ensures) in (
       c .given-row .ensures .0
           ∙ ap (λ xs. rowGiven (s .state) (told (a .before .take .result .answer), a .before .take .result .run, xs)) (outputs a)
           ∙ ap (rowGiven (s .state)) (a .before .take .ensures ∙ ap (takenBy (s .state .way) (s .state .run) (s .numbers .now)) room),

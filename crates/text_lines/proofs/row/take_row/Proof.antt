@@ -31,15 +31,18 @@ bad-form-requires c κs = search needs
 returns : tie.Need-returns
 unfolding rowTaken shownAs
 returns c =
-    let s = c .before .before .before .before .before .before .before .args in
-    let r = c .before .before .before .before .numbers2 in
+    let at-numbers2 = c .before .before .before .before in
+    let s = at-numbers2 .before .before .before .args in
+    let r = at-numbers2 .numbers2 in
     (c .bad-form .ensures .0 ∙ sym (ap (rowTaken (s .state)) (sym (r .ensures .0) ∙ ap (λ f. shownAs f (r .last .1 .0)) (c .before .enum-told .given .1))), c .bad-form .ensures .1)
 
 array-share-prefix-numbers : tie.Need-array-share-prefix-numbers
 array-share-prefix-numbers c = omega (arith, room (c .before), c .before .before .before .numbers3 .given)
 
 slice-aggregate-take-numbers : tie.Need-slice-aggregate-take-numbers
-slice-aggregate-take-numbers c = sym (length-take-le _ _ (omega (arith, room (c .before .before), c .before .before .before .before .numbers3 .given)))
+slice-aggregate-take-numbers c =
+    let at-numbers3 = c .before .before .before .before in
+    sym (length-take-le _ _ (omega (arith, room (c .before .before), at-numbers3 .numbers3 .given)))
 
 take-numbers-requires : tie.Need-take-numbers-requires
 take-numbers-requires c κs = search needs
@@ -47,8 +50,9 @@ take-numbers-requires c κs = search needs
 returns-2 : tie.Need-returns-2
 unfolding rowTaken shownAs
 returns-2 c =
-    let s = c .before .before .before .before .before .before .before .before .before .args in
-    let r = c .before .before .before .before .before .before .numbers2 in
+    let at-numbers2 = c .before .before .before .before .before .before in
+    let s = at-numbers2 .before .before .before .args in
+    let r = at-numbers2 .numbers2 in
     (c .take-numbers .ensures .0 ∙ sym (ap (rowTaken (s .state)) (sym (r .ensures .0) ∙ ap (λ f. shownAs f (r .last .1 .0)) (c .before .before .before .fields .given .1))), c .take-numbers .ensures .1)
 
 pub take-row-spec : {M : Type 1} → statement M

@@ -23,7 +23,9 @@ same-length c = search needs
 
 returns : tie.Need-returns
 unfolding endedBy
-returns c = c .before .finish .ensures ∙ sym (ap (λ w. endedBy w (c .before .before .before .before .before .args .run) (c .before .before .before .before .before .args .out .now)) (c .before .before .before .enum-told .given .1))
+returns c =
+    let start = c .before .before .before .before .before in
+    c .before .finish .ensures ∙ sym (ap (λ w. endedBy w (start .args .run) (start .args .out .now)) (c .before .before .before .enum-told .given .1))
 
 returns-2 : tie.Need-returns-2
 unfolding endedBy

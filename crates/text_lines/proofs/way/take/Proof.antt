@@ -22,14 +22,18 @@ same-length c = search needs
 
 returns : tie.Need-returns
 unfolding takenBy
-returns c = c .before .take .ensures ∙ sym (ap (λ w. takenBy w (c .before .before .before .before .before .args .run) (c .before .before .before .before .before .args .numbers .now) (c .before .before .before .before .before .args .out .now)) (c .before .before .before .enum-told .given .1))
+returns c =
+    let start = c .before .before .before .before .before in
+    c .before .take .ensures ∙ sym (ap (λ w. takenBy w (start .args .run) (start .args .numbers .now) (start .args .out .now)) (c .before .before .before .enum-told .given .1))
 
 same-length-2 : tie.Need-same-length-2
 same-length-2 c = search needs
 
 returns-2 : tie.Need-returns-2
 unfolding takenBy
-returns-2 c = c .before .take2 .ensures ∙ sym (ap (λ w. takenBy w (c .before .before .before .before .before .args .run) (c .before .before .before .before .before .args .numbers .now) (c .before .before .before .before .before .args .out .now)) (c .before .before .before .enum-told2 .given .1))
+returns-2 c =
+    let start = c .before .before .before .before .before in
+    c .before .take2 .ensures ∙ sym (ap (λ w. takenBy w (start .args .run) (start .args .numbers .now) (start .args .out .now)) (c .before .before .before .enum-told2 .given .1))
 
 pub take-spec : {M : Type 1} → statement M
 take-spec =

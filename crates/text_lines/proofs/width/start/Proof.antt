@@ -36,14 +36,15 @@ by-requires c κs = search needs
 returns : tie.Need-returns
 unfolding widthStarted
 returns c =
-    let s = c .before .before .before .before .before .args in
-    (c .by .ensures .0 ∙ ap (refused (s .state)) (told-pair _ (c .before .before .before .number .ensures) (c .before .place .ensures) ∙ ap (λ (g : (ℕ × ℕ) × Run). g .0) (c .before .before .before .before .start .ensures)) ∙ works-not _ _ _ (λ e. c .before .before .if1 .taken (answer (c .before .before .before) ∙ e)), c .by .ensures .1)
+    let at-start = c .before .before .before .before in
+    let s = at-start .before .args in
+    (c .by .ensures .0 ∙ ap (refused (s .state)) (told-pair _ (c .before .before .before .number .ensures) (c .before .place .ensures) ∙ ap (λ (g : (ℕ × ℕ) × Run). g .0) (at-start .start .ensures)) ∙ works-not _ _ _ (λ e. c .before .before .if1 .taken (answer (c .before .before .before) ∙ e)), c .by .ensures .1)
 
 slice-aggregate-natural : tie.Need-slice-aggregate-natural
 slice-aggregate-natural c = search needs
 
 natural-requires : tie.Need-natural-requires
-natural-requires c κs = omega (arith, decimal-within (c .before .before .before .before .before .args .width))
+natural-requires c κs = let start = c .before .before .before .before .before in omega (arith, decimal-within (start .args .width))
 
 slice-aggregate-bytes : tie.Need-slice-aggregate-bytes
 slice-aggregate-bytes c = search needs
@@ -52,17 +53,21 @@ slice-aggregate-bytes-2 : tie.Need-slice-aggregate-bytes-2
 slice-aggregate-bytes-2 c = search needs
 
 bytes-requires : tie.Need-bytes-requires
-bytes-requires c κs = omega (arith, c .before .before .before .natural .ensures .count, decimal-within (c .before .before .before .before .before .before .before .before .before .args .width), c .before .before .text2 .given)
+bytes-requires c κs =
+    let start = c .before .before .before .before .before .before .before .before .before in
+    omega (arith, c .before .before .before .natural .ensures .count, decimal-within (start .args .width), c .before .before .text2 .given)
 
 returns-2 : tie.Need-returns-2
 unfolding widthStarted withRun
 returns-2 c =
-    let s = c .before .before .before .before .before .before .before .before .before .before .before .args in
-    let p = c .before .before .before .before .before .natural .ensures in
+    let at-natural = c .before .before .before .before .before in
+    let at-number = at-natural .before .before .before .before in
+    let s = at-number .before .before .args in
+    let p = at-natural .natural .ensures in
     let q = c .before .bytes .ensures in (
       given-text _ _ _ _ (put-then p q .is)
-          ∙ ap (λ (g : (ℕ × ℕ) × Run). (withRun Between (g .1) (s .state), decimal (s .width) ++ (lineFeed ∷ []))) (c .before .before .before .before .before .before .before .before .before .before .start .ensures)
-          ∙ works _ _ _ (sym (answer (c .before .before .before .before .before .before .before .before .before)) ∙ c .before .before .before .before .before .before .before .before .if1 .left),
+          ∙ ap (λ (g : (ℕ × ℕ) × Run). (withRun Between (g .1) (s .state), decimal (s .width) ++ (lineFeed ∷ []))) (at-number .before .start .ensures)
+          ∙ works _ _ _ (sym (answer at-number) ∙ at-natural .before .before .before .if1 .left),
       omega (arith, p .count, q .count, decimal-within (s .width)),
     )
 

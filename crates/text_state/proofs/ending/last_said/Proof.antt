@@ -36,9 +36,10 @@ sub-refused-by : tie.Need-sub-refused-by
 sub-refused-by c = search needs
 
 -- the line ends within the text
-ends : (c : tie.After-end-of) → c .end-of .result ≤ length (c .before .before .before .before .before .before .before .args .text .now)
+ends : (c : tie.After-end-of) → let start = c .before .before .before .before .before .before .before in c .end-of .result ≤ length (start .args .text .now)
 ends c =
-    let bytes = c .before .before .before .before .before .before .before .args .text .now in
+    let start = c .before .before .before .before .before .before .before in
+    let bytes = start .args .text .now in
     omega (arith, c .end-of .ensures, part-length 10 (drop 8 bytes), length-drop 8 bytes)
 
 part-refused-by-start : tie.Need-part-refused-by-start
@@ -48,13 +49,16 @@ part-refused-by-end : tie.Need-part-refused-by-end
 part-refused-by-end c = ends c
 
 refused-by-requires : tie.Need-refused-by-requires
-refused-by-requires c κs = omega (arith, length-drop 8 (c .before .before .before .before .before .before .before .before .args .text .now), length-take (c .before .end-of .result - 8) (drop 8 (c .before .before .before .before .before .before .before .before .args .text .now)))
+refused-by-requires c κs =
+    let start = c .before .before .before .before .before .before .before .before in
+    omega (arith, length-drop 8 (start .args .text .now), length-take (c .before .end-of .result - 8) (drop 8 (start .args .text .now)))
 
 returns-3 : tie.Need-returns-3
 unfolding refusedTag
 returns-3 c =
     let t = c .before .before .before .before in
-    let bytes = t .before .before .before .before .before .args .text .now in
+    let start = t .before .before .before .before .before in
+    let bytes = start .args .text .now in
     c .refused-by .ensures
     ∙ ap (λ bs. refusedBy (numbersIn bs)) (said-part bytes _ (c .before .before .end-of .ensures))
     ∙ sym (said-refused bytes (sym (t .same .ensures) ∙ not-false _ (c .before .before .before .if2 .left)))

@@ -27,12 +27,16 @@ slice-aggregate-shown-last : tie.Need-slice-aggregate-shown-last
 slice-aggregate-shown-last c = search needs
 
 shown-last-requires : tie.Need-shown-last-requires
-shown-last-requires c κs = let s = c .before .before .before .before .before in (omega (arith, s .pre .0), s .pre .1 (sym (c .before .before .before .before .number .ensures) ∙ c .before .before .before .if1 .left))
+shown-last-requires c κs =
+    let at-number = c .before .before .before .before in
+    let s = at-number .before in
+    (omega (arith, s .pre .0), s .pre .1 (sym (at-number .number .ensures) ∙ c .before .before .before .if1 .left))
 
 returns-2 : tie.Need-returns-2
 unfolding finishGiven withRun
 returns-2 c =
-    (given-text _ _ _ _ (c .before .shown-last .ensures .0) ∙ works _ _ _ (sym (c .before .before .before .before .before .before .number .ensures) ∙ c .before .before .before .before .before .if1 .left), omega (arith, c .before .shown-last .ensures .1))
+    let at-if1 = c .before .before .before .before .before in
+    (given-text _ _ _ _ (c .before .shown-last .ensures .0) ∙ works _ _ _ (sym (at-if1 .before .number .ensures) ∙ at-if1 .if1 .left), omega (arith, c .before .shown-last .ensures .1))
 
 pub given-last-spec : {M : Type 1} → statement M
 given-last-spec =

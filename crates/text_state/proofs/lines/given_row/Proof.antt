@@ -32,7 +32,8 @@ shown-requires c κs = search needs
 returns-2 : tie.Need-returns-2
 unfolding rowGiven withRun
 returns-2 c =
-    (given-text _ _ _ _ (c .before .shown .ensures .0) ∙ works _ _ _ (sym (c .before .before .before .before .before .before .number .ensures) ∙ c .before .before .before .before .before .if1 .left), omega (arith, c .before .shown .ensures .1))
+    let at-if1 = c .before .before .before .before .before in
+    (given-text _ _ _ _ (c .before .shown .ensures .0) ∙ works _ _ _ (sym (at-if1 .before .number .ensures) ∙ at-if1 .if1 .left), omega (arith, c .before .shown .ensures .1))
 
 pub given-row-spec : {M : Type 1} → statement M
 given-row-spec =

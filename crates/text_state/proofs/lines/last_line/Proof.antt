@@ -21,7 +21,8 @@ same-length c = search needs
 returns : tie.Need-returns
 unfolding lastLine
 returns c =
-    let p = c .before .before .before .before .before .before .before .end-line .ensures in
+    let at-end-line = c .before .before .before .before .before .before .before in
+    let p = at-end-line .end-line .ensures in
     let q = c .before .before .bytes .ensures in
     (put-then (p .0) q, omega (arith, p .1, q .count))
 

@@ -21,7 +21,8 @@ same-length c = search needs
 returns : tie.Need-returns
 unfolding rowLine
 returns c =
-    let p = c .before .before .before .before .before .before .before .numbers .ensures in
+    let at-numbers = c .before .before .before .before .before .before .before in
+    let p = at-numbers .numbers .ensures in
     let q = c .before .before .bytes .ensures in
     (put-then (p .0) q, omega (arith, p .1, q .count))
 

@@ -24,18 +24,20 @@ same-length c = search needs
 returns : tie.Need-returns
 unfolding shownRow
 returns c =
-    let s = c .before .before .before .before .before .before .before .args in
+    let at-enum-told = c .before .before .before .before in
+    let s = at-enum-told .before .before .before .args in
     let p = c .before .before .row-line .ensures in
-    (p .0 .is ∙ sym (ap (λ w. shownRow w (s .run) (s .out .now)) (c .before .before .before .before .enum-told .given .1)), omega (arith, p .1))
+    (p .0 .is ∙ sym (ap (λ w. shownRow w (s .run) (s .out .now)) (at-enum-told .enum-told .given .1)), omega (arith, p .1))
 
 same-length-2 : tie.Need-same-length-2
 same-length-2 c = search needs
 
 returns-2 : tie.Need-returns-2
 returns-2 c =
-    let s = c .before .before .before .before .before .before .before .args in
+    let at-enum-told2 = c .before .before .before .before in
+    let s = at-enum-told2 .before .before .before .args in
     let p = c .before .before .shown-block .ensures in
-    (p .0 ∙ sym (ap (λ w. shownRow w (s .run) (s .out .now)) (c .before .before .before .before .enum-told2 .given .1)), p .1)
+    (p .0 ∙ sym (ap (λ w. shownRow w (s .run) (s .out .now)) (at-enum-told2 .enum-told2 .given .1)), p .1)
 
 pub shown-spec : {M : Type 1} → statement M
 shown-spec =

@@ -20,8 +20,9 @@ same-length c = search needs
 returns-2 : tie.Need-returns-2
 unfolding shownRow
 returns-2 c =
+    let at-if1 = c .before .before .before .before in
     let p = c .before .before .row-line .ensures in
-    (p .0 .is ∙ rw (ne-eqb (c .before .before .before .before .before .before .before .args .run .count) 0 (c .before .before .before .before .if1 .left)), omega (arith, p .1))
+    (p .0 .is ∙ rw (ne-eqb (at-if1 .before .before .before .args .run .count) 0 (at-if1 .if1 .left)), omega (arith, p .1))
 
 pub shown-block-spec : {M : Type 1} → statement M
 shown-block-spec = tie.close (tie.spec returns row-line-requires same-length returns-2)

@@ -18,7 +18,9 @@ row-line-requires c κs = search needs
 
 add-last-line : tie.Need-add-last-line
 unfolding Closing
-add-last-line c = omega (arith, subst (λ w. Closing w (c .before .before .before .before .before .before .before .before .before .args .run .count)) (c .before .before .before .before .before .before .enum-told .given .1) (c .before .before .before .before .before .before .before .before .before .pre .1))
+add-last-line c =
+    let at-enum-told = c .before .before .before .before .before .before in
+    omega (arith, subst (λ w. Closing w (at-enum-told .before .before .before .args .run .count)) (at-enum-told .enum-told .given .1) (at-enum-told .before .before .before .pre .1))
 
 last-line-requires : tie.Need-last-line-requires
 last-line-requires c κs = search needs
@@ -28,7 +30,9 @@ enum-told-2 c = search needs
 
 sub-last-line : tie.Need-sub-last-line
 unfolding Closing
-sub-last-line c = subst (λ w. Closing w (c .before .before .before .before .before .args .run .count)) (c .before .before .enum-told2 .given .1) (c .before .before .before .before .before .pre .1)
+sub-last-line c =
+    let start = c .before .before .before .before .before in
+    subst (λ w. Closing w (start .args .run .count)) (c .before .before .enum-told2 .given .1) (start .pre .1)
 
 last-line-requires-2 : tie.Need-last-line-requires-2
 last-line-requires-2 c κs = search needs
@@ -39,11 +43,12 @@ same-length c = search needs
 returns : tie.Need-returns
 unfolding shownLast
 returns c =
-    let s = c .before .before .before .before .before .before .before .before .before .before .before .before in
-    let p = c .before .before .before .before .before .before .before .row-line .ensures in
+    let at-row-line = c .before .before .before .before .before .before .before in
+    let s = at-row-line .before .before .before .before .before in
+    let p = at-row-line .row-line .ensures in
     let q = c .before .before .last-line .ensures in
     let e : s .args .run .count + 1 ≡ suc (s .args .run .count) = omega arith in (
-      put-then (p .0) (q .0) .is ∙ ap (λ n. rowLine (s .args .out .now) ++ lastLine n) e ∙ sym (ap (λ w. shownLast w (s .args .run) (s .args .out .now)) (c .before .before .before .before .before .before .before .before .before .enum-told .given .1)),
+      put-then (p .0) (q .0) .is ∙ ap (λ n. rowLine (s .args .out .now) ++ lastLine n) e ∙ sym (ap (λ w. shownLast w (s .args .run) (s .args .out .now)) (at-row-line .before .before .enum-told .given .1)),
       omega (arith, p .1, q .1),
     )
 
@@ -53,9 +58,10 @@ same-length-2 c = search needs
 returns-2 : tie.Need-returns-2
 unfolding shownLast
 returns-2 c =
-    let s = c .before .before .before .before .before .before .before .before in
+    let at-enum-told2 = c .before .before .before .before .before in
+    let s = at-enum-told2 .before .before .before in
     let q = c .before .before .last-line2 .ensures in
-    (q .0 .is ∙ sym (ap (λ w. shownLast w (s .args .run) (s .args .out .now)) (c .before .before .before .before .before .enum-told2 .given .1)), omega (arith, q .1))
+    (q .0 .is ∙ sym (ap (λ w. shownLast w (s .args .run) (s .args .out .now)) (at-enum-told2 .enum-told2 .given .1)), omega (arith, q .1))
 
 pub shown-last-spec : {M : Type 1} → statement M
 shown-last-spec =

@@ -27,10 +27,12 @@ bytes-requires c κs = search needs
 
 returns : tie.Need-returns
 returns c =
-    let s = c .before .before .before .before .before .before .before .before .before .args .state in
-    let p = c .before .before .before .before .before .refused .ensures in
+    let at-refused = c .before .before .before .before .before in
+    let start = at-refused .before .before .before .before in
+    let s = start .args .state in
+    let p = at-refused .refused .ensures in
     let q = c .before .bytes .ensures in
-    (given-text _ _ _ _ (put-then (p .0) q .is) ∙ refused-by s _ _ _ (c .before .before .before .before .before .before .before .line-number .ensures), omega (arith, p .1, q .count))
+    (given-text _ _ _ _ (put-then (p .0) q .is) ∙ refused-by s _ _ _ (at-refused .before .before .line-number .ensures), omega (arith, p .1, q .count))
 
 pub by-spec : {M : Type 1} → statement M
 by-spec =

@@ -32,15 +32,15 @@ returns c = sym (ap (λ p. lineNumber p (c .before .before .before .args .state 
 
 returns-2 : tie.Need-returns-2
 unfolding lineNumber
-returns-2 c = c .line-between .ensures ∙ sym (ap (λ p. lineNumber p (c .before .before .before .before .args .state .run)) (c .before .enum-told2 .given .1))
+returns-2 c = let start = c .before .before .before .before in c .line-between .ensures ∙ sym (ap (λ p. lineNumber p (start .args .state .run)) (c .before .enum-told2 .given .1))
 
 returns-3 : tie.Need-returns-3
 unfolding lineNumber
-returns-3 c = c .line-between2 .ensures ∙ sym (ap (λ p. lineNumber p (c .before .before .before .before .args .state .run)) (c .before .enum-told3 .given .1))
+returns-3 c = let start = c .before .before .before .before in c .line-between2 .ensures ∙ sym (ap (λ p. lineNumber p (start .args .state .run)) (c .before .enum-told3 .given .1))
 
 returns-4 : tie.Need-returns-4
 unfolding lineNumber
-returns-4 c = c .line-between3 .ensures ∙ sym (ap (λ p. lineNumber p (c .before .before .before .before .args .state .run)) (c .before .enum-told4 .given .1))
+returns-4 c = let start = c .before .before .before .before in c .line-between3 .ensures ∙ sym (ap (λ p. lineNumber p (start .args .state .run)) (c .before .enum-told4 .given .1))
 
 pub line-number-spec : {M : Type 1} → statement M
 line-number-spec =

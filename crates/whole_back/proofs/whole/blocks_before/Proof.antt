@@ -106,7 +106,7 @@ module _ (h : tie.After-z Inv-loop μ-loop) where
   after = opened (N (from here)) (nextCount (told (step .undo .result) .0) (here .loop .count)) kept
 
   kept-long : length kept ≡ halfWidth (N (from here))
-  kept-long = h .before .before .before .before .before .before .before .held .given ∙ here .loop .inv .2 .long
+  kept-long = let at-held = h .before .before .before .before .before .before .before in at-held .held .given ∙ here .loop .inv .2 .long
 
   undone : _≡_ {A = Given} (told (step .undo .result), after, block) (undoneIn (run here) part out)
   undone = step .undo .ensures ∙ ap₂ (undoneIn (run here)) (part-is (place here) (N (from here)) (frames (from here))) (part-is (place here) (N (from here)) (readings here))
@@ -172,18 +172,19 @@ undo-requires c κs =
 
 loop-again : tie.Need-loop-again Inv-loop μ-loop
 loop-again c =
+    let at-wide = c .before .before .before .before in
     let i = inside c in
     let k = here c in
     let s = from k in
-    let long = c .before .before .before .before .before .before .readings .given .0 ∙ ap length (part-is (place k) (N s) (readings k)) ∙ block-long (place k) (N s) (readings k) (in-readings i) in
+    let long = at-wide .before .before .readings .given .0 ∙ ap length (part-is (place k) (N s) (readings k)) ∙ block-long (place k) (N s) (readings k) (in-readings i) in
     let new = written (place k) (N s) (readings k) (block c) in (
       block-next (place k) (k .loop .blocks) (N s) _ (k .loop .inv .0) (i .loop-test .taken),
       omega (arith, k .loop .inv .1, i .loop-test .taken),
       reached-after (N s) (k .loop .count) (low k) (kept c) (part c) (out c) (block c) (step c .undo .result) (k .loop .inv .2) (counted i) (kept-long c) (undone c) (none c),
-      c .before .before .before .before .before .before .readings .given .1 ∙ k .loop .inv .3,
+      at-wide .before .before .readings .given .1 ∙ k .loop .inv .3,
       record {
-        folded-same = c .before .before .before .before .before .folded .given ∙ k .loop .inv .4 .folded-same;
-        wide-same = c .before .before .before .before .wide .given ∙ k .loop .inv .4 .wide-same;
+        folded-same = at-wide .before .folded .given ∙ k .loop .inv .4 .folded-same;
+        wide-same = at-wide .wide .given ∙ k .loop .inv .4 .wide-same;
         top-same = c .before .before .before .top .given ∙ k .loop .inv .4 .top-same;
         bottom-same = c .before .before .bottom .given ∙ k .loop .inv .4 .bottom-same;
         y-same = c .before .y .given ∙ k .loop .inv .4 .y-same;

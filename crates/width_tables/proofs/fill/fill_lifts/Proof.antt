@@ -52,9 +52,10 @@ part-cosines-end c =
 
 returns : tie.Need-returns
 returns c =
-    let s = c .before .before .before .before .before .before in
-    lifts-made (N s) (N s / 2) (s .args .t .now) (c .before .before .before .before .half-tangents .last .1 .0) (s .pre .0 .0) (m s .half) (s .pre .0 .1)
-    (c .before .before .before .before .half-tangents .ensures) (c .before .cosines .last .1 .1 .1 .0) (c .before .cosines .ensures)
+    let at-half-tangents = c .before .before .before .before in
+    let s = at-half-tangents .before .before in
+    lifts-made (N s) (N s / 2) (s .args .t .now) (at-half-tangents .half-tangents .last .1 .0) (s .pre .0 .0) (m s .half) (s .pre .0 .1)
+    (at-half-tangents .half-tangents .ensures) (c .before .cosines .last .1 .1 .1 .0) (c .before .cosines .ensures)
 
 pub fill-lifts-spec : {M : Type 1} → statement M
 fill-lifts-spec =

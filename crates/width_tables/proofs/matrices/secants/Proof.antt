@@ -123,7 +123,7 @@ half-turn-on-requires c κs =
     (omega (arith, m s), omega (arith, m s, room2-long a, s .pre .1), front-small (h s) 176000000000 (secantIn (N s)) (room2 a) (scaled-half a) (λ i. scaled-size (N s) _) (omega arith))
 
 same-length : tie.Need-same-length
-same-length c = c .before .half-turn-on .ensures .long ∙ room2-long (c .before .before .before .before)
+same-length c = let at-scaled = c .before .before .before .before in c .before .half-turn-on .ensures .long ∙ room2-long at-scaled
 
 returns : tie.Need-returns
 returns c =

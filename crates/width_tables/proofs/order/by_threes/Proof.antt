@@ -75,9 +75,10 @@ loop-less c = let i = c .before .before .before .before .before .before in omega
 
 loop-again : tie.Need-loop-again Inv-loop μ-loop
 loop-again c =
-    let i = c .before .before .before .before .before .before in
+    let at-first-quadrant = c .before .before .before .before .before in
+    let i = at-first-quadrant .before in
     let k = i .before in
-    let q = c .before .before .before .before .before .first-quadrant .ensures in (
+    let q = at-first-quadrant .first-quadrant .ensures in (
       omega (arith, less i),
       c .within-turn .ensures ∙ ap (λ j. (3 * j) % 1024) (k .loop .inv .1) ∙ angle-next (N (k .before)) (k .loop .e),
       ordered-turn (N (k .before)) (k .loop .e) (half (k .before)) (k .loop .inv .1) (q .0) (scale-is (k .before)) (k .loop .inv .2) (k .before .pre .1) (less i) (q .1) (c .before .before .put .ensures),
