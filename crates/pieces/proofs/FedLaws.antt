@@ -67,25 +67,25 @@ fed-used P s had printed (b ∷ bs) on =
 -- ---- a line gathered from a piece
 module _ (P : Program) (s : P .State) (on : P .over s ≡ false) (printed : List ℕ)
     {piece : List ℕ} {from : ℕ} {before : List ℕ} {had : ℕ} {g : Gathered} {after : List ℕ} (h : Gathers piece from before had g after) (more : from < length piece)
-    where
-  between : slice from (g .next) piece ≡ used (take had before) (drop from piece)
-  between =
-      slice-front piece from (g .next) (used (take had before) (drop from piece)) (omega (arith, h .rises more)) (h .within)
-      (used-rest (take had before) (drop from piece)
-      ∙ ap (λ (x : List ℕ × List ℕ × Bool × Bool). used (take had before) (drop from piece) ++ x .1) (sym (h .is)))
+  where
+    between : slice from (g .next) piece ≡ used (take had before) (drop from piece)
+    between =
+        slice-front piece from (g .next) (used (take had before) (drop from piece)) (omega (arith, h .rises more)) (h .within)
+        (used-rest (take had before) (drop from piece)
+        ∙ ap (λ (x : List ℕ × List ℕ × Bool × Bool). used (take had before) (drop from piece) ++ x .1) (sym (h .is)))
 
-  gathered-is : fed P (reader P s (take had before) printed) (slice from (g .next) piece) ≡ gone P s printed (take (g .length) after, drop (g .next) piece, g .ended, g .whole)
-  gathered-is =
-      ap (fed P (reader P s (take had before) printed)) between
-      ∙ fed-used P s (take had before) printed (drop from piece) on
-      ∙ ap (gone P s printed) (sym (h .is))
+    gathered-is : fed P (reader P s (take had before) printed) (slice from (g .next) piece) ≡ gone P s printed (take (g .length) after, drop (g .next) piece, g .ended, g .whole)
+    gathered-is =
+        ap (fed P (reader P s (take had before) printed)) between
+        ∙ fed-used P s (take had before) printed (drop from piece) on
+        ∙ ap (gone P s printed) (sym (h .is))
 
-  pub open-is : g .ended ≡ false → reader P s (take (g .length) after) printed ≡ fed P (reader P s (take had before) printed) (slice from (g .next) piece)
-  open-is e = sym (rw e at gathered-is)
+    pub open-is : g .ended ≡ false → reader P s (take (g .length) after) printed ≡ fed P (reader P s (take had before) printed) (slice from (g .next) piece)
+    open-is e = sym (rw e at gathered-is)
 
-  pub ended-is : g .ended ≡ true
-      → handedOn P (g .whole) (reader P s (take (g .length) after) printed) ≡ fed P (reader P s (take had before) printed) (slice from (g .next) piece)
-  ended-is e = sym (rw e at gathered-is)
+    pub ended-is : g .ended ≡ true
+        → handedOn P (g .whole) (reader P s (take (g .length) after) printed) ≡ fed P (reader P s (take had before) printed) (slice from (g .next) piece)
+    ended-is e = sym (rw e at gathered-is)
 
 -- what the code answers for a line, put behind what is printed
 pub handed-is : (P : Program) (s : P .State) (whole : Bool) (line printed : List ℕ) {given : P .State × List ℕ} {text : List ℕ}

@@ -8,13 +8,13 @@ ghost use Rattle.text_runs.specs.State.{given};
 ghost use Rattle.feeding.specs.Text.{sessionAfter, isOver, textProgram};
 ghost use Rattle.stream.specs.Text.{textLimits, placeOf};
 use crate::session;
-use feeding::session::Session;
 use decimal::print;
+use feeding::session::Ending;
+use feeding::session::Session;
 use pieces::line;
 use text_lines::input;
 use text_runs::state::Printed;
 use text_state::ending;
-use feeding::session::Ending;
 
 // How many bytes the line buffer has of a line that no line feed has ended, how many bytes wait in the output buffer, and where to go on in
 // the piece.
@@ -132,11 +132,5 @@ pub fn end(line: &[u8], out: &mut [u8], progress: Progress) -> Progress
     let session = rested.session;
     let before = session.ending;
     let state = session.state;
-    put(
-        before,
-        input::end(state),
-        out,
-        rested.waiting,
-        rested.at,
-    )
+    put(before, input::end(state), out, rested.waiting, rested.at)
 }

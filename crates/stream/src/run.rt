@@ -9,11 +9,11 @@ ghost use Rattle.stream.specs.Run.{Finished, EndedAs};
 use crate::piece;
 use crate::piece::Progress;
 use crate::session;
+use feeding::session::Ending;
 use pieces::reading;
 use pieces::writing;
 use text_runs::state::Way;
 use text_state::ending;
-use feeding::session::Ending;
 
 // The end of the input. Where the last of it cannot be written, the run did not end.
 fn finish(way: Way, output: i32, line: &[u8], out: &mut [u8], progress: Progress) -> Ending

@@ -1,9 +1,9 @@
 // How far a text program has come: the run's state, and how it ended.
 ghost use mathlib.Core.Path.{_≡_};
 ghost use Rattle.feeding.specs.Text.{sessionBegun, isOver};
-use text_runs::state::Way;
 use feeding::session::Ending;
 use feeding::session::Session;
+use text_runs::state::Way;
 use text_state::state;
 
 pub fn begin(way: Way) -> Session

@@ -56,8 +56,7 @@ returns-3 c =
     let b = n .before .before .before .before .before in
     let t = b .before .before .before in
     let x = t .before .ending .given in
-    let same = refused-as (held-ok w32 _ (t .known-told .given .0 .1) .is) (held-ok w32 _ (t .known-told .given .1 .0 .1) .is) (held-ok w32 _ (t .known-told .given .1 .1 .0 .1) .is) in
-    (
+    let same = refused-as (held-ok w32 _ (t .known-told .given .0 .1) .is) (held-ok w32 _ (t .known-told .given .1 .0 .1) .is) (held-ok w32 _ (t .known-told .given .1 .1 .0 .1) .is) in (
       put-as _ _ _ _ (ap refusalLine same ∙ sym (ap refusalLine (x .1))) (put-then (b .bytes .ensures) (put-then (n .numbers2 .ensures .0) (c .before .before .bytes2 .ensures))),
       omega (arith, b .bytes .ensures .count, n .numbers2 .ensures .1, c .before .before .bytes2 .ensures .count),
     )
