@@ -1,1 +1,2 @@
+pub mod UnstagedLaws
 pub mod WayLaws

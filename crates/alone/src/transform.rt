@@ -85,6 +85,36 @@ fn staged(
     Answer::Done
 }
 
+// Question 9, the stages undone, and question 10: a frame to its folded values.
+fn unstaged(
+    width: usize,
+    t: &[i64],
+    frame: &[i32],
+    folded: &mut [i64],
+    top: &mut [i64],
+    bottom: &mut [i64],
+    y: &mut [i64],
+    z: &mut [i64],
+) -> Answer
+    requires { ⌜ 0 < halfWidth width ⌝ }
+    requires { ⌜ Filled width (now t) ⌝ }
+    requires { ⌜ Halves width (now top) (now bottom) ⌝ }
+    requires { ⌜ Room width (now y) (now z) ⌝ }
+    requires { ⌜ (length (now frame) ≡ width) × (length (now folded) ≡ width) ⌝ }
+    ensures { λ r. ⌜ (told r, now (folded .exit)) ≡ unstagesAsked width (now (frame .entry)) (now (folded .exit)) ⌝ }
+{
+    let coefficient = transform::coefficient_beyond(frame, folded);
+    if let Found::At(place) = coefficient {
+        return Answer::Range(place);
+    }
+    transform::unstages(width, t, frame, folded, top, bottom, y, z);
+    let value = questions::first_beyond(folded, limits::FOLDED_LIMIT);
+    if let Found::At(place) = value {
+        return Answer::Folded(place);
+    }
+    Answer::Done
+}
+
 // One way or the other.
 fn either_way(
     undo: bool,
@@ -105,7 +135,7 @@ fn either_way(
     ensures { λ r. ⌜ (told r, now (out .exit)) ≡ cond undo (unstagesAsked width (now (given .entry)) (now (out .exit))) (stagesAsked width (now (given .entry)) (now (out .exit))) ⌝ }
 {
     if undo {
-        return transform::unstaged(width, t, given, out, top, bottom, y, z);
+        return unstaged(width, t, given, out, top, bottom, y, z);
     }
     staged(width, t, given, out, top, bottom, y, z)
 }

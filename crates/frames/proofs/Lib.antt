@@ -2,5 +2,4 @@ pub mod FrameLaws
 pub mod RoomLaws
 pub mod RoomSizes
 pub mod StepLaws
-pub mod UnstagedLaws
 pub mod UndoLaws

@@ -1,4 +1,4 @@
--- What questions 11 and 12 decide of a frame, test by test, where a run holds the lower half of the frame before.
+-- What questions 9 to 12 decide of a frame, test by test, where a run holds the lower half of the frame before.
 use mathlib.Core.Path.{_≡_, refl, sym, ap, ap₂, _∙_}
 use mathlib.Core.Bool.{Bool, true, false, cond}
 use mathlib.Core.List.{List, [], _∷_}
@@ -8,9 +8,10 @@ use borrow.Author.Tests.{eq-eqb, ne-eqb}
 use lib.IntN.{ℤ, pos}
 use lib.ListN.{length, take, drop}
 use Rattle.tables.specs.Widths.{halfWidth}
-use Rattle.steps.specs.Steps.{unfolded}
+use Rattle.steps.specs.Limits.{foldedLimit, coefficientLimit}
+use Rattle.steps.specs.Steps.{unstages, unfolded}
 use Rattle.runs.specs.Answers.{told, first, firstBeyond}
-use Rattle.runs.specs.declared.answer.Answer.the-variants.{Done, Halves, Unfolded}
+use Rattle.runs.specs.declared.answer.Answer.the-variants.{Done, Range, Folded, Halves, Unfolded}
 use Rattle.runs.specs.declared.answer.Found.{Found}
 use Rattle.runs.specs.declared.answer.Found.the-variants.{At, Nothing}
 use Rattle.runs.specs.declared.record.Run.{Run}
@@ -18,7 +19,7 @@ use Rattle.runs.specs.Record.{nextCount, opened}
 use Rattle.runs.specs.Gate.{askEach, firstOut}
 use Rattle.runs.proofs.RecordLaws.{take-filled}
 use Rattle.runs.proofs.BackLaws.{length-block}
-use Rattle.runs.specs.Back.{framed, blockOn, firstUpper, firstFrame, laterFrame, unfoldedIn}
+use Rattle.runs.specs.Back.{framed, blockOn, firstUpper, firstFrame, laterFrame, unfoldedIn, undoneIn}
 
 -- ---- a search whose places count from elsewhere
 from : ℕ → Found → Found
@@ -87,3 +88,21 @@ module _ (N count : ℕ) (low folded out : List ℤ) where
     unfolding told nextCount laterFrame askEach
     later-done kept block k b e =
         ap₂ (λ (r : Run) (w : List ℤ). ((0, 0), r, w)) (framed-is kept k) b ∙ sym (ap (λ f. askEach 12 f run out ((0, 0), framed run folded, blockOn run folded)) e) ∙ is-later
+
+-- ---- 9 and 10
+module _ (N count : ℕ) (low frame out : List ℤ) where
+  abbrev asked : Run
+  asked = opened N count low
+
+  pub range-refused : (place : ℕ) → firstBeyond (pos coefficientLimit) frame 0 ≡ At place → (told (Range place), opened N (nextCount (told (Range place) .0) count) low, out) ≡ undoneIn asked frame out
+  unfolding told nextCount undoneIn askEach
+  range-refused place e = rw e
+
+  module _ (e : firstBeyond (pos coefficientLimit) frame 0 ≡ Nothing) where
+    pub folded-refused : (place : ℕ) → firstBeyond (pos foldedLimit) (unstages N frame) 0 ≡ At place → (told (Folded place), opened N (nextCount (told (Folded place) .0) count) low, out) ≡ undoneIn asked frame out
+    unfolding told nextCount undoneIn askEach opened
+    folded-refused place d = rw (e, d)
+
+    pub folded-passed : firstBeyond (pos foldedLimit) (unstages N frame) 0 ≡ Nothing → unfoldedIn asked (unstages N frame) out ≡ undoneIn asked frame out
+    unfolding undoneIn askEach opened
+    folded-passed d = rw (e, d)

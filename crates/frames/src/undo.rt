@@ -84,9 +84,14 @@ pub fn undo(
     requires { ⌜ Within foldedLimit (now held) ⌝ }
     ensures { λ r. ⌜ (told r, opened width (nextCount (told r .0) count) (now (held .exit)), now (block .exit)) ≡ undoneIn (opened width count (now (held .entry))) (now (frame .entry)) (now (block .entry)) ⌝ }
 {
-    let asked = transform::unstaged(width, t, frame, folded, top, bottom, y, z);
-    if runs::answer::number(asked) != 0 {
-        return asked;
+    let coefficient = transform::coefficient_beyond(frame, folded);
+    if let Found::At(place) = coefficient {
+        return Answer::Range(place);
+    }
+    transform::unstages(width, t, frame, folded, top, bottom, y, z);
+    let value = questions::first_beyond(folded, limits::FOLDED_LIMIT);
+    if let Found::At(place) = value {
+        return Answer::Folded(place);
     }
     unfolded(width, count, t, folded, held, wide, block)
 }

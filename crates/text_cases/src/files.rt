@@ -1,6 +1,9 @@
 // Files that a run is written to, and read from again.
+ghost use Prim.Native.Nat.{_≤_};
 use decimal::compare;
 use decimal::print;
+use stream::run;
+use text_runs::state::Way;
 
 // A file of its own, which is gone with the program.
 pub fn temporary() -> i32 {
@@ -23,13 +26,21 @@ pub fn empty(file: i32) {
     rewind(file);
 }
 
+// A run from one file to another, in pieces of such a length.
+pub fn pass(way: Way, input: i32, output: i32, length: usize)
+    requires { ⌜ length ≤ 65536 ⌝ }
+{
+    let mut buffer = io::large_buffer();
+    run::run(way, input, output, &mut buffer[..length]);
+}
+
 // Whether two files have the same bytes, up to 16 MB.
 pub fn same(one: i32, other: i32) -> bool {
     rewind(one);
     rewind(other);
     let mut x = io::buffer();
     let mut y = io::buffer();
-    let mut turns = 4096;
+    let mut turns: usize = 4096;
     while 0 < turns {
         let n = io::read_full(one, &mut x);
         let m = io::read_full(other, &mut y);

@@ -1,24 +1,21 @@
 // A run of more than 300 KB, forward and back.
 ghost use Prim.Native.Nat.{_≤_};
-ghost use lib.ListN.{length};
-ghost use mathlib.Core.Path.{_≡_};
 use crate::files;
 use decimal::print;
-use stream::run;
 use text_runs::state::Way;
 
-const BLOCKS: usize = 9000;
+const BLOCKS: usize = 12000;
 
-// A reading of block i, from -500 to 499.
+// A reading of block i, from 0 to 999.
 fn reading(i: usize, j: usize) -> i32
-    requires { ⌜ (i ≤ 9000) × (j ≤ 8) ⌝ }
+    requires { ⌜ (i ≤ 12000) × (j ≤ 8) ⌝ }
 {
     let n = (i * 37 + j * 113) % 1000;
-    n as i32 - 500
+    n as i32
 }
 
 fn write_block(file: i32, i: usize)
-    requires { ⌜ i ≤ 9000 ⌝ }
+    requires { ⌜ i ≤ 12000 ⌝ }
 {
     let mut block = [0i32; 8];
     let mut j = 0;
@@ -39,25 +36,24 @@ fn write_run(file: i32) {
         write_block(file, i);
         i += 1;
     }
-    io::write_all(file, b"end,9000\n");
+    io::write_all(file, b"end,12000\n");
 }
 
 // The run forward into one file and back into another gives its own bytes again.
 pub fn show(one: i32, other: i32, length: usize)
     requires { ⌜ length ≤ 65536 ⌝ }
 {
-    let mut buffer = io::large_buffer();
     let readings = files::temporary();
     write_run(readings);
     files::rewind(readings);
     files::empty(one);
-    run::run(Way::Forward, readings, one, &mut buffer[..length]);
+    files::pass(Way::Forward, readings, one, length);
     files::rewind(one);
     files::empty(other);
-    run::run(Way::Back, one, other, &mut buffer[..length]);
+    files::pass(Way::Back, one, other, length);
     files::say(
         files::same(readings, other),
-        b"after 9000 blocks forward and back\n",
+        b"after 12000 blocks forward and back\n",
     );
     libc::close(readings);
 }

@@ -2,7 +2,6 @@
 ghost use Prim.Native.Nat.{_≤_};
 use crate::files;
 use decimal::search;
-use stream::run;
 use text_runs::state::Way;
 
 // The lengths of the pieces, besides 65,536.
@@ -26,8 +25,7 @@ fn run_from(way: Way, name: &[u8], output: i32, length: usize)
         os::fail(name);
         return;
     }
-    let mut buffer = io::large_buffer();
-    run::run(way, opened, output, &mut buffer[..length]);
+    files::pass(way, opened, output, length);
     libc::close(opened);
 }
 

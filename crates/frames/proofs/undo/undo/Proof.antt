@@ -2,18 +2,22 @@
 use borrow.Author.Needs.{needs}
 use mathlib.Core.Path.{_≡_, sym, ap, subst, _∙_}
 use mathlib.Core.List.{List}
-use Prim.Native.Nat.{ℕ}
-use lib.IntN.{ℤ}
+use Prim.Native.Nat.{ℕ, _%_}
+use native.Mathlib.Omega.{arith}
+use lib.IntN.{ℤ, pos}
 use lib.ListN.{length}
 use Rattle.integers.specs.Places.{Within}
-use Rattle.steps.specs.Limits.{foldedLimit}
+use Rattle.steps.specs.Limits.{foldedLimit, coefficientLimit}
 use Rattle.steps.specs.Steps.{unstages}
 use Rattle.steps.proofs.Lengths.{length-unstages}
-use Rattle.runs.specs.Answers.{told}
+use Rattle.runs.specs.Answers.{firstBeyond}
+use Rattle.runs.specs.declared.answer.Found.the-variants.{Nothing}
+use Rattle.frames.proofs.FrameLaws.{width-in-fours}
+use Rattle.runs.proofs.RecordLaws.{width-le}
+use Rattle.runs.proofs.Searches.{none-within}
 use Rattle.runs.specs.Record.{opened}
 use Rattle.runs.specs.Back.{unfoldedIn}
-use Rattle.runs.proofs.Searches.{none-within}
-use Rattle.frames.proofs.UnstagedLaws.{unstaged-inside, unstaged-made, undone-passed, undone-refused}
+use Rattle.frames.proofs.UndoLaws.{range-refused, folded-refused, folded-passed}
 use Rattle.frames.proofs.undo.undo.Statement.{statement}
 use Rattle.frames.proofs.undo.undo.Tie as tie
 
@@ -30,80 +34,106 @@ module _ (s : tie.Start) where
   abbrev out : List ℤ
   out = s .args .block .now
 
--- what questions 9 and 10 are answered
-module _ (n : tie.After-number) where
-  abbrev step : tie.After-unstaged
-  step = n .before .before .before .before .before .before
-
+-- what question 9 finds
+module _ (f : tie.After-coefficient-beyond) where
   abbrev from : tie.Start
-  from = step .before .before .before .before .before .before
+  from = f .before .before
 
-  folded-same : length (step .unstaged .last .1 .1 .1 .0) ≡ length (from .args .folded .now)
-  folded-same = n .before .before .before .before .before .folded .given
+  seen : firstBeyond (pos coefficientLimit) (frame from) 0 ≡ f .coefficient-beyond .result
+  seen = sym (f .coefficient-beyond .ensures)
 
--- both yes: the folded values
-module _ (e : tie.Else1) where
+none : (c : tie.After-enum-told) → firstBeyond (pos coefficientLimit) (frame (from (c .before .before .before))) 0 ≡ Nothing
+none c = seen (c .before .before .before) ∙ c .enum-told .given .1
+
+-- the folded values made of them, and the finding about these
+module _ (h : tie.After-first-beyond) where
+  abbrev passed : tie.After-enum-told
+  passed = h .before .before .before .before .before .before .before .before .before .before .before .before .before
+
   abbrev source : tie.Start
-  source = from (e .before)
+  source = from (passed .before .before .before)
 
-  none : told (step (e .before) .unstaged .result) .0 ≡ 0
-  none = sym (e .before .number .ensures) ∙ e .if1 .left
+  made : h .before .before .before .before .before .before .before .unstages .last .1 .1 .1 .0 ≡ unstages (N source) (frame source)
+  made = h .before .before .before .before .before .before .before .unstages .ensures
 
-  abbrev folded : List ℤ
-  folded = step (e .before) .unstaged .last .1 .1 .1 .0
+  seen2 : firstBeyond (pos foldedLimit) (unstages (N source) (frame source)) 0 ≡ h .first-beyond .result
+  seen2 = sym (h .first-beyond .ensures ∙ ap (λ (l : List ℤ). firstBeyond (pos foldedLimit) l 0) made)
 
-  made : folded ≡ unstages (N source) (frame source)
-  made = unstaged-made (N source) (frame source) folded _ (step (e .before) .unstaged .ensures) none
-
-  inside : Within foldedLimit folded
-  inside = subst (Within foldedLimit) (sym made) (none-within foldedLimit _ (unstaged-inside (N source) (frame source) folded _ (step (e .before) .unstaged .ensures) none))
-
-unstaged-requires : tie.Need-unstaged-requires
-unstaged-requires c κs =
-    let s = c .before .before .before .before .before in
-    let l = s .pre .1 .1 .0 in
-    (s .pre .0, (s .pre .1 .0, (s .pre .1 .1 .1 .0, (s .pre .1 .1 .1 .1 .0, (l .0, l .2)))))
+none2 : (d : tie.After-enum-told2) → firstBeyond (pos foldedLimit) (unstages (N (source (d .before .before))) (frame (source (d .before .before)))) 0 ≡ Nothing
+none2 d = seen2 (d .before .before) ∙ d .enum-told2 .given .1
 
 returns : tie.Need-returns
-returns c =
-    let n = c .before in
-    let s = from n in
-    undone-refused (N s) (frame s) _ _ (step n .unstaged .ensures) (λ z. c .if1 .taken (n .number .ensures ∙ z)) (s .args .count) (low s) (out s)
+returns c = let f = c .before .before .before .before in let s = from f in range-refused (N s) (s .args .count) (low s) (frame s) (out s) _ (seen f ∙ c .before .coefficient .given .1)
+
+enum-told : tie.Need-enum-told
+enum-told c = search needs
+
+coefficient-beyond-requires : tie.Need-coefficient-beyond-requires
+coefficient-beyond-requires c κs =
+    let s = c .before in
+    let l = s .pre .1 .1 .0 in
+    (omega (arith, l .0, width-le (N s) (s .pre .0)), ap (λ n. n % 4) (l .0) ∙ width-in-fours (N s) (s .pre .0), l .0 ∙ sym (l .2))
+
+unstages-requires : tie.Need-unstages-requires
+unstages-requires c κs =
+    let n = c .before .before .before .before .before in
+    let s = from (n .before .before .before) in
+    let l = s .pre .1 .1 .0 in
+    (s .pre .0, (s .pre .1 .0, (s .pre .1 .1 .1 .0, (s .pre .1 .1 .1 .1 .0, ((l .0, n .before .before .folded .given ∙ l .2), none-within coefficientLimit _ (none n))))))
+
+returns-2 : tie.Need-returns-2
+returns-2 c = let h = c .before .before .before in let s = source h in folded-refused (N s) (s .args .count) (low s) (frame s) (out s) (none (passed h)) _ (seen2 h ∙ c .before .value .given .1)
 
 unfolded-requires : tie.Need-unfolded-requires
 unfolded-requires c κs =
-    let e = c .before .before .before .before in
-    let s = source e in
-    let l = s .pre .1 .1 .0 in
-    (s .pre .0, (s .pre .1 .0, ((ap length (made e) ∙ length-unstages (N s) (frame s), l .1, l .3, l .4), (inside e, s .pre .1 .1 .1 .1 .1))))
+    let d = c .before .before .before .before in
+    let h = d .before .before in
+    let s = source h in (
+      s .pre .0,
+      (
+        s .pre .1 .0,
+        (
+          (ap length (made h) ∙ length-unstages (N s) (frame s), s .pre .1 .1 .0 .1, s .pre .1 .1 .0 .3, s .pre .1 .1 .0 .4),
+          (subst (Within foldedLimit) (sym (made h)) (none-within foldedLimit _ (none2 d)), s .pre .1 .1 .1 .1 .1),
+        ),
+      ),
+    )
 
-returns-2 : tie.Need-returns-2
-returns-2 c =
-    let e = c .before .before .before .before .before .before .before .before in
-    let s = source e in
+returns-3 : tie.Need-returns-3
+returns-3 c =
+    let d = c .before .before .before .before .before .before .before .before in
+    let h = d .before .before in
+    let s = source h in
     c .before .before .before .unfolded .ensures
-    ∙ ap (λ (l : List ℤ). unfoldedIn (opened (N s) (s .args .count) (low s)) l (out s)) (made e)
-    ∙ undone-passed (N s) (frame s) (folded e) _ (step (e .before) .unstaged .ensures) (none e) (s .args .count) (low s) (out s)
+    ∙ ap (λ (l : List ℤ). unfoldedIn (opened (N s) (s .args .count) (low s)) l (out s)) (made h)
+    ∙ folded-passed (N s) (s .args .count) (low s) (frame s) (out s) (none (passed h)) (none2 d)
 
 pub undo-spec : {M : Type 1} → statement M
 undo-spec =
     tie.close
     (tie.spec
-    unstaged-requires
-    (λ c κs. search needs)
-    (λ c. folded-same (c .before))
-    (λ c. c .before .before .before .before .before .top .given)
-    (λ c. c .before .before .before .before .bottom .given)
-    (λ c. c .before .before .before .y .given)
-    (λ c. c .before .before .z .given)
+    coefficient-beyond-requires
+    (λ c. search needs)
+    (λ c. c .before .before .before .folded .given)
     returns
+    enum-told
+    unstages-requires
+    (λ c κs. search needs)
+    (λ c. search needs)
+    (λ c. c .before .before .before .before .before .before .before .before .before .folded2 .given ∙ c .before .before .before .before .before .before .before .before .before .before .before .before .before .before .before .before .before .before .folded .given)
+    (λ c. c .before .before .before .before .before .before .before .before .top .given)
+    (λ c. c .before .before .before .before .before .before .before .bottom .given)
+    (λ c. c .before .before .before .before .before .before .y .given)
+    (λ c. c .before .before .before .before .before .z .given)
+    returns-2
+    (λ c. search needs)
     unfolded-requires
     (λ c. c .before .before .held .given)
     (λ c. c .block .given)
-    (λ c. let n = c .before .before .before .before .before .before .before .before .before in folded-same n)
+    (λ c. c .before .before .before .before .before .before .before .before .before .before .before .before .before .before .before .before .folded2 .given ∙ c .before .before .before .before .before .before .before .before .before .before .before .before .before .before .before .before .before .before .before .before .before .before .before .before .before .folded .given)
     (λ c. c .before .wide .given)
-    (λ c. let n = c .before .before .before .before .before .before .before .before .before in n .before .before .before .before .top .given)
-    (λ c. let n = c .before .before .before .before .before .before .before .before .before in n .before .before .before .bottom .given)
-    (λ c. let n = c .before .before .before .before .before .before .before .before .before in n .before .before .y .given)
-    (λ c. let n = c .before .before .before .before .before .before .before .before .before in n .before .z .given)
-    returns-2)
+    (λ c. c .before .before .before .before .before .before .before .before .before .before .before .before .before .before .before .top .given)
+    (λ c. c .before .before .before .before .before .before .before .before .before .before .before .before .before .before .bottom .given)
+    (λ c. c .before .before .before .before .before .before .before .before .before .before .before .before .before .y .given)
+    (λ c. c .before .before .before .before .before .before .before .before .before .before .before .before .z .given)
+    returns-3)

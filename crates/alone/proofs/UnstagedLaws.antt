@@ -1,4 +1,4 @@
--- What question 9, the stages undone and question 10 have told of a frame: by the definition for the stages alone, and by that of a run back.
+-- What question 9, the stages undone and question 10 have told of a frame.
 use mathlib.Core.Path.{_≡_, refl, sym, ap, _∙_}
 use mathlib.Core.List.{List}
 use Prim.Native.Nat.{ℕ}
@@ -10,36 +10,24 @@ use Rattle.runs.specs.Answers.{told, firstBeyond}
 use Rattle.runs.specs.declared.answer.Answer.{Answer}
 use Rattle.runs.specs.declared.answer.Found.{Found}
 use Rattle.runs.specs.declared.answer.Found.the-variants.{At, Nothing}
-use Rattle.runs.specs.declared.record.Run.{Run}
-use Rattle.runs.specs.Record.{nextCount, opened}
-use Rattle.runs.specs.Gate.{Given, askEach}
-use Rattle.runs.specs.Alone as Alone
-use Rattle.runs.specs.Alone.{refusedAt, unstagesAsked}
-use Rattle.runs.specs.Back.{unfoldedIn, undoneIn}
+use Rattle.runs.specs.Alone.{Given, refusedAt, unstagesAsked}
 
 -- an answer, and what the two searches have found
 module _ (made folded : List ℤ) (answer : ℕ × ℕ) where
   abbrev Asked : Found → Found → Type 0
-  Asked f g = _≡_ {A = Alone.Given} (answer, folded) (refusedAt 9 f folded (refusedAt 10 g folded ((0, 0), made)))
+  Asked f g = _≡_ {A = Given} (answer, folded) (refusedAt 9 f folded (refusedAt 10 g folded ((0, 0), made)))
 
   nothing : (f g : Found) → Asked f g → answer .0 ≡ 0 → (f ≡ Nothing) × (g ≡ Nothing) × (folded ≡ made)
   unfolding refusedAt
-  nothing (At place) g e z = absurd (omega (arith, z, ap (λ (x : Alone.Given). x .0 .0) e))
-  nothing Nothing (At place) e z = absurd (omega (arith, z, ap (λ (x : Alone.Given). x .0 .0) e))
-  nothing Nothing Nothing e z = (refl, refl, ap (λ (x : Alone.Given). x .1) e)
+  nothing (At place) g e z = absurd (omega (arith, z, ap (λ (x : Given). x .0 .0) e))
+  nothing Nothing (At place) e z = absurd (omega (arith, z, ap (λ (x : Given). x .0 .0) e))
+  nothing Nothing Nothing e z = (refl, refl, ap (λ (x : Given). x .1) e)
 
   alone : (f g : Found) → Asked f g → (answer .0 ≡ 0 → ⊥) → (out : List ℤ) → (answer, out) ≡ refusedAt 9 f out (refusedAt 10 g out ((0, 0), made))
   unfolding refusedAt
-  alone (At place) g e h out = ap (λ (x : Alone.Given). (x .0, out)) e
-  alone Nothing (At place) e h out = ap (λ (x : Alone.Given). (x .0, out)) e
-  alone Nothing Nothing e h out = absurd (h (ap (λ (x : Alone.Given). x .0 .0) e))
-
-  in-run : (f g : Found) → Asked f g → (answer .0 ≡ 0 → ⊥) → (N count : ℕ) (low out : List ℤ) (next : Given)
-      → (answer, opened N (nextCount (answer .0) count) low, out) ≡ askEach 9 f (opened N count low) out (askEach 10 g (opened N count low) out next)
-  unfolding refusedAt nextCount askEach
-  in-run (At place) g e h N count low out next = ap (λ (x : Alone.Given). (x .0, opened N (nextCount (x .0 .0) count) low, out)) e
-  in-run Nothing (At place) e h N count low out next = ap (λ (x : Alone.Given). (x .0, opened N (nextCount (x .0 .0) count) low, out)) e
-  in-run Nothing Nothing e h N count low out next = absurd (h (ap (λ (x : Alone.Given). x .0 .0) e))
+  alone (At place) g e h out = ap (λ (x : Given). (x .0, out)) e
+  alone Nothing (At place) e h out = ap (λ (x : Given). (x .0, out)) e
+  alone Nothing Nothing e h out = absurd (h (ap (λ (x : Given). x .0 .0) e))
 
 module _ (N : ℕ) (frame folded : List ℤ) (answer : Answer) (e : (told answer, folded) ≡ unstagesAsked N frame folded) where
   abbrev coefficient : Found
@@ -63,10 +51,6 @@ module _ (N : ℕ) (frame folded : List ℤ) (answer : Answer) (e : (told answer
     pub unstaged-made : folded ≡ unstages N frame
     unstaged-made = none .2
 
-    pub undone-passed : (count : ℕ) (low out : List ℤ) → unfoldedIn (opened N count low) (unstages N frame) out ≡ undoneIn (opened N count low) frame out
-    unfolding undoneIn askEach opened
-    undone-passed count low out = rw (none .0, none .1)
-
     pub unstaged-done : (out : List ℤ) → ((0, 0), unstages N frame) ≡ unstagesAsked N frame out
     unfolding unstagesAsked refusedAt
     unstaged-done out = rw (none .0, none .1)
@@ -76,7 +60,3 @@ module _ (N : ℕ) (frame folded : List ℤ) (answer : Answer) (e : (told answer
     pub unstaged-refused : (out : List ℤ) → (told answer, out) ≡ unstagesAsked N frame out
     unfolding unstagesAsked
     unstaged-refused out = alone (unstages N frame) folded (told answer) coefficient value asked h out
-
-    pub undone-refused : (count : ℕ) (low out : List ℤ) → (told answer, opened N (nextCount (told answer .0) count) low, out) ≡ undoneIn (opened N count low) frame out
-    unfolding undoneIn opened
-    undone-refused count low out = in-run (unstages N frame) folded (told answer) coefficient value asked h N count low out _

@@ -1,4 +1,4 @@
--- `frames::transform::unstaged` meets its contract.
+-- `alone::transform::unstaged` meets its contract.
 use borrow.Author.Needs.{needs}
 use native.Mathlib.Omega.{arith}
 use mathlib.Core.Path.{_≡_, sym, ap, _∙_}
@@ -14,9 +14,9 @@ use Rattle.runs.specs.declared.answer.Found.the-variants.{Nothing}
 use Rattle.runs.proofs.RecordLaws.{width-le}
 use Rattle.runs.proofs.Searches.{none-within}
 use Rattle.runs.proofs.AloneLaws.{unstages-refused, unstaged-refused, unstages-done}
 use Rattle.frames.proofs.FrameLaws.{width-in-fours}
-use Rattle.frames.proofs.transform.unstaged.Statement.{statement}
-use Rattle.frames.proofs.transform.unstaged.Tie as tie
+use Rattle.alone.proofs.transform.unstaged.Statement.{statement}
+use Rattle.alone.proofs.transform.unstaged.Tie as tie
 
 module _ (s : tie.Start) where
   abbrev N : ℕ
@@ -32,12 +32,12 @@ module _ (s : tie.Start) where
   room-long = s .pre .1 .1 .1 .1 .1
 
 -- what question 9 finds
-module _ (f : tie.After-seldom-beyond) where
+module _ (f : tie.After-coefficient-beyond) where
   abbrev from : tie.Start
   from = f .before .before
 
-  seen : firstBeyond (pos coefficientLimit) (frame from) 0 ≡ f .seldom-beyond .result
-  seen = sym (f .seldom-beyond .ensures)
+  seen : firstBeyond (pos coefficientLimit) (frame from) 0 ≡ f .coefficient-beyond .result
+  seen = sym (f .coefficient-beyond .ensures)
 
 none : (c : tie.After-enum-told) → firstBeyond (pos coefficientLimit) (frame (from (c .before .before .before))) 0 ≡ Nothing
 none c = seen (c .before .before .before) ∙ c .enum-told .given .1
@@ -59,10 +59,10 @@ module _ (h : tie.After-first-beyond) where
   seen2 : firstBeyond (pos foldedLimit) (unstages (N source) (frame source)) 0 ≡ h .first-beyond .result
   seen2 = sym (h .first-beyond .ensures ∙ ap (λ (l : List ℤ). firstBeyond (pos foldedLimit) l 0) made)
 
-seldom-beyond-requires : tie.Need-seldom-beyond-requires
-seldom-beyond-requires c κs =
+coefficient-beyond-requires : tie.Need-coefficient-beyond-requires
+coefficient-beyond-requires c κs =
     let s = c .before in
-    ((omega (arith, long s, width-le (N s) (s .pre .0)), ap (λ n. n % 4) (long s) ∙ width-in-fours (N s) (s .pre .0), long s ∙ sym (room-long s)), record { le = tt })
+    (omega (arith, long s, width-le (N s) (s .pre .0)), ap (λ n. n % 4) (long s) ∙ width-in-fours (N s) (s .pre .0), long s ∙ sym (room-long s))
 
 returns : tie.Need-returns
 returns c = let f = c .before .before .before .before in let s = from f in unstages-refused (N s) (frame s) _ _ (seen f ∙ c .before .coefficient .given .1)
@@ -89,7 +89,7 @@ pub unstaged-spec : {M : Type 1} → statement M
 unstaged-spec =
     tie.close
     (tie.spec
-    seldom-beyond-requires
+    coefficient-beyond-requires
     (λ c. search needs)
     (λ c. c .before .before .before .folded .given)
     returns
