@@ -6,7 +6,7 @@ use Rattle.alone.proofs.transform.either_way.Statement.{statement}
 use Rattle.alone.proofs.transform.either_way.Tie as tie
 
 unstaged-requires : tie.Need-unstaged-requires
-unstaged-requires c κs = c .before .before .before .before .before .before .pre
+unstaged-requires c κs = let start = c .before .before .before .before .before .before in start .pre
 
 returns : tie.Need-returns
 returns c =
@@ -17,7 +17,7 @@ returns c =
     k .unstaged .ensures ∙ sym (ap (λ u. cond u (unstagesAsked (s .args .width) (s .args .given .now) made) (stagesAsked (s .args .width) (s .args .given .now) made)) (t .if1 .taken))
 
 staged-requires : tie.Need-staged-requires
-staged-requires c κs = c .before .before .before .before .before .before .pre
+staged-requires c κs = let start = c .before .before .before .before .before .before in start .pre
 
 returns-2 : tie.Need-returns-2
 returns-2 c =
@@ -32,14 +32,14 @@ either-way-spec =
     tie.close
     (tie.spec
     unstaged-requires
-    (λ c. c .before .before .before .before .out .given)
+    (λ c. let at-out = c .before .before .before .before in at-out .out .given)
     (λ c. c .before .before .before .top .given)
     (λ c. c .before .before .bottom .given)
     (λ c. c .before .y .given)
     (λ c. c .z .given)
     returns
     staged-requires
-    (λ c. c .before .before .before .before .out2 .given)
+    (λ c. let at-out2 = c .before .before .before .before in at-out2 .out2 .given)
     (λ c. c .before .before .before .top2 .given)
     (λ c. c .before .before .bottom2 .given)
     (λ c. c .before .y2 .given)

@@ -75,7 +75,7 @@ staged-spec =
     returns
     enum-told
     stages-requires
-    (λ c. c .before .before .before .before .frame2 .given ∙ c .before .before .before .before .before .before .before .before .before .before .before .before .before .frame .given)
+    (λ c. let at-frame2 = c .before .before .before .before in let at-frame = at-frame2 .before .before .before .before .before .before .before .before .before in at-frame2 .frame2 .given ∙ at-frame .frame .given)
     (λ c. c .before .before .before .top .given)
     (λ c. c .before .before .bottom .given)
     (λ c. c .before .y .given)

@@ -56,7 +56,7 @@ top1 c =
     let s = c .before .before in
     c .every-second .ensures ∙ ap (λ n. places n (λ i. at (work s) (2 * i + 0))) (s .pre .1 .1 .0 .top-long) ∙ read-evens (N s) (work s)
 
-bottom1 : (c : tie.After-every-second2) → c .every-second2 .last .1 .1 .0 ≡ bottomOf (N (c .before .before .before .before .before)) (work (c .before .before .before .before .before))
+bottom1 : (c : tie.After-every-second2) → let earlier = c .before .before .before .before .before in c .every-second2 .last .1 .1 .0 ≡ bottomOf (N earlier) (work earlier)
 bottom1 c =
     let s = c .before .before .before .before .before in
     c .every-second2 .ensures ∙ ap (λ n. places n (λ i. at (work s) (2 * i + 1))) (s .pre .1 .1 .0 .bottom-long) ∙ read-odds (N s) (work s)
@@ -119,10 +119,10 @@ module _ (k : tie.After-copy) where
   behind-long = omega (arith, length-drop (half (from made)) (out (from made)), out-long (from made), half-long (from made))
 
 slice-relend-prefix-copy : tie.Need-slice-relend-prefix-copy
-slice-relend-prefix-copy c = half-le (from (c .before .before .before .before .before))
+slice-relend-prefix-copy c = let earlier = c .before .before .before .before .before in half-le (from earlier)
 
 slice-aggregate-copy : tie.Need-slice-aggregate-copy
-slice-aggregate-copy c = let s = from (c .before .before .before .before .before .before) in part-long _ (out s) (half-le s)
+slice-aggregate-copy c = let earlier = c .before .before .before .before .before .before in let s = from earlier in part-long _ (out s) (half-le s)
 
 copy-requires : tie.Need-copy-requires
 copy-requires c κs =
@@ -131,7 +131,10 @@ copy-requires c κs =
     top-of-long g ∙ sym (half-long s .0) ∙ part-long _ (out s) (half-le s)
 
 mul-copy : tie.Need-mul-copy
-mul-copy c = let s = from (c .before .before .before .before .before .before .before .before .before) in record { fits = omega (arith, half-long s, half-width-le (N s)) }
+mul-copy c =
+    let earlier = c .before .before .before .before .before .before .before .before .before in
+    let s = from earlier in
+    record { fits = omega (arith, half-long s, half-width-le (N s)) }
 
 sub-copy : tie.Need-sub-copy
 sub-copy c = let k = c .before .before in front-le _ (front-of k) (behind k) (front-is k)
@@ -171,8 +174,8 @@ stages-spec =
     (λ c. search needs)
     copy-requires-2
     (λ c. search needs)
-    (λ c. c .before .before .before .before .before .before .before .before .before .before .before .top2 .given ∙ c .before .before .before .before .before .before .before .before .before .before .before .before .before .before .before .before .before .before .before .before .top .given)
-    (λ c. c .before .before .before .before .before .before .before .before .before .before .bottom2 .given ∙ c .before .before .before .before .before .before .before .before .before .before .before .before .before .before .before .before .before .bottom .given)
-    (λ c. c .before .before .before .before .before .before .before .before .before .y .given)
-    (λ c. c .before .before .before .before .before .before .before .before .z .given)
+    (λ c. let at-top2 = c .before .before .before .before .before .before .before .before .before .before .before in let at-top = at-top2 .before .before .before .before .before .before .before .before .before in at-top2 .top2 .given ∙ at-top .top .given)
+    (λ c. let at-bottom2 = c .before .before .before .before .before .before .before .before .before .before in let at-bottom = at-bottom2 .before .before .before .before .before .before .before in at-bottom2 .bottom2 .given ∙ at-bottom .bottom .given)
+    (λ c. let at-y = c .before .before .before .before .before .before .before .before .before in at-y .y .given)
+    (λ c. let at-z = c .before .before .before .before .before .before .before .before in at-z .z .given)
     returns)

@@ -106,7 +106,7 @@ module _ (a : tie.After-z Inv-loop μ-loop) where
   after = opened (N (from here)) (nextCount (told (step .undo .result) .0) (here .loop .count)) kept
 
   kept-long : length kept ≡ halfWidth (N (from here))
-  kept-long = let at-held = a .before .before .before .before .before .before .before in at-held .held .given ∙ here .loop .inv .2 .long
+  kept-long = a .before .before .before .before .before .before .before .held .given ∙ here .loop .inv .2 .long
 
   undone : _≡_ {A = Given} (told (step .undo .result), after, step .undo .last .1 .1 .1 .1 .1 .0) (undoneIn (run here) part (here .loop .block))
   undone = step .undo .ensures ∙ ap (λ (f : List ℤ). undoneIn (run here) f (here .loop .block)) (part-is (place here) (N (from here)) (frames (from here)))
@@ -175,7 +175,6 @@ loop-again : tie.Need-loop-again Inv-loop μ-loop
 loop-again c =
     let n = c .before in
     let a = n .before in
-    let at-wide = a .before .before .before .before in
     let i = inside a in
     let k = here a in
     let s = from k in
@@ -183,10 +182,10 @@ loop-again c =
       block-next (place k) (k .loop .left) (N s) _ (k .loop .inv .0) (i .loop-test .taken),
       omega (arith, k .loop .inv .1, i .loop-test .taken),
       reached-after (N s) (k .loop .count) (low k) (kept a) (part a) (k .loop .block) _ (step a .undo .result) (k .loop .inv .2) (counted i) (kept-long a) (undone a) zero,
-      at-wide .before .before .block .given ∙ k .loop .inv .3,
+      a .before .before .before .before .before .before .block .given ∙ k .loop .inv .3,
       record {
-        folded-same = at-wide .before .folded .given ∙ k .loop .inv .4 .folded-same;
-        wide-same = at-wide .wide .given ∙ k .loop .inv .4 .wide-same;
+        folded-same = a .before .before .before .before .before .folded .given ∙ k .loop .inv .4 .folded-same;
+        wide-same = a .before .before .before .before .wide .given ∙ k .loop .inv .4 .wide-same;
         top-same = a .before .before .before .top .given ∙ k .loop .inv .4 .top-same;
         bottom-same = a .before .before .bottom .given ∙ k .loop .inv .4 .bottom-same;
         y-same = a .before .y .given ∙ k .loop .inv .4 .y-same;

@@ -147,7 +147,7 @@ forward-requires c κs =
     (s .pre .0, (s .pre .1 .0, (halves f, (s .pre .1 .1 .1 .1 .0, halves-within f))))
 
 slice-aggregate-narrow : tie.Need-slice-aggregate-narrow
-slice-aggregate-narrow c = let s = start (c .before .before .before .before .before .before) in part-long _ (out s) (half-le s)
+slice-aggregate-narrow c = let earlier = c .before .before .before .before .before .before in let s = start earlier in part-long _ (out s) (half-le s)
 
 narrow-requires : tie.Need-narrow-requires
 narrow-requires c κs =
@@ -212,10 +212,10 @@ step-spec =
     part-narrow-start
     (λ c. search needs)
     narrow-requires-2
-    (λ c. c .before .before .before .before .before .before .before .before .before .before .before .before .before .before .before .before .before .before .before .held .given)
+    (λ c. let at-held = c .before .before .before .before .before .before .before .before .before .before .before .before .before .before .before .before .before .before .before in at-held .held .given)
     (λ c. search needs)
-    (λ c. c .before .before .before .before .before .before .before .before .before .before .before .top2 .given ∙ c .before .before .before .before .before .before .before .before .before .before .before .before .before .before .before .before .before .before .top .given)
-    (λ c. c .before .before .before .before .before .before .before .before .before .before .bottom2 .given ∙ c .before .before .before .before .before .before .before .before .before .before .before .before .before .before .before .before .before .bottom .given)
-    (λ c. c .before .before .before .before .before .before .before .before .before .y .given)
-    (λ c. c .before .before .before .before .before .before .before .before .z .given)
+    (λ c. let at-top2 = c .before .before .before .before .before .before .before .before .before .before .before in let at-top = at-top2 .before .before .before .before .before .before .before in at-top2 .top2 .given ∙ at-top .top .given)
+    (λ c. let at-bottom2 = c .before .before .before .before .before .before .before .before .before .before in let at-bottom = at-bottom2 .before .before .before .before .before .before .before in at-bottom2 .bottom2 .given ∙ at-bottom .bottom .given)
+    (λ c. let at-y = c .before .before .before .before .before .before .before .before .before in at-y .y .given)
+    (λ c. let at-z = c .before .before .before .before .before .before .before .before in at-z .z .given)
     returns)

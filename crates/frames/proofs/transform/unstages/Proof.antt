@@ -58,8 +58,8 @@ module _ (s : tie.Start) where
 top1 : (c : tie.After-widen) → c .widen .last .1 .0 ≡ take (M (c .before .before .before)) (work (c .before .before .before))
 top1 c = c .widen .ensures ∙ front-is (c .before .before .before)
 
-bottom1 : (c : tie.After-widen2) → c .widen2 .last .1 .0 ≡ drop (M (c .before .before .before .before .before .before .before)) (work (c .before .before .before .before .before .before .before))
-bottom1 c = c .widen2 .ensures ∙ back-is (c .before .before .before .before .before .before .before)
+bottom1 : (c : tie.After-widen2) → let earlier = c .before .before .before .before .before .before .before in c .widen2 .last .1 .0 ≡ drop (M earlier) (work earlier)
+bottom1 c = let earlier = c .before .before .before .before .before .before .before in c .widen2 .ensures ∙ back-is earlier
 
 slice-aggregate-widen : tie.Need-slice-aggregate-widen
 slice-aggregate-widen c = part-long _ _ (half-le (c .before))
@@ -71,10 +71,10 @@ widen-requires c κs =
     (l ∙ sym (s .pre .1 .1 .0 .top-long), ap (λ n. n % 4) l ∙ half-in-fours (N s))
 
 sub-widen : tie.Need-sub-widen
-sub-widen c = half-le (c .before .before .before .before)
+sub-widen c = let earlier = c .before .before .before .before in half-le earlier
 
 part-widen-start : tie.Need-part-widen-start
-part-widen-start c = half-le (c .before .before .before .before)
+part-widen-start c = let earlier = c .before .before .before .before in half-le earlier
 
 widen-requires-2 : tie.Need-widen-requires-2
 widen-requires-2 c κs =
@@ -84,14 +84,15 @@ widen-requires-2 c κs =
 
 backward-requires : tie.Need-backward-requires
 backward-requires c κs =
-    let q = c .before .before .before .before .before in
+    let at-bottom = c .before .before .before .before in
+    let q = at-bottom .before in
     let p = q .before .before .before .before in
     let s = p .before .before .before in (
       s .pre .0,
       (
         s .pre .1 .0,
         (
-          record { top-long = q .before .before .before .top .given ∙ s .pre .1 .1 .0 .top-long; bottom-long = c .before .before .before .before .bottom .given ∙ s .pre .1 .1 .0 .bottom-long },
+          record { top-long = q .before .before .before .top .given ∙ s .pre .1 .1 .0 .top-long; bottom-long = at-bottom .bottom .given ∙ s .pre .1 .1 .0 .bottom-long },
           (
             s .pre .1 .1 .1 .0,
             (subst (Within coefficientLimit) (sym (top1 p)) (take-within (N s) coefficientLimit (work s) (inside s) (M s)), subst (Within coefficientLimit) (sym (bottom1 q)) (drop-within (N s) coefficientLimit (work s) (inside s) (M s))),
@@ -134,8 +135,8 @@ unstages-spec =
     backward-requires
     interleave-requires
     (λ c. c .out .given)
-    (λ c. c .before .before .before .before .before .before .before .before .top2 .given ∙ c .before .before .before .before .before .before .before .before .before .before .before .before .before .before .before .before .before .before .top .given)
-    (λ c. c .before .before .before .before .before .before .before .bottom2 .given ∙ c .before .before .before .before .before .before .before .before .before .before .before .before .before .before .bottom .given)
-    (λ c. c .before .before .before .before .before .before .y .given)
-    (λ c. c .before .before .before .before .before .z .given)
+    (λ c. let at-top2 = c .before .before .before .before .before .before .before .before in let at-top = at-top2 .before .before .before .before .before .before .before .before .before .before in at-top2 .top2 .given ∙ at-top .top .given)
+    (λ c. let at-bottom2 = c .before .before .before .before .before .before .before in let at-bottom = at-bottom2 .before .before .before .before .before .before .before in at-bottom2 .bottom2 .given ∙ at-bottom .bottom .given)
+    (λ c. let at-y = c .before .before .before .before .before .before in at-y .y .given)
+    (λ c. let at-z = c .before .before .before .before .before in at-z .z .given)
     returns)

@@ -90,7 +90,7 @@ take-spec =
     (λ c. long (c .before .before))
     (λ c. long (c .before .before))
     (λ c. search needs)
-    (λ c κs. let back-4 = c .before .before .before .before in rest-long (numbers (from back-4)) (room back-4))
+    (λ c κs. let earlier = c .before .before .before .before in rest-long (numbers (from earlier)) (room earlier))
     store-count-requires
     (λ c κs. search needs)
     (λ c. let at-run = c .before .before .before .before .before .before in c .before .before .run2 .given ∙ at-run .run .given .1)

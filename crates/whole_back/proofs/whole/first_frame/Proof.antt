@@ -49,7 +49,7 @@ module _ (a : tie.After-z) where
   step = a .before .before .before .before .before .before .before .before
 
   abbrev start : tie.Start
-  start = let back-9 = step .before .before .before .before .before .before .before .before .before in from back-9
+  start = let earlier = step .before .before .before .before .before .before .before .before .before in from earlier
 
   abbrev kept : List ℤ
   kept = step .undo .last .1 .1 .1 .1 .0

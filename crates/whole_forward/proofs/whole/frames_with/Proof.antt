@@ -145,15 +145,14 @@ step-requires c κs =
 
 loop-again : tie.Need-loop-again Inv-loop μ-loop
 loop-again c =
-    let at-frames = c .before .before .before .before in
-    let t = at-frames .before .before in
-    let i = t .before .before .before .before .before .before .before .before in
+    let t = c .before .before .before .before .before .before in
+    let i = c .before .before .before .before .before .before .before .before .before .before .before .before .before .before in
     let k = at i in
     let s = from k in
     let same = part-is (place k) (N s) (readings s) in (
       block-next (place k) (k .loop .left) (N s) _ (k .loop .inv .0) (i .loop-test .taken),
-      at-frames .frames .given .1 ∙ k .loop .inv .1,
-      front-same (half s) (kept k) (t .step .last .1 .1 .1 .0) (held-le k) (at-frames .before .held2 .given) ∙ k .loop .inv .2,
+      c .before .before .before .before .frames .given .1 ∙ k .loop .inv .1,
+      front-same (half s) (kept k) (t .step .last .1 .1 .1 .0) (held-le k) (c .before .before .before .before .before .held2 .given) ∙ k .loop .inv .2,
       record {
         top-long = k .loop .inv .3 .top-long ∙ sym (front-same (half s) (k .loop .top) (t .step .last .1 .1 .1 .1 .1 .0) (halves-le k .0) (c .before .before .before .top2 .given));
         bottom-long = k .loop .inv .3 .bottom-long ∙ sym (front-same (half s) (k .loop .bottom) (t .step .last .1 .1 .1 .1 .1 .1 .0) (halves-le k .1) (c .before .before .bottom2 .given));
@@ -191,12 +190,11 @@ step-requires-2 c κs =
 
 returns : tie.Need-returns Inv-loop μ-loop
 returns c =
-    let at-step2 = c .before .before .before .before .before .before in
-    let z = at-step2 .before .before .before .before .before .before .before .before in
+    let z = c .before .before .before .before .before .before .before .before .before .before .before .before .before .before in
     let k = over z in
     let s = from k in
     stepping-end (N s) (half s) (place k) (k .loop .left) (readings s) _ (frames k) (kept k) (k .loop .inv .4) (none z) (k .loop .inv .0) (k .loop .inv .1) _
-    (at-step2 .step2 .ensures .1 ∙ ap (frame (N s) (take (half s) (kept k))) (last-is z))
+    (c .before .before .before .before .before .before .step2 .ensures .1 ∙ ap (frame (N s) (take (half s) (kept k))) (last-is z))
 
 pub frames-with-spec : {M : Type 1} → statement M
 frames-with-spec =
@@ -222,12 +220,12 @@ frames-with-spec =
     (λ c. omega arith)
     (λ c. omega arith)
     (λ c. in-frames (c .before .before))
-    (λ c. let back-4 = c .before .before .before .before in halves-le back-4 .0)
+    (λ c. halves-le (c .before .before .before .before) .0)
     (λ c. let k = c .before .before .before .before .before in part-long _ (k .loop .top) (halves-le k .0))
-    (λ c. let back-5 = c .before .before .before .before .before in halves-le back-5 .1)
+    (λ c. halves-le (c .before .before .before .before .before) .1)
     (λ c. let k = c .before .before .before .before .before .before in part-long _ (k .loop .bottom) (halves-le k .1))
-    (λ c. let at-loop = c .before .before .before .before .before .before .before in at-loop .loop .inv .3 .y-long)
-    (λ c. let at-loop = c .before .before .before .before .before .before .before .before in at-loop .loop .inv .3 .z-long)
+    (λ c. c .before .before .before .before .before .before .before .loop .inv .3 .y-long)
+    (λ c. c .before .before .before .before .before .before .before .before .loop .inv .3 .z-long)
     step-requires
     (λ c. omega arith)
     (λ c. omega arith)
@@ -241,12 +239,12 @@ frames-with-spec =
     (λ c. omega (arith, last-at (c .before .before)))
     (λ c. omega (arith, last-at (c .before .before)))
     (λ c. omega arith)
-    (λ c. let back-5 = c .before .before .before .before .before in halves-le back-5 .0)
+    (λ c. halves-le (c .before .before .before .before .before) .0)
     (λ c. let k = c .before .before .before .before .before .before in part-long _ (k .loop .top) (halves-le k .0))
-    (λ c. let back-6 = c .before .before .before .before .before .before in halves-le back-6 .1)
+    (λ c. halves-le (c .before .before .before .before .before .before) .1)
     (λ c. let k = c .before .before .before .before .before .before .before in part-long _ (k .loop .bottom) (halves-le k .1))
-    (λ c. let at-loop = c .before .before .before .before .before .before .before .before in at-loop .loop .inv .3 .y-long)
-    (λ c. let at-loop = c .before .before .before .before .before .before .before .before .before in at-loop .loop .inv .3 .z-long)
+    (λ c. c .before .before .before .before .before .before .before .before .loop .inv .3 .y-long)
+    (λ c. c .before .before .before .before .before .before .before .before .before .loop .inv .3 .z-long)
     step-requires-2
-    (λ c. let back-14 = c .before .before .before .before .before .before .before .before .before .before .before .before .before .before in let k = over back-14 in c .before .before .before .before .frames2 .given .1 ∙ k .loop .inv .1 ∙ sym (from k .pre .1 .1 .0))
+    (λ c. let k = over (c .before .before .before .before .before .before .before .before .before .before .before .before .before .before) in c .before .before .before .before .frames2 .given .1 ∙ k .loop .inv .1 ∙ sym (from k .pre .1 .1 .0))
     returns)
