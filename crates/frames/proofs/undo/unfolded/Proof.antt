@@ -117,7 +117,7 @@ slice-aggregate-copy : tie.Need-slice-aggregate-copy
 slice-aggregate-copy c = let s = c .before .before .before .before .before .before in part-long _ (folded s) (half-le s)
 
 copy-requires : tie.Need-copy-requires
-copy-requires c κs = let earlier = c .before .before .before .before .before .before .before in front-long earlier
+copy-requires c κs = front-long (c .before .before .before .before .before .before .before)
 
 returns-2 : tie.Need-returns-2
 returns-2 c =
@@ -170,19 +170,17 @@ narrow-requires c κs =
     )
 
 slice-aggregate-copy-2 : tie.Need-slice-aggregate-copy-2
-slice-aggregate-copy-2 c = let earlier = c .before .before .before .before .before .before .before in let s = later (block-made earlier) in part-long _ (folded s) (half-le s)
+slice-aggregate-copy-2 c = let s = later (block-made (c .before .before .before .before .before .before .before)) in part-long _ (folded s) (half-le s)
 
 copy-requires-2 : tie.Need-copy-requires-2
-copy-requires-2 c κs = let earlier = c .before .before .before .before .before .before .before .before in front-long (later (block-made earlier))
+copy-requires-2 c κs = front-long (later (block-made (c .before .before .before .before .before .before .before .before)))
 
 returns-4 : tie.Need-returns-4
 returns-4 c =
-    let at-narrow = c .before .before .before .before .before in
-    let n = at-narrow .before .before .before in
+    let n = c .before .before .before .before .before .before .before .before in
     let u = block-made (n .before .before) in
-    let at-if1 = u .before .before .before .before .before .before in
     let s = later u in
-    later-done (N s) (s .args .count) (low s) (folded s) (out s) (at-if1 .if1 .left) _ _ (c .before .copy2 .ensures ∙ front-is s) (at-narrow .narrow .ensures ∙ made u) (none n)
+    later-done (N s) (s .args .count) (low s) (folded s) (out s) (u .before .before .before .before .before .before .if1 .left) _ _ (c .before .copy2 .ensures ∙ front-is s) (c .before .before .before .before .before .narrow .ensures ∙ made u) (none n)
 
 pub unfolded-spec : {M : Type 1} → statement M
 unfolded-spec =
@@ -221,6 +219,6 @@ unfolded-spec =
     slice-aggregate-copy-2
     copy-requires-2
     (λ c. c .held2 .given)
-    (λ c. let at-wide = c .before .before .before .before .before .before .before .before .before .before .before .before in at-wide .wide .given)
-    (λ c. let at-block = c .before .before .before .before in at-block .block .given)
+    (λ c. c .before .before .before .before .before .before .before .before .before .before .before .before .wide .given)
+    (λ c. c .before .before .before .before .block .given)
     returns-4)

@@ -57,13 +57,13 @@ module _ (m : tie.After-of-6482) where
   from = m .before .before .before .before .before .before .before
 
   abbrev held : List ℤ
-  held = let at-nothing-held = m .before .before .before .before .before .before in at-nothing-held .nothing-held .result
+  held = m .before .before .before .before .before .before .nothing-held .result
 
   abbrev folded : List ℤ
-  folded = let at-of-128 = m .before .before .before .before .before in at-of-128 .of-128 .result
+  folded = m .before .before .before .before .before .of-128 .result
 
   abbrev wide : List ℤ
-  wide = let at-of-1282 = m .before .before .before .before in at-of-1282 .of-1282 .result
+  wide = m .before .before .before .before .of-1282 .result
 
   abbrev top : List ℤ
   top = m .before .before .before .of-64 .result
@@ -72,15 +72,13 @@ module _ (m : tie.After-of-6482) where
   bottom = m .before .before .of-642 .result
 
   held-in : half from ≤ length held
-  held-in =
-      let at-nothing-held = m .before .before .before .before .before .before in
-      half-room (N from) (half from) held (half-wide from) (ap length (at-nothing-held .nothing-held .ensures) ∙ length-replicate 64 (pos 0))
+  held-in = half-room (N from) (half from) held (half-wide from) (ap length (m .before .before .before .before .before .before .nothing-held .ensures) ∙ length-replicate 64 (pos 0))
 
   folded-in : N from ≤ length folded
-  folded-in = let at-of-128 = m .before .before .before .before .before in width-room (N from) folded (from .pre .1 .0 .wide) (at-of-128 .of-128 .ensures)
+  folded-in = width-room (N from) folded (from .pre .1 .0 .wide) (m .before .before .before .before .before .of-128 .ensures)
 
   wide-in : N from ≤ length wide
-  wide-in = let at-of-1282 = m .before .before .before .before in width-room (N from) wide (from .pre .1 .0 .wide) (at-of-1282 .of-1282 .ensures)
+  wide-in = width-room (N from) wide (from .pre .1 .0 .wide) (m .before .before .before .before .of-1282 .ensures)
 
   top-in : half from ≤ length top
   top-in = half-room (N from) (half from) top (half-wide from) (sym (m .before .before .before .of-64 .ensures))
@@ -115,13 +113,13 @@ module _ (c : tie.After-z2) where
   bottom-left = step .first-frame .last .1 .1 .1 .1 .1 .1 .1 .0
 
   held-long : length kept ≡ half start
-  held-long = let at-held2 = c .before .before .before .before .before .before in at-held2 .held2 .given ∙ sym (part-long _ (held made) (held-in made))
+  held-long = c .before .before .before .before .before .before .held2 .given ∙ sym (part-long _ (held made) (held-in made))
 
   folded-long : length folded-left ≡ N start
-  folded-long = let at-folded2 = c .before .before .before .before .before in at-folded2 .folded2 .given ∙ sym (part-long _ (folded made) (folded-in made))
+  folded-long = c .before .before .before .before .before .folded2 .given ∙ sym (part-long _ (folded made) (folded-in made))
 
   wide-long : length wide-left ≡ N start
-  wide-long = let at-wide2 = c .before .before .before .before in at-wide2 .wide2 .given ∙ sym (part-long _ (wide made) (wide-in made))
+  wide-long = c .before .before .before .before .wide2 .given ∙ sym (part-long _ (wide made) (wide-in made))
 
   top-long : length top-left ≡ half start
   top-long = c .before .before .before .top2 .given ∙ sym (part-long _ (top made) (top-in made))
@@ -138,14 +136,13 @@ module _ (c : tie.After-z2) where
 first-frame-requires : tie.Need-first-frame-requires
 first-frame-requires c κs =
     let m = c .before .before .before .before .before .before .before .before in
-    let at-nothing-held = m .before .before .before .before .before .before in
     let s = from m in
     let w = s .pre .1 .0 .wide in (
       w,
       (
         s .pre .0,
         (
-          (sym (part-long _ (frames s) (long s)), none-held (N s) (half s) (held m) (half-wide s) (at-nothing-held .nothing-held .ensures)),
+          (sym (part-long _ (frames s) (long s)), none-held (N s) (half s) (held m) (half-wide s) (m .before .before .before .before .before .before .nothing-held .ensures)),
           (
             (sym (part-long _ (folded m) (folded-in m)), sym (part-long _ (wide m) (wide-in m))),
             (
@@ -214,9 +211,9 @@ readings-of-spec =
     (λ c. let m = c .before .before .before in part-long _ (folded m) (folded-in m))
     (λ c. wide-in (c .before .before .before))
     (λ c. let m = c .before .before .before .before in part-long _ (wide m) (wide-in m))
-    (λ c. let earlier = c .before .before .before .before in top-in earlier)
+    (λ c. top-in (c .before .before .before .before))
     (λ c. let m = c .before .before .before .before .before in part-long _ (top m) (top-in m))
-    (λ c. let earlier = c .before .before .before .before .before in bottom-in earlier)
+    (λ c. bottom-in (c .before .before .before .before .before))
     (λ c. let m = c .before .before .before .before .before .before in part-long _ (bottom m) (bottom-in m))
     (λ c. search needs)
     (λ c. search needs)
@@ -238,5 +235,5 @@ readings-of-spec =
     (λ c. search needs)
     (λ c. search needs)
     blocks-before-requires
-    (λ c. let at-readings = c .before .before .before .before .before .before in at-readings .readings .given)
+    (λ c. c .before .before .before .before .before .before .readings .given)
     returns)
