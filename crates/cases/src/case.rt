@@ -22,12 +22,13 @@ fn held_in(x: &[i32]) -> [i64; 64]
 fn record_in(x: &[i32]) -> Run
     requires { ⌜ length (now x) ≡ 67 ⌝ }
 {
-    Run {
-        width: line::at(x, 0),
-        count: line::at(x, 1),
-        held: held_in(&x[3..]),
-        finished: line::at(x, 2) == 1,
-    }
+    let held = held_in(&x[3..]);
+    record::make(
+        line::at(x, 0),
+        line::at(x, 1),
+        held,
+        line::at(x, 2) == 1,
+    )
 }
 
 fn same_held(x: &[i64; 64], y: &[i64; 64]) -> bool {

@@ -30,7 +30,7 @@ pub record Whole (P : Program) (s : P .State) (r : Place P) (out : List ℕ) : T
   pub prints : written ++ take (r .waiting) out ≡ printedOf P s read
   pub ends : r .state ≡ ended P (fed P (begun P s) read) .0
 
--- Why a run reads no further: it is lost, or the input has no byte more, or the program is over. Where a read has failed, it is lost.
-pub record Stopped (last : Filled) (lost over : Bool) : Type 0 where
+-- Why a run reads no further: it is lost, or the input has no byte more, or the program is over. Where a read or a write has failed, it is lost.
+pub record Stopped (last : Filled) (written lost over : Bool) : Type 0 where
   pub why : (lost ≡ true) ⊎ (last .count ≡ 0) ⊎ (over ≡ true)
-  pub whole : lost ≡ false → last .failed ≡ false
+  pub whole : lost ≡ false → (last .failed ≡ false) × (written ≡ true)

@@ -49,6 +49,7 @@ pub fn run(way: Way, input: i32, output: i32, buffer: &mut [u8]) -> Ending
         at: 0,
         failed: false,
     };
+    let mut written = true;
     let mut lost = false;
     let mut on = true;
     while on {
@@ -63,7 +64,7 @@ pub fn run(way: Way, input: i32, output: i32, buffer: &mut [u8]) -> Ending
         };
         let taken = piece::take(&buffer[..count], &mut line, &mut out, begun);
         let waiting = taken.waiting;
-        let written = writing::write(output, &out[..waiting]);
+        written = writing::write(output, &out[..waiting]);
         let after = taken.session;
         progress = Progress {
             session: after,

@@ -2,7 +2,6 @@
 ghost use mathlib.Core.Path.{_≡_};
 ghost use Rattle.text_runs.specs.State.{begun, goesOn, lineBetween, lineNumber};
 use runs::record;
-use runs::record::Run;
 use text_runs::state::Phase;
 use text_runs::state::State;
 use text_runs::state::Way;
@@ -15,12 +14,7 @@ pub fn begin(way: Way) -> State
     State {
         way: way,
         phase: Phase::Width,
-        run: Run {
-            width: 0,
-            count: 0,
-            held: held,
-            finished: false,
-        },
+        run: record::make(0, 0, held, false),
     }
 }
 

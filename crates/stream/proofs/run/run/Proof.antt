@@ -15,14 +15,14 @@ use Rattle.stream.proofs.run.run.Statement.{statement}
 use Rattle.stream.proofs.run.run.Tie as tie
 
 abbrev Inv-loop : tie.InvT-loop
-Inv-loop way input output buffer₀ line₀ out₀ progress₀ filled₀ lost₀ on₀ buffer line out progress filled lost on =
+Inv-loop way input output buffer₀ line₀ out₀ progress₀ filled₀ written₀ lost₀ on₀ buffer line out progress filled written lost on =
     Turns textProgram textLimits (sessionBegun way) buffer line out (placeOf progress) (filled .count) lost on
     × (length buffer ≡ length buffer₀)
     × (length out ≡ 65536)
-    × (on ≡ false → Stopped filled lost (isOver (progress .session)))
+    × (on ≡ false → Stopped filled written lost (isOver (progress .session)))
 
 abbrev μ-loop : tie.MeasureT-loop
-μ-loop way input output buffer₀ line₀ out₀ progress₀ filled₀ lost₀ on₀ buffer line out progress filled lost on =
+μ-loop way input output buffer₀ line₀ out₀ progress₀ filled₀ written₀ lost₀ on₀ buffer line out progress filled written lost on =
     turnsLeft textProgram text-bounded line (placeOf progress) on
 
 large-buffer-requires : tie.Need-large-buffer-requires Inv-loop μ-loop
@@ -102,7 +102,7 @@ loop-again c =
       turn-again textProgram (f .before .before .before .loop .inv .0) (f .refill .ensures) (at-buffer .buffer .given) (f .before .before .loop-test .taken) (t .take .ensures) (search needs) (search needs) (λ e. c .goes-on .ensures .0 e .1),
       search needs,
       search needs,
-      λ e. record { why = stopped-why c e; whole = λ l. c .before .before .lost .ensures .0 l .0 },
+      λ e. record { why = stopped-why c e; whole = λ l. c .before .before .lost .ensures .0 l },
     )
 
 same-length : tie.Need-same-length Inv-loop μ-loop

@@ -1,9 +1,8 @@
 -- `text_state::state::begin` meets its contract.
 use borrow.Author.Needs.{needs}
-use mathlib.Core.Path.{ap}
+use mathlib.Core.Path.{ap, _∙_}
 use mathlib.Core.Bool.{false}
-use mathlib.Core.List.{List}
-use lib.IntN.{ℤ}
+use Rattle.runs.specs.declared.record.Run.{Run}
 use Rattle.runs.specs.Record.{recordOf, filled, opened}
 use Rattle.text_runs.specs.declared.state.Way.{Way}
 use Rattle.text_runs.specs.declared.state.State.{State}
@@ -12,15 +11,17 @@ use Rattle.text_runs.specs.State.{begun}
 use Rattle.text_state.proofs.state.begin.Statement.{statement}
 use Rattle.text_state.proofs.state.begin.Tie as tie
 
-abbrev holding : Way → List ℤ → State
-holding way held = record { way = way; phase = Width; run = recordOf 0 0 held false }
+abbrev before-line-1 : Way → Run → State
+before-line-1 way run = record { way = way; phase = Width; run = run }
 
 nothing-held-requires : tie.Need-nothing-held-requires
 nothing-held-requires c κs = search needs
 
 returns : tie.Need-returns
 unfolding begun opened filled
-returns c = ap (holding (c .before .args .way)) (c .nothing-held .ensures)
+returns c =
+    let way = c .before .before .args .way in
+    ap (before-line-1 way) (c .make .ensures) ∙ ap (λ held. before-line-1 way (recordOf 0 0 held false)) (c .before .nothing-held .ensures)
 
 pub begin-spec : {M : Type 1} → statement M
-begin-spec = tie.close (tie.spec nothing-held-requires returns)
+begin-spec = tie.close (tie.spec nothing-held-requires (λ c κs. search needs) returns)
