@@ -1,13 +1,17 @@
 // Every frame of a whole run back is asked, and nothing is written: the answer of the first refused call.
 ghost use mathlib.Core.Path.{_≡_};
-ghost use Prim.Native.Nat.{_-_, _*_, _≤_};
+ghost use Prim.Native.Nat.{_-_, _*_, _≤_, _<_};
 ghost use lib.IntN.{pos};
 ghost use lib.ListN.{length};
+ghost use Rattle.integers.specs.Places.{Within};
 ghost use Rattle.tables.specs.Widths.{halfWidth};
+ghost use Rattle.steps.specs.Limits.{foldedLimit};
 ghost use Rattle.width_tables.specs.Filled.{Filled};
 ghost use Rattle.width_tables.specs.Own.Parts.{Halves, Room};
 ghost use Rattle.runs.specs.Answers.{told, firstBeyond};
-ghost use Rattle.runs.specs.Record.{frameLimit, zeros};
+ghost use Rattle.runs.specs.Record.{frameLimit, zeros, opened};
+ghost use Rattle.runs.specs.Forward.{started};
+ghost use Rattle.runs.specs.Back.{takenBack};
 ghost use Rattle.runs.specs.Answers;
 ghost use Rattle.runs.specs.WholeBack.{firstAnswer};
 ghost use Rattle.asking_back.specs.Own.Ready.{Frames, toldHeld};
@@ -137,4 +141,42 @@ pub fn first_answer(width: usize, t: &[i64], frames: &[i32]) -> Answer
         &mut y,
         &mut z,
     )
+}
+
+// The first frame of a fresh run, which writes nothing; what it holds for the next one.
+pub fn first_frame(
+    width: usize,
+    t: &[i64],
+    frame: &[i32],
+    held: &mut [i64],
+    folded: &mut [i64],
+    wide: &mut [i64],
+    top: &mut [i64],
+    bottom: &mut [i64],
+    y: &mut [i64],
+    z: &mut [i64],
+)
+    requires { ⌜ 0 < halfWidth width ⌝ }
+    requires { ⌜ Filled width (now t) ⌝ }
+    requires { ⌜ (length (now frame) ≡ width) × (now held ≡ zeros (halfWidth width)) ⌝ }
+    requires { ⌜ (length (now folded) ≡ width) × (length (now wide) ≡ width) ⌝ }
+    requires { ⌜ Halves width (now top) (now bottom) ⌝ }
+    requires { ⌜ Room width (now y) (now z) ⌝ }
+    ensures { λ _. ⌜ (takenBack (started width .1) (now (frame .entry)) (zeros width) .0 .0 ≡ 0 → (opened width 1 (now (held .exit)) ≡ takenBack (started width .1) (now (frame .entry)) (zeros width) .1) × Within foldedLimit (now (held .exit))) ⌝ }
+{
+    let mut block = step::zero_block();
+    undo::undo(
+        width,
+        0,
+        t,
+        frame,
+        held,
+        &mut block[..width],
+        folded,
+        wide,
+        top,
+        bottom,
+        y,
+        z,
+    );
 }

@@ -1,6 +1,6 @@
 // A whole run back over lent slices, for any caller.
 ghost use mathlib.Core.Path.{_≡_};
-ghost use Prim.Native.Nat.{_+_, _/_, _<_};
+ghost use Prim.Native.Nat.{_+_, _/_};
 ghost use lib.ListN.{length, drop};
 ghost use Rattle.integers.specs.Places.{Within};
 ghost use Rattle.tables.specs.Widths.{halfWidth};
@@ -8,14 +8,11 @@ ghost use Rattle.steps.specs.Limits.{foldedLimit};
 ghost use Rattle.width_tables.specs.Filled.{Filled};
 ghost use Rattle.width_tables.specs.Own.Parts.{Halves, Room};
 ghost use Rattle.runs.specs.Answers.{told};
-ghost use Rattle.runs.specs.Record.{zeros, opened};
-ghost use Rattle.runs.specs.Forward.{started};
+ghost use Rattle.runs.specs.Record.{opened};
 ghost use Rattle.gate.specs.Own.Ready.{Blocks};
-ghost use Rattle.runs.specs.Back.{takenBack};
 ghost use Rattle.runs.specs.WholeBack.{answerFrom, outputsFrom, firstAnswer, allOutputs, oneByOne, wholeBack};
 ghost use Rattle.asking_back.specs.Own.Ready.{Frames};
 use asking_back::asking;
-use frames::step;
 use frames::undo;
 use gate::limits;
 use gate::questions;
@@ -72,44 +69,6 @@ fn blocks_before(
     }
 }
 
-// The first frame of a fresh run, which writes nothing; what it holds for the next one.
-fn first_frame(
-    width: usize,
-    t: &[i64],
-    frame: &[i32],
-    held: &mut [i64],
-    folded: &mut [i64],
-    wide: &mut [i64],
-    top: &mut [i64],
-    bottom: &mut [i64],
-    y: &mut [i64],
-    z: &mut [i64],
-)
-    requires { ⌜ 0 < halfWidth width ⌝ }
-    requires { ⌜ Filled width (now t) ⌝ }
-    requires { ⌜ (length (now frame) ≡ width) × (now held ≡ zeros (halfWidth width)) ⌝ }
-    requires { ⌜ (length (now folded) ≡ width) × (length (now wide) ≡ width) ⌝ }
-    requires { ⌜ Halves width (now top) (now bottom) ⌝ }
-    requires { ⌜ Room width (now y) (now z) ⌝ }
-    ensures { λ _. ⌜ (takenBack (started width .1) (now (frame .entry)) (zeros width) .0 .0 ≡ 0 → (opened width 1 (now (held .exit)) ≡ takenBack (started width .1) (now (frame .entry)) (zeros width) .1) × Within foldedLimit (now (held .exit))) ⌝ }
-{
-    let mut block = step::zero_block();
-    undo::undo(
-        width,
-        0,
-        t,
-        frame,
-        held,
-        &mut block[..width],
-        folded,
-        wide,
-        top,
-        bottom,
-        y,
-        z,
-    );
-}
-
 // The readings of a run that is accepted.
 fn readings_of(width: usize, t: &[i64], frames: &[i32], readings: &mut [i32])
     requires { ⌜ Filled width (now t) ⌝ }
@@ -126,7 +85,7 @@ fn readings_of(width: usize, t: &[i64], frames: &[i32], readings: &mut [i32])
     let mut bottom = room::of_64();
     let mut y = room::of_648();
     let mut z = room::of_648();
-    first_frame(
+    asking::first_frame(
         width,
         t,
         &frames[..width],

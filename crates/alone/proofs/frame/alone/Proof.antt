@@ -151,15 +151,15 @@ pub alone-spec : {M : Type 1} → statement M
 alone-spec =
     tie.close
     (tie.spec
-    (λ c κs. search needs)
-    (λ c κs. search needs)
+    (λ c κs. tt)
+    (λ c κs. tt)
     returns
     returns-2
-    (λ c κs. search needs)
+    (λ c κs. tt)
     array-borrow-prefix-work
     slice-aggregate-in-room
     in-room-requires
-    (λ c κs. search needs)
+    (λ c κs. tt)
     returns-3
     array-share-prefix-work
     slice-aggregate-narrow

@@ -118,7 +118,7 @@ undo-spec =
     returns
     enum-told
     unstages-requires
-    (λ c κs. search needs)
+    (λ c κs. record { le = tt })
     (λ c. search needs)
     (λ c. c .before .before .before .before .before .before .before .before .before .folded2 .given ∙ c .before .before .before .before .before .before .before .before .before .before .before .before .before .before .before .before .before .before .folded .given)
     (λ c. c .before .before .before .before .before .before .before .before .top .given)

@@ -190,7 +190,7 @@ unfolded-spec =
     (λ c. search needs)
     (λ c. search needs)
     (λ c. search needs)
-    (λ c κs. search needs)
+    (λ c κs. record { le = tt })
     (λ c. search needs)
     add-t19
     returns
@@ -209,7 +209,7 @@ unfolded-spec =
     (λ c. search needs)
     (λ c. search needs)
     unfold-requires
-    (λ c κs. search needs)
+    (λ c κs. record { le = tt })
     (λ c. search needs)
     (λ c. search needs)
     (λ c. search needs)

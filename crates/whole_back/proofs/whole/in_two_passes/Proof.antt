@@ -120,9 +120,9 @@ pub in-two-passes-spec : {M : Type 1} → statement M
 in-two-passes-spec =
     tie.close
     (tie.spec
-    (λ c κs. search needs)
-    (λ c κs. search needs)
-    (λ c κs. search needs)
+    (λ c κs. tt)
+    (λ c κs. tt)
+    (λ c κs. tt)
     array-borrow-prefix-t
     slice-aggregate-fill
     (λ c. search needs)
@@ -130,7 +130,7 @@ in-two-passes-spec =
     array-share-prefix-t
     slice-aggregate-first-answer
     first-answer-requires
-    (λ c κs. search needs)
+    (λ c κs. tt)
     returns
     array-share-prefix-t-2
     slice-aggregate-readings-of

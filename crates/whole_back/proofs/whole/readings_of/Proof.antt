@@ -197,13 +197,13 @@ pub readings-of-spec : {M : Type 1} → statement M
 readings-of-spec =
     tie.close
     (tie.spec
-    (λ c κs. search needs)
-    (λ c κs. search needs)
-    (λ c κs. search needs)
-    (λ c κs. search needs)
-    (λ c κs. search needs)
-    (λ c κs. search needs)
-    (λ c κs. search needs)
+    (λ c κs. tt)
+    (λ c κs. tt)
+    (λ c κs. tt)
+    (λ c κs. tt)
+    (λ c κs. tt)
+    (λ c κs. tt)
+    (λ c κs. tt)
     (λ c. let s = from (c .before) in part-long _ (frames s) (long s))
     (λ c. held-in (c .before))
     (λ c. let m = c .before .before in part-long _ (held m) (held-in m))

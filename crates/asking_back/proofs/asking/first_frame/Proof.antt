@@ -1,4 +1,4 @@
--- `whole_back::whole::first_frame` meets its contract.
+-- `asking_back::asking::first_frame` meets its contract.
 use borrow.Author.Needs.{needs}
 use native.Mathlib.Omega.{arith}
 use mathlib.Core.Path.{_≡_, sym, ap, subst, _∙_}
@@ -16,9 +16,9 @@ use Rattle.runs.specs.Forward.{started}
 use Rattle.gate.proofs.FaultLaws.{width-room}
 use Rattle.runs.specs.Back.{takenBack}
 use Rattle.runs.proofs.BackLaws.{started-back, ReachedBack, back-first}
 use Rattle.asking_back.proofs.Undoing.{low-within, frame-taken, run-after, reached-after}
-use Rattle.whole_back.proofs.whole.first_frame.Statement.{statement}
-use Rattle.whole_back.proofs.whole.first_frame.Tie as tie
+use Rattle.asking_back.proofs.asking.first_frame.Statement.{statement}
+use Rattle.asking_back.proofs.asking.first_frame.Tie as tie
 
 module _ (s : tie.Start) where
   abbrev N : ℕ
@@ -100,7 +100,7 @@ pub first-frame-spec : {M : Type 1} → statement M
 first-frame-spec =
     tie.close
     (tie.spec
-    (λ c κs. search needs)
+    (λ c κs. tt)
     array-borrow-prefix-block
     slice-aggregate-undo
     undo-requires
