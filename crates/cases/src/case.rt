@@ -23,12 +23,7 @@ fn record_in(x: &[i32]) -> Run
     requires { ⌜ length (now x) ≡ 67 ⌝ }
 {
     let held = held_in(&x[3..]);
-    record::make(
-        line::at(x, 0),
-        line::at(x, 1),
-        held,
-        line::at(x, 2) == 1,
-    )
+    record::make(line::at(x, 0), line::at(x, 1), held, line::at(x, 2) == 1)
 }
 
 fn same_held(x: &[i64; 64], y: &[i64; 64]) -> bool {
