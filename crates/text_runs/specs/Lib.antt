@@ -1,6 +1,5 @@
 pub mod Decimal
 pub mod Lines
-pub mod Gather
 pub mod State
 pub mod Way
 pub mod Line

@@ -32,7 +32,6 @@ use Rattle.text_runs.specs.declared.state.Phase.the-variants.{Width, Bet
 use Rattle.text_runs.specs.Bytes.{bytes}
 use Rattle.text_runs.specs.Decimal.{spelled, decimal, printed, isDigit, allDigits, valueOf, valued, leads, sized, negative, positive, numberIn, bits32, allBits}
 use Rattle.text_runs.specs.Lines.{refusedTag, endTag, behindCommas, row, endLine, refusal, longer, fields, inFront, allNumbers, numbersIn, upTo, same}
-use Rattle.text_runs.specs.Gather.{gathered}
 use Rattle.text_runs.specs.State.{Given, given, begun, inPhase, withRun, goesOn, lineBetween, lineNumber, refused}
 use Rattle.text_runs.specs.Way.{output, takenBy, endedBy, rowLine, lastLine, shownRow, shownLast}
 use Rattle.text_runs.specs.Line.{badForm, widthStarted, widthTaken, rowGiven, rowTaken, betweenTaken, formed, notFormed, lineTaken, finishGiven, endIn, inputEnded}
@@ -125,15 +124,6 @@ lines-compared : same (bytes "end,1") (bytes "end,1") ∷ same (bytes "end,1") (
     ≡ true ∷ false ∷ false ∷ false ∷ []
 unfolding bytes same
 lines-compared = refl
-
--- ---- a line of at most 4 bytes that comes in pieces: whole, not ended, and too long
-pieces-gathered : Said
-    ((gathered 4 (bytes "1") (bytes "2,3\n4"), (bytes "12,3", bytes "4", true, false))
-    ∷ (gathered 4 (bytes "1") (bytes "2,3"), (bytes "12,3", bytes "", false, false))
-    ∷ (gathered 4 (bytes "12") (bytes "2,3\n4"), (bytes "12", bytes "2,3\n4", false, true))
-    ∷ [])
-unfolding bytes gathered upTo
-pieces-gathered = refl
 
 -- ---- the state
 abbrev at : Way → Phase → ℕ → State
