@@ -11,7 +11,7 @@ use lib.ListN.{length, length-drop, take-append-drop}
 use lib.Seq.{length-take-le}
 use Rattle.integers.specs.Vectors.{AllAbs}
 use Rattle.tables.specs.Widths.{halfWidth}
-use Rattle.steps.specs.Limits.{readingLimit, foldedLimit}
+use Rattle.steps.specs.Limits.{readingLimit, foldedLimit, coefficientLimit}
 use Rattle.steps.specs.Steps.{lower, held, frame, unstages, unfolded}
 use Rattle.steps.proofs.Lengths.{length-unstages, length-unfolded, width-half}
 use Rattle.steps.proofs.Undo.{stages-unstages}
@@ -90,6 +90,8 @@ first-accepted N w c out l m e =
 pub record LaterAccepted (N b : ℕ) (low c out : List ℤ) : Type 0 where
   pub given : takenBack (opened N (suc b) low) c out ≡ ((0, 0), opened N (suc (suc b)) (lowHalf N c), unfolded N low (highHalf N c))
   pub reached : ReachedBack N (suc (suc b)) (lowHalf N c)
+  pub coefficients : AllAbs coefficientLimit c
+  pub values : AllAbs foldedLimit (unstages N c)
   pub readings : Block N readingLimit (unfolded N low (highHalf N c))
 
 module _ (N b : ℕ) (low : List ℤ) (r : ReachedBack N (suc b) low) where
@@ -102,6 +104,8 @@ module _ (N b : ℕ) (low : List ℤ) (r : ReachedBack N (suc b) low) where
       record {
         given = same ∙ d .when-yes yes;
         reached = back-next N (suc b) low r (lowHalf N c) h (low-long N (r .wide) c) (low-within N c (every-answer _ yes 1));
+        coefficients = all-inside coefficientLimit c (every-answer _ yes 0);
+        values = all-inside foldedLimit (unstages N c) (every-answer _ yes 1);
         readings = record { long = length-unfolded N low (highHalf N c); within = all-inside readingLimit (unfolded N low (highHalf N c)) (every-answer _ yes 2) };
       }
 

@@ -21,7 +21,7 @@ use runs::record;
 use slices::room;
 use width_tables::fill;
 
-// The blocks before the frames that follow the first one. Each frame is lent to the frame step as it lies.
+// The blocks before the frames that follow the first one, none of which is refused. Each frame is lent to the frame step as it lies.
 fn blocks_before(
     width: usize,
     t: &[i64],
@@ -45,13 +45,11 @@ fn blocks_before(
     ensures { λ _. ⌜ now (readings .exit) ≡ outputsFrom width (opened width 1 (now (held .entry))) (length (now (frames .entry)) / width) (now (frames .entry)) (now (readings .entry)) ⌝ }
 {
     let mut at = 0;
-    let mut count = 1;
     let mut blocks = frames.len() / width;
     while 0 < blocks {
         let end = at + width;
-        undo::undo(
+        undo::give_back(
             width,
-            count,
             t,
             &frames[at..end],
             held,
@@ -64,7 +62,6 @@ fn blocks_before(
             z,
         );
         at = end;
-        count += 1;
         blocks -= 1;
     }
 }

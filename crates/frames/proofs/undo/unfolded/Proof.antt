@@ -24,7 +24,6 @@ use Rattle.runs.specs.Gate.{firstOut}
 use Rattle.gate.proofs.GateLaws.{rest-part}
 use Rattle.runs.proofs.RecordLaws.{width-le}
 use Rattle.runs.specs.Back.{blockOn}
-use Rattle.frames.proofs.RoomLaws.{lifts-in, tangents-lent, sines-lent}
 use Rattle.frames.proofs.UndoLaws.{upper-refused, first-done, block-is, block-long, later-refused, later-done}
 use Rattle.frames.proofs.undo.unfolded.Statement.{statement}
 use Rattle.frames.proofs.undo.unfolded.Tie as tie
@@ -54,12 +53,6 @@ module _ (s : tie.Start) where
   half-le : half ≤ length folded
   half-le = omega (arith, half-wide, s .pre .1 .1 .0 .0, width-half N (s .pre .0))
 
-  rest : take (length folded - half) (drop half folded) ≡ drop half folded
-  rest = rest-part (length folded) half half folded refl refl
-
-  rest-long : length (drop half folded) ≡ halfWidth N
-  rest-long = omega (arith, length-drop half folded, half-wide, s .pre .1 .1 .0 .0, width-half N (s .pre .0))
-
   folded-le : length folded ≤ 128
   folded-le = omega (arith, s .pre .1 .1 .0 .0, width-le N (s .pre .0))
 
@@ -77,16 +70,19 @@ module _ (f : tie.After-first-beyond) where
   upper-seen : firstBeyond (pos 0) (drop (halfWidth (N first)) (folded first)) 0 ≡ f .first-beyond .result
   upper-seen = sym (f .first-beyond .ensures ∙ ap (λ (l : List ℤ). firstBeyond (pos 0) l 0) (rest-part (length (folded first)) (half first) _ (folded first) refl (half-wide first)))
 
--- the block of a later frame unfolded, and the question's finding about it
-module _ (u : tie.After-unfold) where
+-- the block before a later frame, and the question's finding about it
+module _ (u : tie.After-block-between) where
   abbrev later : tie.Start
-  later = u .before .before .before .before .before .before .before
+  later = u .before .before .before .before
 
-  made : u .unfold .last .1 .1 .1 .1 .1 .0 ≡ blockOn (opened (N later) (later .args .count) (low later)) (folded later)
-  made = u .unfold .ensures ∙ ap (unfolded (N later) (low later)) (rest later) ∙ block-is (N later) (later .args .count) (low later) (folded later) (out later) (half later) (half-wide later) (later .pre .1 .1 .0 .1)
+  made : u .block-between .last .1 .1 .1 .1 .0 ≡ blockOn (opened (N later) (later .args .count) (low later)) (folded later)
+  made = u .block-between .ensures ∙ block-is (N later) (later .args .count) (low later) (folded later) (out later) (halfWidth (N later)) refl (later .pre .1 .1 .0 .1)
+
+  made-long : length (u .block-between .last .1 .1 .1 .1 .0) ≡ N later
+  made-long = ap length made ∙ block-long (N later) (later .args .count) (low later) (folded later) (out later)
 
 module _ (f : tie.After-first-beyond2) where
-  abbrev block-made : tie.After-unfold
+  abbrev block-made : tie.After-block-between
   block-made = f .before .before .before
 
   abbrev from : tie.Start
@@ -126,61 +122,34 @@ returns-2 c =
     let s = first f in
     first-done (N s) (s .args .count) (low s) (folded s) (out s) (f .before .before .if1 .taken) _ (c .before .copy .ensures ∙ front-is s) (upper-seen f ∙ n .enum-told .given .1)
 
-slice-aggregate-unfold : tie.Need-slice-aggregate-unfold
-slice-aggregate-unfold c = let s = c .before .before in part-long _ (s .args .t .now) (omega (arith, lifts-in (N s) (s .pre .0) _ (s .pre .1 .0)))
-
-part-unfold-end : tie.Need-part-unfold-end
-part-unfold-end c = let s = c .before .before in lifts-in (N s) (s .pre .0) _ (s .pre .1 .0)
-
-unfold-requires : tie.Need-unfold-requires
-unfold-requires c κs =
-    let s = c .before .before .before .before .before .before in (
-      s .pre .0,
-      (
-        tangents-lent (N s) (s .pre .0) _ (s .pre .1 .0),
-        (
-          sines-lent (N s) (s .pre .0) _ (s .pre .1 .0),
-          (
-            record { top-long = s .pre .1 .1 .0 .1; bottom-long = ap length (rest s) ∙ rest-long s },
-            (
-              s .pre .1 .1 .0 .2,
-              (s .pre .1 .1 .1 .1, subst (Within foldedLimit) (sym (rest s)) (drop-within (N s) foldedLimit (folded s) (s .pre .1 .1 .1 .0) (half s))),
-            ),
-          ),
-        ),
-      ),
-    )
+block-between-requires : tie.Need-block-between-requires
+block-between-requires c κs =
+    let s = c .before .before .before in
+    let l = s .pre .1 .1 .0 in
+    (s .pre .0, (s .pre .1 .0, ((l .0, l .1, l .2), (s .pre .1 .1 .1 .0, s .pre .1 .1 .1 .1))))
 
 returns-3 : tie.Need-returns-3
 returns-3 c =
     let f = c .before .before .before in
     let s = from f in
-    later-refused (N s) (s .args .count) (low s) (folded s) (out s) (block-made f .before .before .before .before .before .before .if1 .left) _ (seen f ∙ c .before .beyond .given .1)
+    later-refused (N s) (s .args .count) (low s) (folded s) (out s) (block-made f .before .before .before .if1 .left) _ (seen f ∙ c .before .beyond .given .1)
 
-narrow-requires : tie.Need-narrow-requires
-narrow-requires c κs =
-    let n = c .before .before in
+write-requires : tie.Need-write-requires
+write-requires c κs =
+    let n = c .before .before .before in
     let u = block-made (n .before .before) in
     let s = later u in (
-      (
-        ap length (made u) ∙ block-long (N s) (s .args .count) (low s) (folded s) (out s) ∙ sym (s .pre .1 .1 .0 .3),
-        ap (λ n. n % 4) (ap length (made u) ∙ block-long (N s) (s .args .count) (low s) (folded s) (out s)) ∙ width-in-fours (N s) (s .pre .0),
-      ),
+      (made-long u ∙ sym (s .pre .1 .1 .0 .3), ap (λ n. n % 4) (made-long u) ∙ width-in-fours (N s) (s .pre .0), omega (arith, half-wide s, half-le s, s .pre .1 .1 .0 .1)),
       subst (Within (2 ^ 30)) (sym (made u)) (within-up (none-within readingLimit _ (none n)) (omega arith)),
     )
 
-slice-aggregate-copy-2 : tie.Need-slice-aggregate-copy-2
-slice-aggregate-copy-2 c = let s = later (block-made (c .before .before .before .before .before .before .before)) in part-long _ (folded s) (half-le s)
-
-copy-requires-2 : tie.Need-copy-requires-2
-copy-requires-2 c κs = front-long (later (block-made (c .before .before .before .before .before .before .before .before)))
-
 returns-4 : tie.Need-returns-4
 returns-4 c =
-    let n = c .before .before .before .before .before .before .before .before in
+    let w = c .before .before in
+    let n = w .before .before .before .before in
     let u = block-made (n .before .before) in
     let s = later u in
-    later-done (N s) (s .args .count) (low s) (folded s) (out s) (u .before .before .before .before .before .before .if1 .left) _ _ (c .before .copy2 .ensures ∙ front-is s) (c .before .before .before .before .before .narrow .ensures ∙ made u) (none n)
+    later-done (N s) (s .args .count) (low s) (folded s) (out s) (u .before .before .before .if1 .left) _ _ (w .write .ensures .0 ∙ ap (λ (n : ℕ). take n (folded s)) (s .pre .1 .1 .0 .1)) (w .write .ensures .1 ∙ made u) (none n)
 
 pub unfolded-spec : {M : Type 1} → statement M
 unfolded-spec =
@@ -199,26 +168,15 @@ unfolded-spec =
     copy-requires
     (λ c. c .held .given)
     returns-2
-    slice-aggregate-unfold
-    (λ c. search needs)
-    (λ c. search needs)
-    (λ c. search needs)
-    part-unfold-end
-    (λ c. search needs)
-    (λ c. search needs)
-    (λ c. search needs)
-    (λ c. search needs)
-    unfold-requires
+    block-between-requires
     (λ c κs. record { le = tt })
     (λ c. search needs)
     (λ c. search needs)
     (λ c. search needs)
     returns-3
     (λ c. search needs)
-    narrow-requires
-    slice-aggregate-copy-2
-    copy-requires-2
-    (λ c. c .held2 .given)
-    (λ c. c .before .before .before .before .before .before .before .before .before .before .before .before .wide .given)
-    (λ c. c .before .before .before .before .block .given)
+    write-requires
+    (λ c. c .before .held2 .given)
+    (λ c. c .before .before .before .before .before .before .before .before .before .before .wide .given)
+    (λ c. c .block .given)
     returns-4)

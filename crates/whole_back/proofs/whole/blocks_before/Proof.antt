@@ -6,38 +6,45 @@ use Prim.Native.Nat.{ℕ, suc, _+_, _-_, _*_, _/_, _≤_, _<_}
 use lib.IntN.{ℤ}
 use lib.ListN.{length, take, drop}
 use lib.Seq.{drop-drop}
+use Rattle.integers.proofs.PlaceLaws.{within-all}
 use Rattle.tables.specs.Widths.{halfWidth}
-use Rattle.runs.specs.Answers.{told}
+use Rattle.steps.specs.Steps.{unstages, unfolded}
 use Rattle.runs.specs.declared.record.Run.{Run}
-use Rattle.runs.specs.Record.{blockLimit, frameLimit, nextCount, opened}
+use Rattle.runs.specs.Record.{blockLimit, frameLimit, opened}
 use Rattle.runs.specs.Gate.{Given}
 use Rattle.runs.proofs.Searches.{all-within}
 use Rattle.runs.proofs.RecordLaws.{width-pos}
 use Rattle.gate.proofs.FaultLaws.{few-readings, block-next, block-in, no-block, block-long, part-is}
 use Rattle.gate.proofs.PartLaws.{written, written-rest}
-use Rattle.runs.specs.Back.{undoneIn, takenBack}
+use Rattle.runs.specs.Back.{takenBack}
 use Rattle.runs.specs.WholeBack.{answerFrom, outputsFrom}
 use Rattle.runs.proofs.BackLaws.{ReachedBack}
+use Rattle.runs.proofs.AcceptedLaws.{LaterAccepted, later-accepted}
 use Rattle.runs.proofs.OneByOne.{answer-next, here-taken}
+use Rattle.frames.specs.Own.Unrefused.{Unrefused}
 use Rattle.whole_back.proofs.LoopLaws.{blocks-next, no-blocks}
 use Rattle.asking_back.proofs.RoomLaws.{SameRoom, halves-same, room-same}
-use Rattle.asking_back.proofs.Undoing.{low-within, block-given, run-after, reached-after}
+use Rattle.asking_back.proofs.Undoing.{low-within}
 use Rattle.whole_back.proofs.whole.blocks_before.Statement.{statement}
 use Rattle.whole_back.proofs.whole.blocks_before.Tie as tie
 
+-- the frames behind the first one that were taken, where so many are left
+abbrev behind : ℕ → List ℤ → ℕ → ℕ
+behind N frames left = length frames / N - left
+
 abbrev Inv-loop : tie.InvT-loop
-Inv-loop width t frames held₀ readings₀ folded₀ wide₀ top₀ bottom₀ y₀ z₀ at₀ count₀ blocks₀ held readings folded wide top bottom y z at count blocks =
+Inv-loop width t frames held₀ readings₀ folded₀ wide₀ top₀ bottom₀ y₀ z₀ at₀ blocks₀ held readings folded wide top bottom y z at blocks =
     (at + blocks * width ≡ length frames)
-    × (count + blocks ≡ length frames / width + 1)
-    × ReachedBack width count held
+    × (blocks ≤ length frames / width)
+    × ReachedBack width (suc (behind width frames blocks)) held
     × (length readings ≡ length frames)
     × SameRoom folded₀ wide₀ top₀ bottom₀ y₀ z₀ folded wide top bottom y z
-    × (answerFrom width (at + width) (opened width count held) blocks (drop at frames) (drop at readings) .0 ≡ 0)
-    × (outputsFrom width (opened width 1 held₀) (length frames / width) frames readings₀ ≡ take at readings ++ outputsFrom width (opened width count held) blocks (drop at frames) (drop at readings))
+    × (answerFrom width (at + width) (opened width (suc (behind width frames blocks)) held) blocks (drop at frames) (drop at readings) .0 ≡ 0)
+    × (outputsFrom width (opened width 1 held₀) (length frames / width) frames readings₀
+    ≡ take at readings ++ outputsFrom width (opened width (suc (behind width frames blocks)) held) blocks (drop at frames) (drop at readings))
 
 abbrev μ-loop : tie.MeasureT-loop
-μ-loop width t frames held₀ readings₀ folded₀ wide₀ top₀ bottom₀ y₀ z₀ at₀ count₀ blocks₀ held readings folded wide top bottom y z at count blocks =
-    blocks
+μ-loop width t frames held₀ readings₀ folded₀ wide₀ top₀ bottom₀ y₀ z₀ at₀ blocks₀ held readings folded wide top bottom y z at blocks = blocks
 
 module _ (s : tie.Start Inv-loop μ-loop) where
   abbrev N : ℕ
@@ -59,8 +66,17 @@ module _ (k : tie.At-loop Inv-loop μ-loop) where
   abbrev readings : List ℤ
   readings = k .loop .readings
 
+  abbrev before : ℕ
+  before = behind (N from) (frames from) (k .loop .blocks)
+
   abbrev run : Run
-  run = opened (N from) (k .loop .count) low
+  run = opened (N from) (suc before) low
+
+  abbrev part : List ℤ
+  part = take (N from) (drop place (frames from))
+
+  abbrev out : List ℤ
+  out = take (N from) (drop place readings)
 
 -- a frame is left
 module _ (i : tie.In-loop Inv-loop μ-loop) where
@@ -76,12 +92,31 @@ module _ (i : tie.In-loop Inv-loop μ-loop) where
   end-le : place at + N (from at) ≤ blockLimit * 128
   end-le = omega (arith, in-frames, few-readings (N (from at)) (frames (from at)) (from at .pre .1 .0))
 
-  counted : at .loop .count < frameLimit
+  counted : suc (before at) < frameLimit
   counted = omega (arith, at .loop .inv .1, i .loop-test .taken, from at .pre .1 .0 .some)
+
+  more : at .loop .blocks ≡ suc (at .loop .blocks - 1)
+  more = omega (arith, i .loop-test .taken)
+
+  -- no call is refused, so this one is not
+  accepted : LaterAccepted (N (from at)) (before at) (low at) (part at) (out at)
+  accepted =
+      later-accepted (N (from at)) (before at) (low at) (at .loop .inv .2) (part at) (out at)
+      (block-long (place at) (N (from at)) (frames (from at)) in-frames)
+      (block-long (place at) (N (from at)) (readings at) in-readings)
+      counted
+      (here-taken (N (from at)) _ (run at) (drop (place at) (frames (from at))) (drop (place at) (readings at)) more refl (place at + N (from at)) (at .loop .inv .5))
+
+  unrefused : Unrefused (N (from at)) (low at) (part at)
+  unrefused = record {
+    coefficients = within-all _ _ (accepted .coefficients);
+    values = within-all _ _ (accepted .values);
+    readings = within-all _ _ (accepted .readings .within);
+  }
 
 -- the frame step on the parts lent
 module _ (h : tie.After-z Inv-loop μ-loop) where
-  abbrev step : tie.After-undo Inv-loop μ-loop
+  abbrev step : tie.After-give-back Inv-loop μ-loop
   step = h .before .before .before .before .before .before .before .before
 
   abbrev inside : tie.In-loop Inv-loop μ-loop
@@ -90,62 +125,53 @@ module _ (h : tie.After-z Inv-loop μ-loop) where
   abbrev here : tie.At-loop Inv-loop μ-loop
   here = inside .before
 
-  abbrev part : List ℤ
-  part = take (N (from here)) (drop (place here) (frames (from here)))
-
-  abbrev out : List ℤ
-  out = take (N (from here)) (drop (place here) (readings here))
-
   abbrev kept : List ℤ
-  kept = step .undo .last .1 .1 .1 .1 .0
+  kept = step .give-back .last .1 .1 .1 .0
 
   abbrev block : List ℤ
-  block = step .undo .last .1 .1 .1 .1 .1 .0
+  block = step .give-back .last .1 .1 .1 .1 .0
 
   abbrev after : Run
-  after = opened (N (from here)) (nextCount (told (step .undo .result) .0) (here .loop .count)) kept
+  after = opened (N (from here)) (suc (suc (before here))) kept
 
-  kept-long : length kept ≡ halfWidth (N (from here))
-  kept-long = let at-held = h .before .before .before .before .before .before .before in at-held .held .given ∙ here .loop .inv .2 .long
+  kept-is : kept ≡ take (halfWidth (N (from here))) (unstages (N (from here)) (part here))
+  kept-is = step .give-back .ensures .0 ∙ ap (λ (l : List ℤ). take (halfWidth (N (from here))) (unstages (N (from here)) l)) (part-is (place here) (N (from here)) (frames (from here)))
 
-  undone : _≡_ {A = Given} (told (step .undo .result), after, block) (undoneIn (run here) part out)
-  undone = step .undo .ensures ∙ ap₂ (undoneIn (run here)) (part-is (place here) (N (from here)) (frames (from here))) (part-is (place here) (N (from here)) (readings here))
+  block-is : block ≡ unfolded (N (from here)) (low here) (drop (halfWidth (N (from here))) (unstages (N (from here)) (part here)))
+  block-is =
+      step .give-back .ensures .1
+      ∙ ap (λ (l : List ℤ). unfolded (N (from here)) (low here) (drop (halfWidth (N (from here))) (unstages (N (from here)) l))) (part-is (place here) (N (from here)) (frames (from here)))
 
-  given : _≡_ {A = Given} (told (step .undo .result), after, block) (takenBack (run here) part out)
-  given =
-      block-given (N (from here)) (here .loop .count) (low here) kept part out block (step .undo .result) (here .loop .inv .2) (counted inside) kept-long undone
-      (block-long (place here) (N (from here)) (frames (from here)) (in-frames inside))
-      (block-long (place here) (N (from here)) (readings here) (in-readings inside))
+  given : _≡_ {A = Given} ((0, 0), after, block) (takenBack (run here) (part here) (out here))
+  given = ap₂ (λ (l w : List ℤ). ((0, 0), opened (N (from here)) (suc (suc (before here))) l, w)) kept-is block-is ∙ sym (accepted inside .given)
 
-  more : here .loop .blocks ≡ suc (here .loop .blocks - 1)
-  more = omega (arith, inside .loop-test .taken)
+  next : suc (before here) ≡ behind (N (from here)) (frames (from here)) (here .loop .blocks - 1)
+  next = omega (arith, here .loop .inv .1, inside .loop-test .taken)
 
-  -- no call is refused
-  none : told (step .undo .result) .0 ≡ 0
-  none = here-taken (N (from here)) _ (run here) (drop (place here) (frames (from here))) (drop (place here) (readings here)) more (sym given) (place here + N (from here)) (here .loop .inv .5)
-
-  next : after ≡ opened (N (from here)) (here .loop .count + 1) kept
-  next = run-after (N (from here)) (here .loop .count) (low here) kept part out block (step .undo .result) (here .loop .inv .2) (counted inside) kept-long undone none
+  after-is : after ≡ opened (N (from here)) (suc (behind (N (from here)) (frames (from here)) (here .loop .blocks - 1))) kept
+  after-is = ap (λ (n : ℕ). opened (N (from here)) (suc n) kept) next
 
 loop-holds : tie.Need-loop-holds Inv-loop μ-loop
-loop-holds c = (
-  omega (arith, c .pre .1 .0 .whole),
-  omega arith,
-  record {
-    wide = c .pre .1 .0 .wide;
-    counted = omega arith;
-    long = c .pre .1 .1 .0 .0;
-    within = all-within _ _ (c .pre .1 .1 .1 .1 .1 .0);
-    fresh = λ e. absurd (omega (arith, e));
-  },
-  c .pre .1 .1 .0 .3,
-  record { folded-same = refl; wide-same = refl; top-same = refl; bottom-same = refl; y-same = refl; z-same = refl },
-  subst (λ (n : ℕ). answerFrom (N c) n (opened (N c) 1 (c .args .held .now)) (length (frames c) / N c) (frames c) (c .args .readings .now) .0 ≡ 0) (omega arith) (c .pre .1 .1 .1 .1 .1 .1),
-  refl,
-)
+loop-holds c =
+    let none : 1 ≡ suc (behind (N c) (frames c) (length (frames c) / N c)) = omega arith in (
+      omega (arith, c .pre .1 .0 .whole),
+      omega arith,
+      record {
+        wide = c .pre .1 .0 .wide;
+        counted = omega arith;
+        long = c .pre .1 .1 .0 .0;
+        within = all-within _ _ (c .pre .1 .1 .1 .1 .1 .0);
+        fresh = λ e. absurd (omega (arith, e));
+      },
+      c .pre .1 .1 .0 .3,
+      record { folded-same = refl; wide-same = refl; top-same = refl; bottom-same = refl; y-same = refl; z-same = refl },
+      subst (λ (n : ℕ). answerFrom (N c) (0 + N c) (opened (N c) n (c .args .held .now)) (length (frames c) / N c) (frames c) (c .args .readings .now) .0 ≡ 0) none
+          (subst (λ (n : ℕ). answerFrom (N c) n (opened (N c) 1 (c .args .held .now)) (length (frames c) / N c) (frames c) (c .args .readings .now) .0 ≡ 0) (omega arith) (c .pre .1 .1 .1 .1 .1 .1)),
+      ap (λ (n : ℕ). outputsFrom (N c) (opened (N c) n (c .args .held .now)) (length (frames c) / N c) (frames c) (c .args .readings .now)) none,
+    )
 
-undo-requires : tie.Need-undo-requires Inv-loop μ-loop
-undo-requires c κs =
+give-back-requires : tie.Need-give-back-requires Inv-loop μ-loop
+give-back-requires c κs =
     let i = c .before .before .before .before .before .before .before .before .before in
     let k = at i in
     let s = from k in
@@ -164,7 +190,10 @@ undo-requires c κs =
           ),
           (
             halves-same same (N s) (s .pre .1 .1 .1 .0),
-            (room-same same (N s) (s .pre .1 .1 .1 .1 .0), low-within (k .loop .inv .2)),
+            (
+              room-same same (N s) (s .pre .1 .1 .1 .1 .0),
+              (low-within (k .loop .inv .2), subst (Unrefused (N s) (low k)) (sym (part-is (place k) (N s) (frames s))) (unrefused i)),
+            ),
           ),
         ),
       ),
@@ -179,8 +208,8 @@ loop-again c =
     let long = at-wide .before .before .readings .given .0 ∙ ap length (part-is (place k) (N s) (readings k)) ∙ block-long (place k) (N s) (readings k) (in-readings i) in
     let new = written (place k) (N s) (readings k) (block c) in (
       block-next (place k) (k .loop .blocks) (N s) _ (k .loop .inv .0) (i .loop-test .taken),
-      omega (arith, k .loop .inv .1, i .loop-test .taken),
-      reached-after (N s) (k .loop .count) (low k) (kept c) (part c) (out c) (block c) (step c .undo .result) (k .loop .inv .2) (counted i) (kept-long c) (undone c) (none c),
+      omega (arith, k .loop .inv .1),
+      subst (λ (n : ℕ). ReachedBack (N s) (suc n) (kept c)) (next c) (subst (ReachedBack (N s) (suc (suc (before k)))) (sym (kept-is c)) (accepted i .reached)),
       at-wide .before .before .readings .given .1 ∙ k .loop .inv .3,
       record {
         folded-same = at-wide .before .folded .given ∙ k .loop .inv .4 .folded-same;
@@ -192,14 +221,14 @@ loop-again c =
       },
       ap (λ (x : ℕ × ℕ). x .0)
           (sym
-          (answer-next (N s) _ (run k) (drop (place k) (frames s)) (drop (place k) (readings k)) (more c) (sym (given c)) (place k + N s) (none c)
+          (answer-next (N s) _ (run k) (drop (place k) (frames s)) (drop (place k) (readings k)) (more i) (sym (given c)) (place k + N s) refl
           ∙ ap₂ (answerFrom (N s) (place k + N s + N s) (after c) (k .loop .blocks - 1)) (drop-drop (N s) (place k) (frames s))
           (drop-drop (N s) (place k) (readings k) ∙ sym (written-rest (place k) (N s) (readings k) (block c) (in-readings i) long))
-          ∙ ap (λ (r : Run). answerFrom (N s) (place k + N s + N s) r (k .loop .blocks - 1) (drop (place k + N s) (frames s)) (drop (place k + N s) new)) (next c)))
+          ∙ ap (λ (r : Run). answerFrom (N s) (place k + N s + N s) r (k .loop .blocks - 1) (drop (place k + N s) (frames s)) (drop (place k + N s) new)) (after-is c)))
           ∙ k .loop .inv .5,
       k .loop .inv .6
           ∙ blocks-next (N s) (place k) (k .loop .blocks) (run k) (after c) _ (frames s) (readings k) (block c) (i .loop-test .taken) (in-readings i) long (given c)
-          ∙ ap (λ (r : Run). take (place k + N s) new ++ outputsFrom (N s) r (k .loop .blocks - 1) (drop (place k + N s) (frames s)) (drop (place k + N s) new)) (next c),
+          ∙ ap (λ (r : Run). take (place k + N s) new ++ outputsFrom (N s) r (k .loop .blocks - 1) (drop (place k + N s) (frames s)) (drop (place k + N s) new)) (after-is c),
     )
 
 returns : tie.Need-returns Inv-loop μ-loop
@@ -228,8 +257,7 @@ blocks-before-spec =
     (λ c. omega arith)
     (λ c. omega arith)
     (λ c. in-readings (c .before .before))
-    undo-requires
-    (λ c. record { fits = omega (arith, counted (inside c)) })
+    give-back-requires
     (λ c. omega arith)
     (λ c. omega arith)
     loop-again
