@@ -27,10 +27,10 @@ module _ (r : tie.After-of-6482) where
   half = N / 2
 
   abbrev long : ℕ
-  long = r .before .before .before .before .before .tables-long .result
+  long = let at-tables-long = r .before .before .before .before .before in at-tables-long .tables-long .result
 
   abbrev table : List ℤ
-  table = r .before .before .before .before .of-1906 .result
+  table = let at-of-1906 = r .before .before .before .before in at-of-1906 .of-1906 .result
 
   abbrev top : List ℤ
   top = r .before .before .before .of-64 .result
@@ -39,7 +39,7 @@ module _ (r : tie.After-of-6482) where
   bottom = r .before .before .of-642 .result
 
   long-is : long ≤ length table
-  long-is = omega (arith, r .before .before .before .before .before .tables-long .ensures, r .before .before .before .before .of-1906 .ensures, tables-le N)
+  long-is = let at-tables-long = r .before .before .before .before .before in let at-of-1906 = r .before .before .before .before in omega (arith, at-tables-long .tables-long .ensures, at-of-1906 .of-1906 .ensures, tables-le N)
 
   half-of : half ≡ halfWidth N
   half-of = half-is N (from .pre .0)
@@ -62,7 +62,7 @@ module _ (f : tie.After-fill) where
   behind = drop (long made) (table made)
 
   filled-long : length filled ≡ long made
-  filled-long = f .fill .ensures .long ∙ sym (made .before .before .before .before .before .tables-long .ensures)
+  filled-long = let at-tables-long = made .before .before .before .before .before in f .fill .ensures .long ∙ sym (at-tables-long .tables-long .ensures)
 
 array-borrow-prefix-t : tie.Need-array-borrow-prefix-t
 array-borrow-prefix-t c = long-is c
@@ -71,7 +71,7 @@ slice-aggregate-fill : tie.Need-slice-aggregate-fill
 slice-aggregate-fill c = part-long _ (table (c .before)) (long-is (c .before))
 
 fill-requires : tie.Need-fill-requires
-fill-requires c κs = let r = c .before .before in (from r .pre .0, sym (part-long _ (table r) (long-is r)) ∙ r .before .before .before .before .before .tables-long .ensures, omega (arith, r .before .of-648 .ensures, lists-le (N r)))
+fill-requires c κs = let r = c .before .before in let at-tables-long = r .before .before .before .before .before in (from r .pre .0, sym (part-long _ (table r) (long-is r)) ∙ at-tables-long .tables-long .ensures, omega (arith, r .before .of-648 .ensures, lists-le (N r)))
 
 array-share-prefix-t : tie.Need-array-share-prefix-t
 array-share-prefix-t c = let f = c .before .before in front-le _ (filled f) (behind f) (filled-long f)
@@ -80,16 +80,16 @@ slice-aggregate-either-way : tie.Need-slice-aggregate-either-way
 slice-aggregate-either-way c = let f = c .before .before .before in front-long _ (filled f) (behind f) (filled-long f)
 
 array-borrow-prefix-top : tie.Need-array-borrow-prefix-top
-array-borrow-prefix-top c = top-le (made (c .before .before .before .before))
+array-borrow-prefix-top c = let earlier = c .before .before .before .before in top-le (made earlier)
 
 slice-aggregate-either-way-2 : tie.Need-slice-aggregate-either-way-2
-slice-aggregate-either-way-2 c = let r = made (c .before .before .before .before .before) in part-long _ (top r) (top-le r)
+slice-aggregate-either-way-2 c = let earlier = c .before .before .before .before .before in let r = made earlier in part-long _ (top r) (top-le r)
 
 array-borrow-prefix-bottom : tie.Need-array-borrow-prefix-bottom
-array-borrow-prefix-bottom c = bottom-le (made (c .before .before .before .before .before))
+array-borrow-prefix-bottom c = let earlier = c .before .before .before .before .before in bottom-le (made earlier)
 
 slice-aggregate-either-way-3 : tie.Need-slice-aggregate-either-way-3
-slice-aggregate-either-way-3 c = let r = made (c .before .before .before .before .before .before) in part-long _ (bottom r) (bottom-le r)
+slice-aggregate-either-way-3 c = let earlier = c .before .before .before .before .before .before in let r = made earlier in part-long _ (bottom r) (bottom-le r)
 
 either-way-requires : tie.Need-either-way-requires
 either-way-requires c κs =
@@ -131,5 +131,5 @@ in-room-spec =
     (λ c. search needs)
     (λ c. search needs)
     either-way-requires
-    (λ c. c .before .before .before .before .out .given)
+    (λ c. let at-out = c .before .before .before .before in at-out .out .given)
     returns)

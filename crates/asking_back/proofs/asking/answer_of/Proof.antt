@@ -106,7 +106,7 @@ module _ (a : tie.After-z Inv-loop μ-loop) where
   after = opened (N (from here)) (nextCount (told (step .undo .result) .0) (here .loop .count)) kept
 
   kept-long : length kept ≡ halfWidth (N (from here))
-  kept-long = a .before .before .before .before .before .before .before .held .given ∙ here .loop .inv .2 .long
+  kept-long = let at-held = a .before .before .before .before .before .before .before in at-held .held .given ∙ here .loop .inv .2 .long
 
   undone : _≡_ {A = Given} (told (step .undo .result), after, step .undo .last .1 .1 .1 .1 .1 .0) (undoneIn (run here) part (here .loop .block))
   undone = step .undo .ensures ∙ ap (λ (f : List ℤ). undoneIn (run here) f (here .loop .block)) (part-is (place here) (N (from here)) (frames (from here)))
@@ -184,8 +184,8 @@ loop-again c =
       reached-after (N s) (k .loop .count) (low k) (kept a) (part a) (k .loop .block) _ (step a .undo .result) (k .loop .inv .2) (counted i) (kept-long a) (undone a) zero,
       a .before .before .before .before .before .before .block .given ∙ k .loop .inv .3,
       record {
-        folded-same = a .before .before .before .before .before .folded .given ∙ k .loop .inv .4 .folded-same;
-        wide-same = a .before .before .before .before .wide .given ∙ k .loop .inv .4 .wide-same;
+        folded-same = let at-folded = a .before .before .before .before .before in at-folded .folded .given ∙ k .loop .inv .4 .folded-same;
+        wide-same = let at-wide = a .before .before .before .before in at-wide .wide .given ∙ k .loop .inv .4 .wide-same;
         top-same = a .before .before .before .top .given ∙ k .loop .inv .4 .top-same;
         bottom-same = a .before .before .bottom .given ∙ k .loop .inv .4 .bottom-same;
         y-same = a .before .y .given ∙ k .loop .inv .4 .y-same;
@@ -225,9 +225,9 @@ answer-of-spec =
     (λ c κs. tt)
     placed-requires
     (λ c. let a = c .before .before .before in kept-long a ∙ sym (held-long (from (here a))))
-    (λ c. let a = c .before .before .before in a .before .before .before .before .before .before .block .given ∙ here a .loop .inv .3)
-    (λ c. let a = c .before .before .before in a .before .before .before .before .before .folded .given ∙ here a .loop .inv .4 .folded-same)
-    (λ c. let a = c .before .before .before in a .before .before .before .before .wide .given ∙ here a .loop .inv .4 .wide-same)
+    (λ c. let a = c .before .before .before in let at-block = a .before .before .before .before .before .before in at-block .block .given ∙ here a .loop .inv .3)
+    (λ c. let a = c .before .before .before in let at-folded = a .before .before .before .before .before in at-folded .folded .given ∙ here a .loop .inv .4 .folded-same)
+    (λ c. let a = c .before .before .before in let at-wide = a .before .before .before .before in at-wide .wide .given ∙ here a .loop .inv .4 .wide-same)
     (λ c. let a = c .before .before .before in a .before .before .before .top .given ∙ here a .loop .inv .4 .top-same)
     (λ c. let a = c .before .before .before in a .before .before .bottom .given ∙ here a .loop .inv .4 .bottom-same)
     (λ c. let a = c .before .before .before in a .before .y .given ∙ here a .loop .inv .4 .y-same)

@@ -27,16 +27,16 @@ module _ (c : tie.After-of-6482) where
   half-wide = half-is N (from .pre .1 .wide)
 
   abbrev held : List ℤ
-  held = c .before .before .before .before .before .before .before .nothing-held .result
+  held = let at-nothing-held = c .before .before .before .before .before .before .before in at-nothing-held .nothing-held .result
 
   abbrev block : List ℤ
-  block = c .before .before .before .before .before .before .zero-block .result
+  block = let at-zero-block = c .before .before .before .before .before .before in at-zero-block .zero-block .result
 
   abbrev folded : List ℤ
-  folded = c .before .before .before .before .before .of-128 .result
+  folded = let at-of-128 = c .before .before .before .before .before in at-of-128 .of-128 .result
 
   abbrev wide : List ℤ
-  wide = c .before .before .before .before .of-1282 .result
+  wide = let at-of-1282 = c .before .before .before .before in at-of-1282 .of-1282 .result
 
   abbrev top : List ℤ
   top = c .before .before .before .of-64 .result
@@ -45,16 +45,16 @@ module _ (c : tie.After-of-6482) where
   bottom = c .before .before .of-642 .result
 
   held-in : N / 2 ≤ length held
-  held-in = half-room N (N / 2) held half-wide (ap length (c .before .before .before .before .before .before .before .nothing-held .ensures) ∙ length-replicate 64 (pos 0))
+  held-in = let at-nothing-held = c .before .before .before .before .before .before .before in half-room N (N / 2) held half-wide (ap length (at-nothing-held .nothing-held .ensures) ∙ length-replicate 64 (pos 0))
 
   block-in : N ≤ length block
-  block-in = width-room N block (from .pre .1 .wide) (sym (ap length (c .before .before .before .before .before .before .zero-block .ensures) ∙ length-replicate 128 (pos 0)))
+  block-in = let at-zero-block = c .before .before .before .before .before .before in width-room N block (from .pre .1 .wide) (sym (ap length (at-zero-block .zero-block .ensures) ∙ length-replicate 128 (pos 0)))
 
   folded-in : N ≤ length folded
-  folded-in = width-room N folded (from .pre .1 .wide) (c .before .before .before .before .before .of-128 .ensures)
+  folded-in = let at-of-128 = c .before .before .before .before .before in width-room N folded (from .pre .1 .wide) (at-of-128 .of-128 .ensures)
 
   wide-in : N ≤ length wide
-  wide-in = width-room N wide (from .pre .1 .wide) (c .before .before .before .before .of-1282 .ensures)
+  wide-in = let at-of-1282 = c .before .before .before .before in width-room N wide (from .pre .1 .wide) (at-of-1282 .of-1282 .ensures)
 
   top-in : N / 2 ≤ length top
   top-in = half-room N (N / 2) top half-wide (sym (c .before .before .before .of-64 .ensures))
@@ -87,13 +87,13 @@ slice-aggregate-answer-of-4 : tie.Need-slice-aggregate-answer-of-4
 slice-aggregate-answer-of-4 c = let m = c .before .before .before .before in part-long _ (wide m) (wide-in m)
 
 array-borrow-prefix-top : tie.Need-array-borrow-prefix-top
-array-borrow-prefix-top c = top-in (c .before .before .before .before)
+array-borrow-prefix-top c = let earlier = c .before .before .before .before in top-in earlier
 
 slice-aggregate-answer-of-5 : tie.Need-slice-aggregate-answer-of-5
 slice-aggregate-answer-of-5 c = let m = c .before .before .before .before .before in part-long _ (top m) (top-in m)
 
 array-borrow-prefix-bottom : tie.Need-array-borrow-prefix-bottom
-array-borrow-prefix-bottom c = bottom-in (c .before .before .before .before .before)
+array-borrow-prefix-bottom c = let earlier = c .before .before .before .before .before in bottom-in earlier
 
 slice-aggregate-answer-of-6 : tie.Need-slice-aggregate-answer-of-6
 slice-aggregate-answer-of-6 c = let m = c .before .before .before .before .before .before in part-long _ (bottom m) (bottom-in m)

@@ -49,13 +49,13 @@ module _ (a : tie.After-z) where
   step = a .before .before .before .before .before .before .before .before
 
   abbrev start : tie.Start
-  start = from (step .before .before .before .before .before .before .before .before .before)
+  start = let earlier = step .before .before .before .before .before .before .before .before .before in from earlier
 
   abbrev kept : List ℤ
   kept = step .undo .last .1 .1 .1 .1 .0
 
   kept-long : length kept ≡ halfWidth (N start)
-  kept-long = a .before .before .before .before .before .before .before .held .given ∙ begun start .long
+  kept-long = let at-held = a .before .before .before .before .before .before .before in at-held .held .given ∙ begun start .long
 
   given : _≡_ {A = Given} (takenBack (started (N start) .1) (frame start) (zeros (N start)))
       (told (step .undo .result), opened (N start) (nextCount (told (step .undo .result) .0) 0) kept, takenBack (opened (N start) 0 (low start)) (frame start) (zeros (N start)) .2)
@@ -104,9 +104,9 @@ first-frame-spec =
     array-borrow-prefix-block
     slice-aggregate-undo
     undo-requires
-    (λ c. c .before .before .before .before .before .before .before .held .given)
-    (λ c. c .before .before .before .before .before .folded .given)
-    (λ c. c .before .before .before .before .wide .given)
+    (λ c. let at-held = c .before .before .before .before .before .before .before in at-held .held .given)
+    (λ c. let at-folded = c .before .before .before .before .before in at-folded .folded .given)
+    (λ c. let at-wide = c .before .before .before .before in at-wide .wide .given)
     (λ c. c .before .before .before .top .given)
     (λ c. c .before .before .bottom .given)
     (λ c. c .before .y .given)

@@ -54,7 +54,7 @@ module _ (h : tie.After-first-beyond) where
   source = from (passed .before .before .before)
 
   made : h .before .before .before .before .before .before .before .unstages .last .1 .1 .1 .0 ≡ unstages (N source) (frame source)
-  made = h .before .before .before .before .before .before .before .unstages .ensures
+  made = let at-unstages = h .before .before .before .before .before .before .before in at-unstages .unstages .ensures
 
   seen2 : firstBeyond (pos foldedLimit) (unstages (N source) (frame source)) 0 ≡ h .first-beyond .result
   seen2 = sym (h .first-beyond .ensures ∙ ap (λ (l : List ℤ). firstBeyond (pos foldedLimit) l 0) made)
@@ -120,20 +120,20 @@ undo-spec =
     unstages-requires
     (λ c κs. record { le = tt })
     (λ c. search needs)
-    (λ c. c .before .before .before .before .before .before .before .before .before .folded2 .given ∙ c .before .before .before .before .before .before .before .before .before .before .before .before .before .before .before .before .before .before .folded .given)
-    (λ c. c .before .before .before .before .before .before .before .before .top .given)
-    (λ c. c .before .before .before .before .before .before .before .bottom .given)
-    (λ c. c .before .before .before .before .before .before .y .given)
-    (λ c. c .before .before .before .before .before .z .given)
+    (λ c. let at-folded2 = c .before .before .before .before .before .before .before .before .before in let at-folded = c .before .before .before .before .before .before .before .before .before .before .before .before .before .before .before .before .before .before in at-folded2 .folded2 .given ∙ at-folded .folded .given)
+    (λ c. let at-top = c .before .before .before .before .before .before .before .before in at-top .top .given)
+    (λ c. let at-bottom = c .before .before .before .before .before .before .before in at-bottom .bottom .given)
+    (λ c. let at-y = c .before .before .before .before .before .before in at-y .y .given)
+    (λ c. let at-z = c .before .before .before .before .before in at-z .z .given)
     returns-2
     (λ c. search needs)
     unfolded-requires
     (λ c. c .before .before .held .given)
     (λ c. c .block .given)
-    (λ c. c .before .before .before .before .before .before .before .before .before .before .before .before .before .before .before .before .folded2 .given ∙ c .before .before .before .before .before .before .before .before .before .before .before .before .before .before .before .before .before .before .before .before .before .before .before .before .before .folded .given)
+    (λ c. let at-folded2 = c .before .before .before .before .before .before .before .before .before .before .before .before .before .before .before .before in let at-folded = c .before .before .before .before .before .before .before .before .before .before .before .before .before .before .before .before .before .before .before .before .before .before .before .before .before in at-folded2 .folded2 .given ∙ at-folded .folded .given)
     (λ c. c .before .wide .given)
-    (λ c. c .before .before .before .before .before .before .before .before .before .before .before .before .before .before .before .top .given)
-    (λ c. c .before .before .before .before .before .before .before .before .before .before .before .before .before .before .bottom .given)
-    (λ c. c .before .before .before .before .before .before .before .before .before .before .before .before .before .y .given)
-    (λ c. c .before .before .before .before .before .before .before .before .before .before .before .before .z .given)
+    (λ c. let at-top = c .before .before .before .before .before .before .before .before .before .before .before .before .before .before .before in at-top .top .given)
+    (λ c. let at-bottom = c .before .before .before .before .before .before .before .before .before .before .before .before .before .before in at-bottom .bottom .given)
+    (λ c. let at-y = c .before .before .before .before .before .before .before .before .before .before .before .before .before in at-y .y .given)
+    (λ c. let at-z = c .before .before .before .before .before .before .before .before .before .before .before .before in at-z .z .given)
     returns-3)

@@ -113,7 +113,7 @@ slice-aggregate-copy : tie.Need-slice-aggregate-copy
 slice-aggregate-copy c = let s = c .before .before .before .before .before .before in part-long _ (folded s) (half-le s)
 
 copy-requires : tie.Need-copy-requires
-copy-requires c κs = front-long (c .before .before .before .before .before .before .before)
+copy-requires c κs = let earlier = c .before .before .before .before .before .before .before in front-long earlier
 
 returns-2 : tie.Need-returns-2
 returns-2 c =
@@ -177,6 +177,6 @@ unfolded-spec =
     (λ c. search needs)
     write-requires
     (λ c. c .before .held2 .given)
-    (λ c. c .before .before .before .before .before .before .before .before .before .before .wide .given)
+    (λ c. let at-wide = c .before .before .before .before .before .before .before .before .before .before in at-wide .wide .given)
     (λ c. c .block .given)
     returns-4)

@@ -32,21 +32,21 @@ unfolding unbottom5
 B5 c = c .fifth .ensures
 
 abbrev f4 : tie.After-fourth → tie.After-fifth
-f4 c = c .before .before .before .before
+f4 c = let earlier = c .before .before .before .before in earlier
 
 T4 : (c : tie.After-fourth) → c .fourth .last .1 .1 .1 .0 ≡ untop4 (N (s5 (f4 c))) (top (s5 (f4 c))) (bottom (s5 (f4 c)))
 unfolding untop4
 T4 c = let f = f4 c in c .fourth .ensures ∙ ap (unstage4 (N (s5 f)) (top (s5 f))) (B5 f)
 
 abbrev g3 : tie.After-third → tie.After-fourth
-g3 c = c .before .before .before .before .before .before
+g3 c = let earlier = c .before .before .before .before .before .before in earlier
 
 B3 : (c : tie.After-third) → c .third .last .1 .1 .1 .1 .0 ≡ unbottom3 (N (s5 (f4 (g3 c)))) (top (s5 (f4 (g3 c)))) (bottom (s5 (f4 (g3 c))))
 unfolding unbottom3
 B3 c = let g = g3 c in c .third .ensures ∙ ap₂ (unstage3 (N (s5 (f4 g)))) (T4 g) (B5 (f4 g))
 
 abbrev h2 : tie.After-second → tie.After-third
-h2 c = c .before .before .before .before .before .before .before
+h2 c = let earlier = c .before .before .before .before .before .before .before in earlier
 
 T2 : (c : tie.After-second) → c .second .last .1 .1 .1 .0 ≡ untop2 (N (s5 (f4 (g3 (h2 c))))) (top (s5 (f4 (g3 (h2 c))))) (bottom (s5 (f4 (g3 (h2 c)))))
 unfolding untop2

@@ -25,28 +25,28 @@ module _ (s : tie.Start) where
   bottom = s .args .bottom .now
 
 abbrev s1 : tie.After-first → tie.Start
-s1 c = c .before .before .before .before
+s1 c = let earlier = c .before .before .before .before in earlier
 
 B1 : (c : tie.After-first) → c .first .last .1 .1 .1 .1 .0 ≡ bottom1 (N (s1 c)) (top (s1 c)) (bottom (s1 c))
 unfolding bottom1
 B1 c = c .first .ensures
 
 abbrev f2 : tie.After-second → tie.After-first
-f2 c = c .before .before .before .before .before .before
+f2 c = let earlier = c .before .before .before .before .before .before in earlier
 
 T2 : (c : tie.After-second) → c .second .last .1 .1 .1 .0 ≡ top2 (N (s1 (f2 c))) (top (s1 (f2 c))) (bottom (s1 (f2 c)))
 unfolding top2
 T2 c = let f = f2 c in c .second .ensures ∙ ap (stage2 (N (s1 f)) (top (s1 f))) (B1 f)
 
 abbrev g3 : tie.After-third → tie.After-second
-g3 c = c .before .before .before .before .before .before .before
+g3 c = let earlier = c .before .before .before .before .before .before .before in earlier
 
 B3 : (c : tie.After-third) → c .third .last .1 .1 .1 .1 .0 ≡ bottom3 (N (s1 (f2 (g3 c)))) (top (s1 (f2 (g3 c)))) (bottom (s1 (f2 (g3 c))))
 unfolding bottom3
 B3 c = let g = g3 c in c .third .ensures ∙ ap₂ (stage3 (N (s1 (f2 g)))) (T2 g) (B1 (f2 g))
 
 abbrev h4 : tie.After-fourth → tie.After-third
-h4 c = c .before .before .before .before .before .before
+h4 c = let earlier = c .before .before .before .before .before .before in earlier
 
 T4 : (c : tie.After-fourth) → c .fourth .last .1 .1 .1 .0 ≡ top4 (N (s1 (f2 (g3 (h4 c))))) (top (s1 (f2 (g3 (h4 c))))) (bottom (s1 (f2 (g3 (h4 c)))))
 unfolding top4

@@ -97,10 +97,10 @@ returns : tie.Need-returns
 returns c = let n = c .before in let s = start n in ones-refused (N s) (frames s) (out s) (answer-is n) (λ e. c .if1 .taken (n .number .ensures ∙ e))
 
 array-share-prefix-t-2 : tie.Need-array-share-prefix-t-2
-array-share-prefix-t-2 c = t-in (c .before .before .before .before)
+array-share-prefix-t-2 c = let earlier = c .before .before .before .before in t-in earlier
 
 slice-aggregate-readings-of : tie.Need-slice-aggregate-readings-of
-slice-aggregate-readings-of c = t-long (c .before .before .before .before .before)
+slice-aggregate-readings-of c = let earlier = c .before .before .before .before .before in t-long earlier
 
 readings-of-requires : tie.Need-readings-of-requires
 readings-of-requires c κs =

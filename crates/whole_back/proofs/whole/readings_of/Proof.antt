@@ -57,13 +57,13 @@ module _ (m : tie.After-of-6482) where
   from = m .before .before .before .before .before .before .before
 
   abbrev held : List ℤ
-  held = m .before .before .before .before .before .before .nothing-held .result
+  held = let at-nothing-held = m .before .before .before .before .before .before in at-nothing-held .nothing-held .result
 
   abbrev folded : List ℤ
-  folded = m .before .before .before .before .before .of-128 .result
+  folded = let at-of-128 = m .before .before .before .before .before in at-of-128 .of-128 .result
 
   abbrev wide : List ℤ
-  wide = m .before .before .before .before .of-1282 .result
+  wide = let at-of-1282 = m .before .before .before .before in at-of-1282 .of-1282 .result
 
   abbrev top : List ℤ
   top = m .before .before .before .of-64 .result
@@ -72,13 +72,13 @@ module _ (m : tie.After-of-6482) where
   bottom = m .before .before .of-642 .result
 
   held-in : half from ≤ length held
-  held-in = half-room (N from) (half from) held (half-wide from) (ap length (m .before .before .before .before .before .before .nothing-held .ensures) ∙ length-replicate 64 (pos 0))
+  held-in = let at-nothing-held = m .before .before .before .before .before .before in half-room (N from) (half from) held (half-wide from) (ap length (at-nothing-held .nothing-held .ensures) ∙ length-replicate 64 (pos 0))
 
   folded-in : N from ≤ length folded
-  folded-in = width-room (N from) folded (from .pre .1 .0 .wide) (m .before .before .before .before .before .of-128 .ensures)
+  folded-in = let at-of-128 = m .before .before .before .before .before in width-room (N from) folded (from .pre .1 .0 .wide) (at-of-128 .of-128 .ensures)
 
   wide-in : N from ≤ length wide
-  wide-in = width-room (N from) wide (from .pre .1 .0 .wide) (m .before .before .before .before .of-1282 .ensures)
+  wide-in = let at-of-1282 = m .before .before .before .before in width-room (N from) wide (from .pre .1 .0 .wide) (at-of-1282 .of-1282 .ensures)
 
   top-in : half from ≤ length top
   top-in = half-room (N from) (half from) top (half-wide from) (sym (m .before .before .before .of-64 .ensures))
@@ -113,13 +113,13 @@ module _ (c : tie.After-z2) where
   bottom-left = step .first-frame .last .1 .1 .1 .1 .1 .1 .1 .0
 
   held-long : length kept ≡ half start
-  held-long = c .before .before .before .before .before .before .held2 .given ∙ sym (part-long _ (held made) (held-in made))
+  held-long = let at-held2 = c .before .before .before .before .before .before in at-held2 .held2 .given ∙ sym (part-long _ (held made) (held-in made))
 
   folded-long : length folded-left ≡ N start
-  folded-long = c .before .before .before .before .before .folded2 .given ∙ sym (part-long _ (folded made) (folded-in made))
+  folded-long = let at-folded2 = c .before .before .before .before .before in at-folded2 .folded2 .given ∙ sym (part-long _ (folded made) (folded-in made))
 
   wide-long : length wide-left ≡ N start
-  wide-long = c .before .before .before .before .wide2 .given ∙ sym (part-long _ (wide made) (wide-in made))
+  wide-long = let at-wide2 = c .before .before .before .before in at-wide2 .wide2 .given ∙ sym (part-long _ (wide made) (wide-in made))
 
   top-long : length top-left ≡ half start
   top-long = c .before .before .before .top2 .given ∙ sym (part-long _ (top made) (top-in made))
@@ -211,9 +211,9 @@ readings-of-spec =
     (λ c. let m = c .before .before .before in part-long _ (folded m) (folded-in m))
     (λ c. wide-in (c .before .before .before))
     (λ c. let m = c .before .before .before .before in part-long _ (wide m) (wide-in m))
-    (λ c. top-in (c .before .before .before .before))
+    (λ c. let earlier = c .before .before .before .before in top-in earlier)
     (λ c. let m = c .before .before .before .before .before in part-long _ (top m) (top-in m))
-    (λ c. bottom-in (c .before .before .before .before .before))
+    (λ c. let earlier = c .before .before .before .before .before in bottom-in earlier)
     (λ c. let m = c .before .before .before .before .before .before in part-long _ (bottom m) (bottom-in m))
     (λ c. search needs)
     (λ c. search needs)
@@ -235,5 +235,5 @@ readings-of-spec =
     (λ c. search needs)
     (λ c. search needs)
     blocks-before-requires
-    (λ c. c .before .before .before .before .before .before .readings .given)
+    (λ c. let at-readings = c .before .before .before .before .before .before in at-readings .readings .given)
     returns)
