@@ -18,7 +18,7 @@ signedBox false b = b
 unfoldable pub anyCosine : ℕ → Box
 anyCosine x = signedBox (minus 512 x) (cosineBox (reflected 512 x))
 
--- the sine is the cosine of the complement, which is the cosine three quarters of a turn on
+-- a sine is the cosine a right angle before, which is the cosine three quarters of a turn on
 unfoldable pub anySine : ℕ → Box
 anySine x = anyCosine (x + 1536)
 

@@ -28,14 +28,14 @@ sine N m = sineOf ((2 * m + 1) * (128 / N))
 unfoldable pub cosine : ℕ → ℕ → ℕ → ℤ
 cosine N m n = cosineOf ((2 * m + 1) * (2 * n + 1) * (128 / halfWidth N))
 
--- r, the odd one of m+n+1 and m−n, and the secant 1/cos(rπ/N)
+-- r is whichever of m+n+1 and m−n is odd; its secant is 1/cos(rπ/N)
 unfoldable pub oddOf : ℕ → ℕ → ℤ
 oddOf m n = cond (eqb ((m + n + 1) % 2) 1) (pos (m + n + 1)) (pos m -ℤ pos n)
 
 unfoldable pub secant : ℕ → ℕ → ℕ → ℤ
 secant N m n = secantOf N (oddOf m n)
 
--- d(n)·z, with the sign d(n) +1 for even n, −1 for odd
+-- d(n)·z: z where n is even, −z where n is odd
 unfoldable pub alternate : ℕ → ℤ → ℤ
 alternate n z = signed (eqb (n % 2) 1) z
 
