@@ -59,7 +59,7 @@ fn stages(
     vectors::copy(bottom, &mut out[half..]);
 }
 
-// Question 10, then the stages: folded values to the frame. Where it is answered no, frame is left as it happens to be.
+// Question 10, then the stages: folded values to the frame. Where question 10 says no, frame may hold any numbers afterwards.
 fn staged(
     width: usize,
     t: &[i64],

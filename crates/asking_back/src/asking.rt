@@ -23,7 +23,7 @@ use runs::answer::Found;
 use runs::record;
 use slices::room;
 
-// An answer with its place counted through the run; 12 counts by blocks.
+// An answer with its place counted through the run: through the frames, and for question 12 through the readings.
 fn placed(width: usize, offset: usize, answer: Answer) -> Answer
     requires { ⌜ (offset ≤ frameLimit * 128) × (told answer .1 ≤ 128) ⌝ }
     ensures { λ r. ⌜ told r ≡ Answers.placed width offset (told answer) ⌝ }
@@ -50,7 +50,7 @@ fn placed(width: usize, offset: usize, answer: Answer) -> Answer
     }
 }
 
-// Question 11 at the finish, which counts with the last frame.
+// Question 11 at the finish. Its place is counted from the beginning of the last frame.
 fn ended(offset: usize, held: &[i64]) -> Answer
     requires { ⌜ (offset ≤ frameLimit * 128) × (length (now held) ≤ 64) ⌝ }
     ensures { λ r. ⌜ told r ≡ toldHeld offset (firstBeyond (pos 0) (now (held .entry)) 0) ⌝ }

@@ -14,14 +14,14 @@ use Rattle.c_record.specs.Record.{runLength, packed, unpacked}
 abbrev pub Given : Type 0
 Given = (ℕ × ℕ) × List ℤ × List ℤ
 
--- a fresh start: question 1, then 2 to the numbers that it is to fill. "A refused fresh start hands back width 0, count 0, held zeros,
--- open", where there are 67 numbers for it.
+-- a fresh start: question 1, then 2 to the numbers that it is to fill. Where there are 67 of them a refused start fills them too, with the
+-- record of width 0 that `started` gives.
 unfoldable pub lappedStart : ℕ → List ℤ → (ℕ × ℕ) × List ℤ
 lappedStart N numbers =
     cond (eqb (length numbers) runLength) (started N .0, packed (started N .1))
     (cond (eqb (started N .0 .0) 0) (2, 0) (started N .0), numbers)
 
--- a call that works packs the record that it hands back; "a refusal hands back the same record", so its numbers stay as they are
+-- a call that works packs the record that it hands back; a refused one leaves the numbers as they are
 unfoldable pub kept : ℕ → Run → List ℤ → List ℤ
 kept number run numbers = cond (eqb number 0) (packed run) numbers
 

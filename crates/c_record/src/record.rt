@@ -63,7 +63,7 @@ pub fn store_count(count: usize, answer: Answer, numbers: &mut [i64])
     numbers[1] = (count + 1) as i64;
 }
 
-// Of numbers that are no record, one of width 0.
+// The record that the numbers are; where they are none, a record of width 0.
 pub fn unpack(numbers: &[i64]) -> Run
     ensures { λ r. ⌜ r ≡ unpacked (now (numbers .entry)) ⌝ }
 {

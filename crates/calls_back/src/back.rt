@@ -24,7 +24,7 @@ pub fn take(run: Run, frame: &[i32], block: &mut [i32]) -> Outcome
     record::hand_back(record::make(run.width, count, held, run.finished), answer)
 }
 
-// Question 11 at the finish: the held lower half.
+// Question 11 at the finish: the first held value that is not zero.
 fn first_held(run: Run, half: usize) -> Found
     requires { ⌜ Ready run half ⌝ }
     ensures { λ r. ⌜ r ≡ firstHeld run ⌝ }

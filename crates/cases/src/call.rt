@@ -7,7 +7,7 @@ use runs::answer::Answer;
 use runs::record::Outcome;
 use runs::record::Run;
 
-// A place that no number of a line is.
+// A place that no refusal names.
 const NOWHERE: usize = 4294967296;
 
 fn by_width(kind: usize, width: usize, input: &[i32], output: &mut [i32]) -> Answer {

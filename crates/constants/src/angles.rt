@@ -10,7 +10,7 @@ pub struct Folded {
     pub minus: bool,
 }
 
-// The angle less whole turns, taken off one at a time.
+// The angle less its whole turns: while there is one it is subtracted, and the function calls itself.
 pub fn within_turn(angle: u16, turn: u16) -> u16
     requires { ⌜ 0 < turn ⌝ }
     ensures { λ r. ⌜ r ≡ angle % turn ⌝ }

@@ -1,4 +1,4 @@
-// Whether a line is another one.
+// Whether two lines are the same.
 ghost use mathlib.Core.Path.{_≡_};
 ghost use Rattle.text_runs.specs.Lines;
 

@@ -36,7 +36,7 @@ DistanceAt N R d = (previous current : List ℤ) → Block N R previous → Bloc
 abbrev pub Distance : ℕ → (ℕ → ℕ) → Type 0
 Distance R d = (N : ℕ) → IsWidth N → DistanceAt N R (d N)
 
--- ---- 1. "both lie within 5√M + 2 of coefficient k of the frame"
+-- ---- 1. The distance that the paper asks for (section "The exact coefficient k"): 5√M + 2.
 unfoldable pub promised : ℕ → ℕ
 promised N = 5 * rootM N + 2
 
@@ -75,7 +75,7 @@ Folded =
     (N : ℕ) → IsWidth N → (previous current : List ℤ) → Block N readingLimit previous → Block N readingLimit current
     → AllAbs rotatedLimit (lower N current ++ held N previous)
 
--- and their frame is one that the gate lets pass on the way back: "every coefficient within ±1,048,576"
+-- and their frame is one that question 9 of the gate lets pass on the way back
 abbrev pub FrameSizes : Type 0
 FrameSizes =
     (N : ℕ) → IsWidth N → (previous current : List ℤ) → Block N readingLimit previous → Block N readingLimit current

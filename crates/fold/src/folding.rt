@@ -19,7 +19,7 @@ struct Pair {
     b: i64,
 }
 
-// y takes the rounded c·x, or gives it back.
+// Adds round(c·x) to y, or subtracts it when undoing.
 fn lift(undo: bool, c: i64, x: i64, y: i64) -> i64
     requires { ⌜ (natAbs c ≤ 2 ^ 28) × (natAbs x ≤ 2 ^ 34) × (natAbs y ≤ 2 ^ 61) ⌝ }
     ensures { λ r. ⌜ r ≡ moved undo y (round 28 (c *ℤ x)) ⌝ }
@@ -69,8 +69,8 @@ fn put_two(list: &mut [i64], i: usize, a: i64, j: usize, b: i64)
     list[j] = b;
 }
 
-// Pairs n and n + 1, n even, rotated: a goes to folded place M−1−n, b is held and what was held goes to folded place M+n. Even folded places are
-// the top half of the frame, odd ones the bottom half.
+// Rotates the pairs n and n + 1, for each even n. The new a is folded value M−1−n, and what was held is folded value M+n; the new b is held
+// instead. Folded values at even places are written to top, those at odd places to bottom.
 pub fn fold(
     width: usize,
     tangents: &[i64],

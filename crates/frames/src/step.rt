@@ -40,7 +40,7 @@ pub fn step(
     vectors::narrow(bottom, &mut frame[half..]);
 }
 
-// The block behind the last: readings there count as zero.
+// A block of zeros, which the finish takes after the last block.
 pub fn zero_block() -> [i32; 128]
     ensures { λ r. ⌜ r ≡ replicate 128 (pos 0) ⌝ }
 {

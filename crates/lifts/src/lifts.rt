@@ -1,4 +1,5 @@
-// The lifts of the stages: one half of a frame moves by rounded amounts, four places at a time, all read before one is written.
+// The lifts of the stages. Each adds rounded amounts to one half of a frame, or subtracts them when undoing: four places at a time, all read
+// before one is written.
 ghost use mathlib.Core.Path.{_≡_};
 ghost use Prim.Native.Nat.{ℕ, _+_, _-_, _%_, _^_, _<_, _≤_};
 ghost use lib.IntN.{natAbs, _+ℤ_, _*ℤ_};
@@ -14,7 +15,7 @@ use rows::order;
 use slices::fours;
 use slices::fours::Four;
 
-// The four numbers from place i on take these amounts, or give them back.
+// Adds these amounts to the four numbers from place i on, or subtracts them when undoing.
 fn move_four(undo: bool, y: &mut [i64], i: usize, amounts: Four)
     requires { ⌜ i + 4 ≤ length (now y) ⌝ }
     requires { ⌜ ((j : ℕ) → natAbs (at (now y) (i + j)) ≤ 2 ^ 60) ⌝ }
@@ -36,7 +37,7 @@ fn first_at(back: &[i64], flips: &[i64], y: &[i64], top: &[i64], i: usize) -> i6
     top[i] + integers::rounded(order::row(back, flips, y, i), 30)
 }
 
-// Bottom takes top and the rounded sums, or gives them back.
+// Stage 1: adds top and the rounded sums to bottom, or subtracts them when undoing.
 pub fn first(undo: bool, back: &[i64], flips: &[i64], y: &[i64], top: &[i64], bottom: &mut [i64])
     requires { ⌜ length (now bottom) % 4 ≡ 0 ⌝ }
     requires { ⌜ (length (now y) ≡ length (now bottom)) × (length (now top) ≡ length (now bottom)) ⌝ }
@@ -70,7 +71,7 @@ fn flipped(i: usize, x: i64) -> i64
     0 - x
 }
 
-// Stage 2 at a place: −d·top, and the rounded sum added; or the sum taken off, and then the sign.
+// Stage 2 at a place: −d·top plus the rounded sum. Undoing subtracts the sum first, and then multiplies by −d.
 fn second_at(undo: bool, back: &[i64], flips: &[i64], y: &[i64], top: &[i64], i: usize) -> i64
     requires { ⌜ i < length (now top) ⌝ }
     requires { ⌜ length (now y) ≡ length (now top) ⌝ }
@@ -107,7 +108,7 @@ pub fn second(undo: bool, back: &[i64], flips: &[i64], y: &[i64], top: &mut [i64
     }
 }
 
-// What stage 3 adds at a place, in parts of 2^34, from the secant sum, the cosine sum so many times, and −t·top.
+// What stage 3 adds at a place, before it is divided by 2^34: from the secant sum, the cosine sum times `times`, and −t·top.
 fn third_amount(times: i64, secants: i64, cosines: i64, tangent: i64) -> i64
     requires { ⌜ (natAbs times ≤ 16) × (natAbs secants ≤ 2 ^ 60) × (natAbs cosines ≤ 2 ^ 56) × (natAbs tangent ≤ 2 ^ 54) ⌝ }
     ensures { λ r. ⌜ (r ≡ Moves.amount times secants cosines tangent) × (natAbs r ≤ 2 ^ 62) ⌝ }
@@ -115,7 +116,7 @@ fn third_amount(times: i64, secants: i64, cosines: i64, tangent: i64) -> i64
     0 - secants - times * cosines + 64 * tangent
 }
 
-// What stage 3 adds at a place, j from the end: the three amounts rounded together.
+// What stage 3 adds at place i, where j is the same place counted from the end: the three amounts are added up and rounded once.
 fn third_at(
     tangents: &[i64],
     top: &[i64],
@@ -184,7 +185,7 @@ fn product(c: i64, x: i64) -> i64
     integers::rounded(c * x, 28)
 }
 
-// The four numbers from place i on take the rounded products of c and of x, x from its end, or give them back.
+// Adds round(c·x) to each of the four numbers from place i on, or subtracts it when undoing; x is read from its end.
 fn move_by_products(undo: bool, c: Four, x: Four, y: &mut [i64], i: usize)
     requires { ⌜ i + 4 ≤ length (now y) ⌝ }
     requires { ⌜ ((j : ℕ) → natAbs (at (now y) (i + j)) ≤ 2 ^ 60) ⌝ }
@@ -201,7 +202,7 @@ fn move_by_products(undo: bool, c: Four, x: Four, y: &mut [i64], i: usize)
     move_four(undo, y, i, amounts);
 }
 
-// Stage 4: y takes the rounded products of c and x, x from its end; or y gives them back.
+// Stage 4: adds round(c·x) to y at each place, or subtracts it when undoing; x is read from its end.
 pub fn fourth(undo: bool, c: &[i64], x: &[i64], y: &mut [i64])
     requires { ⌜ length (now y) % 4 ≡ 0 ⌝ }
     requires { ⌜ (length (now c) ≡ length (now y)) × (length (now x) ≡ length (now y)) ⌝ }
@@ -218,7 +219,7 @@ pub fn fourth(undo: bool, c: &[i64], x: &[i64], y: &mut [i64])
     }
 }
 
-// Stage 5: the same with c from its end too.
+// Stage 5: the same, where c is read from its end too.
 pub fn fifth(undo: bool, c: &[i64], x: &[i64], y: &mut [i64])
     requires { ⌜ length (now y) % 4 ≡ 0 ⌝ }
     requires { ⌜ (length (now c) ≡ length (now y)) × (length (now x) ≡ length (now y)) ⌝ }

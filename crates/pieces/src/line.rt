@@ -4,8 +4,8 @@ ghost use Prim.Native.Nat.{_≤_};
 ghost use lib.ListN.{length};
 ghost use Rattle.pieces.specs.Own.Gathers.{Gathers};
 
-// How many bytes a line has now, where the rest of the piece begins, whether the line has ended, and whether a line feed ended it: the other
-// end is a byte that it has no room for.
+// How many bytes a line has now, where the rest of the piece begins, whether the line has ended, and whether a line feed ended it. A line also
+// ends at a byte that it has no room for.
 pub struct Gathered {
     pub length: usize,
     pub next: usize,

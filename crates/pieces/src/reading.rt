@@ -6,7 +6,7 @@ ghost use Prim.Native.Nat.{_≤_, _<_};
 ghost use lib.ListN.{length};
 ghost use Rattle.pieces.specs.Own.Refills.{filledBy, Refills};
 
-// How often a read that a signal interrupted is tried again: a proved loop ends, and nothing says that signals do.
+// How often a read that a signal interrupted is tried again. A proved loop must end, and signals might never stop coming.
 const MOST_TRIES: usize = 1000;
 
 // A piece in the first `count` bytes of a buffer, and where to go on in it. With no byte in it the input has ended, or a read has failed.
@@ -83,7 +83,7 @@ pub fn goes_on(count: usize, lost: bool, over: bool) -> bool
     !over
 }
 
-// Whether a read has failed or a write.
+// Whether a read or a write has failed.
 pub fn lost(failed: bool, written: bool) -> bool
     ensures { λ r. ⌜ (r ≡ false → (failed ≡ false) × (written ≡ true)) ⌝ }
     ensures { λ r. ⌜ (r ≡ true → (failed ≡ true) ⊎ (written ≡ false)) ⌝ }

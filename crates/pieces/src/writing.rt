@@ -1,4 +1,4 @@
-// What is printed, written.
+// Writes what is printed.
 
 // A program has no exit status, so it says on standard error that its output is not whole.
 pub fn write(output: i32, text: &[u8]) -> bool {

@@ -25,8 +25,8 @@ told (Folded i) = (10, i)
 told (Halves i) = (11, i)
 told (Unfolded i) = (12, i)
 
--- A refusal's place counted through a whole run, forward or back, where `before` numbers stand in the blocks or frames before: "with N added
--- to the place for each one before it", "12 counts by blocks", and 0 where a question names no place: questions 1 to 7 name none.
+-- A refusal's place counted through a whole run, forward or back, where `before` numbers stand in the blocks or frames before. Question 12
+-- speaks of the block before the frame, so N less is added there. Questions 1 to 7 name no place: 0.
 unfoldable pub placed : ℕ → ℕ → ℕ × ℕ → ℕ × ℕ
 placed N before answer =
     (answer .0, cond (ltb (answer .0) 8) 0 (cond (eqb (answer .0) 12) (before - N + answer .1) (before + answer .1)))

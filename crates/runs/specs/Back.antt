@@ -14,7 +14,7 @@ use Rattle.runs.specs.declared.record.Run.{Run}
 use Rattle.runs.specs.Record.{frameLimit, opened, closed}
 use Rattle.runs.specs.Gate.{Given, ask, askEach, admitted, sound, firstOut}
 
--- "Held place i is folded place i": a run that has taken one frame more, and holds its lower half
+-- a run that has taken one frame more, and holds the lower half of its folded values
 unfoldable pub framed : Run → List ℤ → Run
 framed run folded = opened (run .width) (suc (run .count)) (take (halfWidth (run .width)) folded)
 
@@ -22,14 +22,14 @@ framed run folded = opened (run .width) (suc (run .count)) (take (halfWidth (run
 unfoldable pub blockOn : Run → List ℤ → List ℤ
 blockOn run folded = unfolded (run .width) (take (halfWidth (run .width)) (run .held)) (drop (halfWidth (run .width)) folded)
 
--- "the first frame only starts the run and writes nothing": 11, its upper half is zero; places count from 0 through the folded values
+-- A first frame: its upper half must be zero (11), and it writes no block. The place counts through all folded values.
 unfoldable pub firstUpper : Run → List ℤ → Found
 firstUpper run folded = firstBeyond (pos 0) (drop (halfWidth (run .width)) folded) (halfWidth (run .width))
 
 unfoldable pub firstFrame : Run → List ℤ → List ℤ → Given
 firstFrame run folded out = askEach 11 (firstUpper run folded) run out ((0, 0), framed run folded, out)
 
--- "each later frame writes one block": 12, each of its readings is in range
+-- A later frame gives the block before it, whose readings must be in range (12).
 unfoldable pub laterFrame : Run → List ℤ → List ℤ → Given
 laterFrame run folded out = askEach 12 (firstOut (blockOn run folded) 0) run out ((0, 0), framed run folded, blockOn run folded)
 

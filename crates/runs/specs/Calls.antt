@@ -29,7 +29,7 @@ unfoldable pub give : Run → Call → Given
 give run (block readings out) = taken run readings out
 give run (finish out) = ended run out
 
--- "Each call gets the record that the start or the call before handed back."
+-- a call, the record that it was given, which is what the call before handed back, and what it gave
 pub record Made : Type 0 where
   pub call : Call
   pub before : Run
@@ -53,8 +53,8 @@ framesGiven [] = []
 framesGiven (m ∷ ms) = cond (works m) (m .given .2 ∷ framesGiven ms) (framesGiven ms)
 
 -- ---- told from the calls alone: `b` blocks were taken before, and `over` tells whether a finish has worked
--- "A block is taken exactly when no finish has worked, fewer than 65,536 blocks were taken before and questions 6 to 9 say yes.
--- A finish works exactly when none has and question 7 says yes."
+-- A block is accepted as long as no finish has worked and the run is not full, where both lengths are right and no reading is refused. A
+-- finish is accepted where none has worked and its output has the right length.
 unfoldable pub accepted : ℕ → ℕ → Bool → Call → Bool
 accepted N b over (block readings out) =
     every
@@ -100,7 +100,7 @@ blocksOf [] = []
 blocksOf (block readings out ∷ calls) = readings ∷ blocksOf calls
 blocksOf (finish out ∷ calls) = blocksOf calls
 
--- ---- the frames: "block −1 is all zeros, and so is block b at the finish"
+-- ---- the frames, with zeros for the block before the first and for the one behind the last
 unfoldable pub blockAt : ℕ → List (List ℤ) → ℕ → List ℤ
 blockAt N blocks i = getD blocks i (zeros N)
 
@@ -108,6 +108,6 @@ unfoldable pub blockBefore : ℕ → List (List ℤ) → ℕ → List ℤ
 blockBefore N blocks zero = zeros N
 blockBefore N blocks (suc i) = blockAt N blocks i
 
--- "Frame i is what the steps forward make of block i − 1 and block i."
+-- frame i: what block i − 1 held goes into the frame of block i
 unfoldable pub frameAt : ℕ → List (List ℤ) → ℕ → List ℤ
 frameAt N blocks i = frame N (held N (blockBefore N blocks i)) (blockAt N blocks i)

@@ -11,7 +11,7 @@ use Rattle.runs.specs.declared.record.Run.{Run}
 use Rattle.runs.specs.Record.{blockLimit, zeros, opened, advanced, closed}
 use Rattle.runs.specs.Gate.{Given, ask, askEach, admitted, sound, firstDead, firstOut}
 
--- a fresh start at a width; "a refused fresh start hands back width 0, count 0, held zeros, open"
+-- a fresh start at a width; refused, the record has width 0, so that every later call with it is refused too
 unfoldable pub started : ℕ → (ℕ × ℕ) × Run
 started N = cond (eqb (halfWidth N) 0) ((1, 0), opened 0 0 []) ((0, 0), opened N 0 [])
 
@@ -27,7 +27,7 @@ takenIn run block out =
 unfoldable pub taken : Run → List ℤ → List ℤ → Given
 taken run block out = admitted blockLimit run block out (takenIn run block out)
 
--- finish: after the last block readings count as zero
+-- finish: the frame of one more block, of zeros
 unfoldable pub ended : Run → List ℤ → Given
 ended run out =
     ask 2 (sound blockLimit run) run out

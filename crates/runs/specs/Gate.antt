@@ -16,7 +16,7 @@ use Rattle.runs.specs.declared.record.Run.{Run}
 abbrev pub Given : Type 0
 Given = (ℕ × ℕ) × Run × List ℤ
 
--- "A refusal hands back the same record and leaves the output untouched."
+-- a question: where it says no, the call gives its number, and the record and the output as they were; else what follows
 unfoldable pub ask : ℕ → Bool → Run → List ℤ → Given → Given
 ask number answer run out next = cond answer next ((number, 0), run, out)
 
@@ -37,8 +37,8 @@ unfoldable pub every : List Bool → Bool
 every [] = true
 every (answer ∷ rest) = answer && every rest
 
--- 2, where `top` is the greatest count: "a good width, count from 0 to 65,536, each held value within ±50,000, held places from M up
--- zero, and all zero if the count is 0 or the run is finished"
+-- 2, where `top` is the greatest count: a width, a count that a run can have, held values within ±50,000, zeros at the held places that a
+-- width does not use, and zeros alone where nothing was taken yet or the run is finished
 unfoldable pub sound : ℕ → Run → Bool
 sound top run =
     every
@@ -49,7 +49,7 @@ sound top run =
     ∷ (not (eqb (run .count) 0 || run .finished) || inside (pos 0) (run .held))
     ∷ [])
 
--- 8: "−32,768 is the gauge's dead mark."
+-- 8: a dead gauge gives −32,768
 unfoldable pub dead : ℤ → Bool
 dead (pos n) = false
 dead (negsuc n) = eqb n 32767

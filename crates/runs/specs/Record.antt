@@ -10,7 +10,7 @@ use Rattle.runs.specs.declared.answer.Answer.{Answer}
 use Rattle.runs.specs.declared.record.Run.{Run}
 use Rattle.runs.specs.declared.record.Outcome.{Outcome}
 
--- "A run takes at most 65,536 blocks."
+-- the most blocks that a run takes
 abbrev pub blockLimit : ℕ
 blockLimit = 65536
 
@@ -45,6 +45,6 @@ opened N count xs = record { width = N; count = count; held = filled xs; finishe
 unfoldable pub advanced : Run → List ℤ → Run
 advanced run block = opened (run .width) (suc (run .count)) (held (run .width) block)
 
--- "A finish leaves the count and zeroes the held values."
+-- the record after a finish: the same count, and zeros held
 unfoldable pub closed : Run → Run
 closed run = record { width = run .width; count = run .count; held = zeros 64; finished = true }

@@ -23,7 +23,7 @@ pub record Readings (N : ℕ) (readings : List ℤ) : Type 0 where
 unfoldable pub framesOf : ℕ → List ℤ → List ℤ
 framesOf N readings = joined (tab (frameAt N (blocksIn N readings)) (suc (length readings / N)) 0)
 
--- 1. "Every whole run forward that works is accepted by the whole run back, which gives exactly those readings."
+-- 1. The frames of a whole run forward that works, handed to the whole run back, are accepted and give the same readings.
 abbrev pub Returned : Type 0
 Returned =
     (N : ℕ) → RunWidth N → (readings frames out : List ℤ) → wholeForward N readings frames .0 ≡ (0, 0) → length out ≡ length readings

@@ -36,7 +36,7 @@ oneByOne N readings out =
     let answer = firstRefusal N 0 calls in
     (answer, cond (eqb (answer .0) 0) (outputs calls) out)
 
--- "Width and lengths are asked first": 1, 6 and 7
+-- questions 1, 6 and 7 come before all others
 unfoldable pub wholeForward : ℕ → List ℤ → List ℤ → (ℕ × ℕ) × List ℤ
 wholeForward N readings out =
     cond (eqb (halfWidth N) 0) ((1, 0), out)
@@ -44,7 +44,7 @@ wholeForward N readings out =
     (cond (eqb (length out) (length readings + N)) (oneByOne N readings out) ((7, 0), out))
     ((6, 0), out))
 
--- ---- what a whole run that works gives: the frames of its blocks and its finish, each near the exact one
+-- ---- what a whole run forward has written where it answers 0: all its frames, each near the exact one
 unfoldable pub partsOf : ℕ → ℕ → List ℤ → List (List ℤ)
 partsOf N zero readings = []
 partsOf N (suc b) readings = take N readings ∷ partsOf N b (drop N readings)

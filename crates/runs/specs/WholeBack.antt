@@ -12,7 +12,7 @@ use Rattle.runs.specs.Record.{frameLimit, zeros}
 use Rattle.runs.specs.Forward.{started}
 use Rattle.runs.specs.Back.{takenBack, endedBack}
 
--- the calls one by one: b frames as they lie, each with its part of the output, and the finish, which "counts with the last frame".
+-- the calls one by one: b frames as they lie, each with its part of the output, and the finish, whose place is counted from the last frame.
 -- The answer is that of the first refused call,
 unfoldable pub answerFrom : ℕ → ℕ → Run → ℕ → List ℤ → List ℤ → ℕ × ℕ
 answerFrom N before run zero frames out = placed N (before - N) (endedBack run .0)
@@ -38,7 +38,7 @@ firstAnswer N frames out = answerFrom N 0 (started N .1) (length frames / N) fra
 unfoldable pub oneByOne : ℕ → List ℤ → List ℤ → (ℕ × ℕ) × List ℤ
 oneByOne N frames out = (firstAnswer N frames out, cond (eqb (firstAnswer N frames out .0) 0) (drop N (allOutputs N frames out)) out)
 
--- "Width and lengths are asked first": 1; 6, a multiple of N, at most the top count, at least N; 7, one block less
+-- questions 1, 6 and 7 come before all others: 6, whole frames, at least one and not too many; 7, one block less than frames
 unfoldable pub wholeBack : ℕ → List ℤ → List ℤ → (ℕ × ℕ) × List ℤ
 wholeBack N frames out =
     cond (eqb (halfWidth N) 0) ((1, 0), out)

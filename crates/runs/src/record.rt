@@ -5,7 +5,7 @@ ghost use lib.ListN.{replicate};
 ghost use Rattle.runs.specs.Record.{recordOf, outcomeOf};
 use crate::answer::Answer;
 
-// Forward, held place i is for folded place M+i of the next frame; back, it is folded place i of the last one.
+// Going forward, held[i] becomes folded value M+i of the next frame; going back, it is folded value i of the last frame.
 pub struct Run {
     pub width: usize,
     pub count: usize,

@@ -12,7 +12,7 @@ ghost use Rattle.width_tables.specs.Own.Parts.{Halves, Room};
 ghost use Rattle.stages.specs.Own.Stages.{top4, bottom5, untop2, unbottom1};
 use rows::sums;
 
-// Stage 1: bottom gains top and the rounded sums of C·d·top.
+// Stage 1: adds top and the rounded sums of 2·C·d·top/√M to bottom.
 fn first(undo: bool, width: usize, t: &[i64], top: &[i64], bottom: &mut [i64], y: &mut [i64])
     requires { ⌜ 0 < halfWidth width ⌝ }
     requires { ⌜ Filled width (now t) ⌝ }
@@ -37,7 +37,7 @@ fn first(undo: bool, width: usize, t: &[i64], top: &[i64], bottom: &mut [i64], y
     );
 }
 
-// Stage 2: top becomes −d·top and gains the rounded sums of C·bottom.
+// Stage 2: replaces top by −d·top, and adds the rounded sums of C·bottom/√M.
 fn second(undo: bool, width: usize, t: &[i64], top: &mut [i64], bottom: &[i64], y: &mut [i64])
     requires { ⌜ 0 < halfWidth width ⌝ }
     requires { ⌜ Filled width (now t) ⌝ }
@@ -55,7 +55,7 @@ fn second(undo: bool, width: usize, t: &[i64], top: &mut [i64], bottom: &[i64], 
     lifts::lifts::second(undo, &t[back..flips], &t[flips..lists], &y[..half], top);
 }
 
-// Stage 3: bottom loses the secant and the cosine sums and gains −t·top, rounded together.
+// Stage 3: subtracts the secant sums and the cosine sums from bottom and adds −t·top, as one amount that is rounded once.
 fn third(
     undo: bool,
     width: usize,
@@ -91,7 +91,7 @@ fn third(
     );
 }
 
-// Stage 4: top gains the rounded s·bottom, bottom from its end.
+// Stage 4: adds round(s·bottom) to top; bottom is read from its end.
 fn fourth(undo: bool, width: usize, t: &[i64], top: &mut [i64], bottom: &[i64])
     requires { ⌜ 0 < halfWidth width ⌝ }
     requires { ⌜ Filled width (now t) ⌝ }
@@ -104,7 +104,7 @@ fn fourth(undo: bool, width: usize, t: &[i64], top: &mut [i64], bottom: &[i64])
     lifts::lifts::fourth(undo, &t[half..width], bottom, top);
 }
 
-// Stage 5: bottom, from its end, gains the rounded −t·top.
+// Stage 5: adds round(−t·top) to bottom, from the end of bottom on.
 fn fifth(undo: bool, width: usize, t: &[i64], top: &[i64], bottom: &mut [i64])
     requires { ⌜ 0 < halfWidth width ⌝ }
     requires { ⌜ Filled width (now t) ⌝ }

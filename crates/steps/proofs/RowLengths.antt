@@ -33,7 +33,7 @@ good N =
       a3-rows = rows-tab (λ m n. third M (rootLog N) m n (secant N m n) (cosine N m n) (tangent N n)) M M 0;
     }
 
--- b takes the rounded −t·a; a takes the rounded s·b
+-- adds round(−t·a) to b; adds round(s·b) to a
 abbrev pub liftB : Width → List ℤ → List ℤ → List ℤ
 liftB w a b = lift 28 b (tanAmounts w a)
 

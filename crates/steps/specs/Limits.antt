@@ -1,7 +1,7 @@
 -- The limits on readings, folded values and coefficients: document 01.
 use Prim.Native.Nat.{ℕ}
 
--- "each from −32,767 to 32,767"
+-- the size of a reading
 abbrev pub readingLimit : ℕ
 readingLimit = 32767
 
@@ -9,10 +9,10 @@ readingLimit = 32767
 abbrev pub rotatedLimit : ℕ
 rotatedLimit = 46342
 
--- the gate: "every folded value within ±50,000"
+-- the size of a folded value that question 10 lets pass, and of a held one in question 2
 abbrev pub foldedLimit : ℕ
 foldedLimit = 50000
 
--- the gate: "every coefficient within ±1,048,576"
+-- the size of a coefficient that question 9 lets pass on the way back
 abbrev pub coefficientLimit : ℕ
 coefficientLimit = 1048576

@@ -50,7 +50,7 @@ weave [] ys = []
 weave (x ∷ xs) [] = []
 weave (x ∷ xs) (y ∷ ys) = x ∷ y ∷ weave xs ys
 
--- y takes the rounded amounts a/2^k
+-- adds the rounded amounts a/2^k to y
 abbrev pub lift : ℕ → List ℤ → List ℤ → List ℤ
 lift k y a = zipWith (λ y a. y +ℤ round k a) y a
 

@@ -1,5 +1,5 @@
 -- The steps forward, place by place, and each undone: document 01, "The steps forward". N is the width, M is N/2.
--- A table number stands for its value times 2^28, so a sum of them is rounded by 2^28 and by what the document divides by.
+-- A table number stands for its value times 2^28, so a sum of them is rounded by 2^28 and by the power of 2 that the formula divides by.
 use mathlib.Core.Bool.{true, false, cond}
 use mathlib.Core.List.{List, _++_}
 use Prim.Native.Nat.{ℕ, _+_, _-_, _*_, _/_, _%_, _^_}
@@ -28,18 +28,19 @@ sine N m = sineOf ((2 * m + 1) * (128 / N))
 unfoldable pub cosine : ℕ → ℕ → ℕ → ℤ
 cosine N m n = cosineOf ((2 * m + 1) * (2 * n + 1) * (128 / halfWidth N))
 
--- r, the odd one of m+n+1 and m−n, and the secant 1/cos(rπ/N)
+-- r is whichever of m+n+1 and m−n is odd; its secant is 1/cos(rπ/N)
 unfoldable pub oddOf : ℕ → ℕ → ℤ
 oddOf m n = cond (eqb ((m + n + 1) % 2) 1) (pos (m + n + 1)) (pos m -ℤ pos n)
 
 unfoldable pub secant : ℕ → ℕ → ℕ → ℤ
 secant N m n = secantOf N (oddOf m n)
 
--- d(n)·z, with the sign d(n) +1 for even n, −1 for odd
+-- d(n)·z: z where n is even, −z where n is odd
 unfoldable pub alternate : ℕ → ℤ → ℤ
 alternate n z = signed (eqb (n % 2) 1) z
 
--- ---- "Rotation of a pair (a, b) at m: b takes the rounded −t·a, then a takes the rounded s·b, then b takes the rounded −t·a."
+-- ---- Rotation of a pair (a, b) at m: adds round(−t·a) to b, then round(s·b) to a, then round(−t·a) to b. Undone, each is subtracted, the
+-- last one first.
 unfoldable pub tangentAmount : ℕ → ℕ → ℤ → ℤ
 tangentAmount N m a = round 28 (negℤ (tangent N m) *ℤ a)
 
@@ -58,8 +59,8 @@ unrotatedA N m a b = a -ℤ sineAmount N m (b -ℤ tangentAmount N m a)
 unfoldable pub unrotatedB : ℕ → ℕ → ℤ → ℤ → ℤ
 unrotatedB N m a b = b -ℤ tangentAmount N m a -ℤ tangentAmount N m (unrotatedA N m a b)
 
--- ---- "Fold: for n below M, a is reading n and b is reading N−1−n, rotated at n. a goes to folded place M−1−n of this frame.
--- b is held and goes to folded place M+n of the next frame."
+-- ---- Fold: reading n (as a) and reading N−1−n (as b) are rotated at n, for n below M. The new a is folded value M−1−n of this frame; the new
+-- b is held, as folded value M+n of the next one.
 unfoldable pub lower : ℕ → List ℤ → List ℤ
 lower N x = places (halfWidth N) (λ i. let n = halfWidth N - 1 - i in rotatedA N n (at x n) (at x (N - 1 - n)))
 
@@ -74,7 +75,7 @@ unfolded N low high =
     (unrotatedA N j (at low (halfWidth N - 1 - j)) (at high j))
     (let n = N - 1 - j in unrotatedB N n (at low (halfWidth N - 1 - n)) (at high n)))
 
--- ---- "Five stages: top is the even folded places, bottom the odd ones."
+-- ---- Five stages, on the folded values at even places (top) and at odd places (bottom)
 unfoldable pub topOf : ℕ → List ℤ → List ℤ
 topOf N f = places (halfWidth N) (λ m. at f (2 * m))
 
@@ -90,7 +91,7 @@ amount1 N top m = round (27 + rootLog N) (sum (halfWidth N) (λ n. cosine N m n 
 unfoldable pub amount2 : ℕ → List ℤ → ℕ → ℤ
 amount2 N bottom m = round (28 + rootLog N) (sum (halfWidth N) (λ n. cosine N m n *ℤ at bottom n))
 
--- 3: the secant sum, the cosine sum and −t(M−1−m)·top(M−1−m), over M = 2^(2l), "rounded together once as one amount added, minus signs inside"
+-- 3: minus the secant sum, minus the cosine sum, minus t(M−1−m)·top(M−1−m): one amount, over M = 2^(2l), and rounded once
 unfoldable pub amount3 : ℕ → List ℤ → ℕ → ℤ
 amount3 N top m =
     let M = halfWidth N in
@@ -99,27 +100,27 @@ amount3 N top m =
     -ℤ pos (2 * 2 ^ rootLog N) *ℤ sum M (λ n. cosine N m n *ℤ at top n)
     -ℤ pos M *ℤ (tangent N (M - 1 - m) *ℤ at top (M - 1 - m)))
 
--- "1. bottom(m) gains top(m) plus the rounded sum"
+-- 1: adds top(m) and amount 1 to bottom(m)
 unfoldable pub stage1 : ℕ → List ℤ → List ℤ → List ℤ
 stage1 N top bottom = places (halfWidth N) (λ m. at bottom m +ℤ at top m +ℤ amount1 N top m)
 
--- "2. top(m) becomes −d(m)·top(m) plus the rounded sum"
+-- 2: replaces top(m) by −d(m)·top(m), and adds amount 2
 unfoldable pub stage2 : ℕ → List ℤ → List ℤ → List ℤ
 stage2 N top bottom = places (halfWidth N) (λ m. negℤ (alternate m (at top m)) +ℤ amount2 N bottom m)
 
--- "3. bottom(m) loses the secant sum and the cosine sum, and gains −t·top"
+-- 3: adds amount 3, which has its minus signs inside, to bottom(m)
 unfoldable pub stage3 : ℕ → List ℤ → List ℤ → List ℤ
 stage3 N top bottom = places (halfWidth N) (λ m. at bottom m +ℤ amount3 N top m)
 
--- "4. top(m) gains the rounded s(m)·bottom(M−1−m)"
+-- 4: adds round(s(m)·bottom(M−1−m)) to top(m)
 unfoldable pub stage4 : ℕ → List ℤ → List ℤ → List ℤ
 stage4 N top bottom = places (halfWidth N) (λ m. at top m +ℤ sineAmount N m (at bottom (halfWidth N - 1 - m)))
 
--- "5. bottom(M−1−m) gains the rounded −t(m)·top(m)": here at i, with m = M−1−i
+-- 5: adds round(−t(m)·top(m)) to bottom(i), where i is M−1−m
 unfoldable pub stage5 : ℕ → List ℤ → List ℤ → List ℤ
 stage5 N top bottom = places (halfWidth N) (λ i. let m = halfWidth N - 1 - i in at bottom i +ℤ tangentAmount N m (at top m))
 
--- "The frame is top, then bottom."
+-- all five; the frame is top followed by bottom
 unfoldable pub stages : ℕ → List ℤ → List ℤ
 stages N f =
     let top = topOf N f in
@@ -134,7 +135,7 @@ stages N f =
 unfoldable pub frame : ℕ → List ℤ → List ℤ → List ℤ
 frame N before block = stages N (lower N block ++ before)
 
--- ---- "Back is each step undone in the other order with the same rounded amounts."
+-- ---- back: the same amounts are subtracted, and the last stage is undone first
 unfoldable pub unstage1 : ℕ → List ℤ → List ℤ → List ℤ
 unstage1 N top bottom = places (halfWidth N) (λ m. at bottom m -ℤ amount1 N top m -ℤ at top m)
 

@@ -1,5 +1,5 @@
--- "An angle is brought into the first quadrant by whole turns taken off one at a time, then by reflection; cosines and secants keep their signs."
--- q is how many parts the right angle has.
+-- Any angle by one of the first quadrant: document 01, "Tables". Whole turns come off, then it is reflected, and a cosine or a secant gets the
+-- sign of its quadrant. q is how many parts the right angle has.
 use mathlib.Core.Bool.{Bool, true, false, cond}
 use Prim.Native.Nat.{ℕ, _-_, _*_, _%_}
 use lib.Dec.{leb, ltb}

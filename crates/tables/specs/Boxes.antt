@@ -1,4 +1,4 @@
--- The true cosines, boxed between whole numbers at scale 2^60 without any table: document 01, "The true values are boxed".
+-- The true cosines, boxed between whole numbers at scale 2^60 without any table: document 01, "Tables".
 use mathlib.Core.Bool.{true, false, cond}
 use Prim.Native.Nat.{ℕ, zero, suc, _+_, _-_, _*_, _/_, _^_, _<_}
 use lib.Dec.{eqb, leb}
@@ -14,11 +14,11 @@ pub record Box : Type 0 where
 unfoldable pub only : ℕ → Box
 only n = record { low = pos n; high = pos n }
 
--- "negated and exchanged"
+-- the box of minus a value: both signs change, and so the ends change places
 unfoldable pub negated : Box → Box
 negated b = record { low = negℤ (b .high); high = negℤ (b .low) }
 
--- the greatest whole number whose square is at most n, for n of 61 digits to the base 4 (proofs/Roots)
+-- the square root of n rounded down, for n of 61 digits to the base 4 (proofs/Roots)
 unfoldable pub rootBy : ℕ → ℕ → ℕ
 rootBy zero n = 0
 rootBy (suc digits) n = let r = 2 * rootBy digits (n / 4) in cond (leb ((r + 1) * (r + 1)) n) (r + 1) r
@@ -26,11 +26,11 @@ rootBy (suc digits) n = let r = 2 * rootBy digits (n / 4) in cond (leb ((r + 1) 
 unfoldable pub root : ℕ → ℕ
 root n = rootBy 61 n
 
--- the least number from 0 up whose square is at least n
+-- and rounded up
 unfoldable pub rootUp : ℕ → ℕ
 rootUp n = let r = root n in cond (leb n (r * r)) r (r + 1)
 
--- 2^59 × (2^60 + that end)
+-- 2^59·(2^60 + e): the square of the cosine of half the angle, at scale 2^120
 unfoldable pub under : ℤ → ℕ
 under e = above (pos (2 ^ 59) *ℤ (pos (2 ^ 60) +ℤ e))
 
@@ -38,11 +38,11 @@ under e = above (pos (2 ^ 59) *ℤ (pos (2 ^ 60) +ℤ e))
 unfoldable pub halved : Box → Box
 halved b = record { low = pos (root (under (b .low))); high = pos (rootUp (under (b .high))) }
 
--- "Take the ends for 2a; if 2a passes the right angle, take those of π − 2a, negated and exchanged."
+-- the ends for twice the angle; past the right angle they are those of the reflected angle, as the box of minus its cosine
 unfoldable pub atDouble : (ℕ → Box) → ℕ → Box
 atDouble box a = elim (leb (2 * a) 512) [ true ↦ box (2 * a) | false ↦ negated (box (1024 - 2 * a)) ]
 
--- The ends for the multiple a of π/1024 in the first quadrant, doubled at most f times: "Angle 0 has both ends 2^60, the right angle has both ends 0."
+-- The ends for the multiple a of π/1024 in the first quadrant, doubled at most f times. The cosines of 0 and of the right angle are exact.
 unfoldable pub boxBy : ℕ → ℕ → Box
 boxBy zero a = only (2 ^ 60)
 boxBy (suc f) a = elim (eqb a 0) [
@@ -54,11 +54,11 @@ boxBy (suc f) a = elim (eqb a 0) [
 unfoldable pub cosineBox : ℕ → Box
 cosineBox a = boxBy 10 a
 
--- "A sine is the cosine of the complement."
+-- a sine by the cosine of the right angle less the angle
 unfoldable pub sineBox : ℕ → Box
 sineBox a = cosineBox (512 - a)
 
--- ---- the square property, as the document words it: of the ends `box` over the ends `double` for twice the angle
+-- ---- the square property of the ends `box` over the ends `double` for twice the angle: by squares alone, without a root
 pub record Squares (double box : Box) : Type 0 where
   pub low-square : (box .low *ℤ box .low) ≤ℤ (pos (2 ^ 59) *ℤ (pos (2 ^ 60) +ℤ double .low))
   pub low-greatest : (x : ℤ) → (x *ℤ x) ≤ℤ (pos (2 ^ 59) *ℤ (pos (2 ^ 60) +ℤ double .low)) → x ≤ℤ box .low

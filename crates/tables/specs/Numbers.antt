@@ -80,7 +80,7 @@ secants = byWidth secants8 secants32 secants128 []
 unfoldable pub cosineOf : ℕ → ℤ
 cosineOf j = signed (minus 256 j) (pos (getD sines (256 - reflected 256 j) 0))
 
--- the sine is the cosine of the complement, which is the cosine three quarters of a turn on
+-- a sine is the cosine a right angle before, which is the cosine three quarters of a turn on
 unfoldable pub sineOf : ℕ → ℤ
 sineOf j = cosineOf (j + 768)
 

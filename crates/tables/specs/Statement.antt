@@ -8,7 +8,7 @@ use Rattle.tables.specs.Widths.{byWidth}
 use Rattle.tables.specs.Numbers.{sines, halfTangents, secants}
 use Rattle.tables.specs.Boxes.{only, atDouble, cosineBox, sineBox, Squares, Nearest}
 
--- "j = 0 to 256"; "4, 16 and 64 entries"; "2, 8 and 32 entries"
+-- how many entries each table has, and no more
 pub record Counted (n : ℕ) : Type 0 where
   pub sines-counted : length sines ≡ 257
   pub half-tangents-counted : length (halfTangents n) ≡ byWidth 4 16 64 0 n
@@ -17,8 +17,7 @@ pub record Counted (n : ℕ) : Type 0 where
 abbrev pub TablesCounted : Type 0
 TablesCounted = (n : ℕ) → Counted n
 
--- "Every table number is shown nearest for all values between the ends, tangents and secants as fractions."
--- sin(jπ/512) is over 1, and its angle is 2j parts of π/1024
+-- Each entry is nearest whatever the true values between the ends of their boxes are. sin(jπ/512) is over 1, and its angle is 2j parts of π/1024.
 abbrev pub SinesNearest : Type 0
 SinesNearest = (j : ℕ) → j < 257 → Nearest (getD sines j 0) (sineBox (2 * j)) (only (2 ^ 60))
 
@@ -31,8 +30,8 @@ HalfTangentsNearest =
 abbrev pub SecantsNearest : Type 0
 SecantsNearest = (n i : ℕ) → i < byWidth 2 8 32 0 n → Nearest (getD (secants n) i 0) (only (2 ^ 60)) (cosineBox ((2 * i + 1) * (1024 / n)))
 
--- The boxes: "Angle 0 has both ends 2^60, the right angle has both ends 0", and between them the ends have the square property. Each of the
--- 513 holds some value: its lower end is at most its upper end.
+-- The boxes: exact at angle 0 and at the right angle, with the square property between. Each of the 513 holds some value: its lower end is at
+-- most its upper end.
 pub record Boxed : Type 0 where
   pub angle-0 : cosineBox 0 ≡ only (2 ^ 60)
   pub right-angle : cosineBox 512 ≡ only 0

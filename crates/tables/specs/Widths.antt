@@ -5,7 +5,7 @@ use mathlib.Core.Logic.{_⊎_}
 use Prim.Native.Nat.{ℕ}
 use lib.Dec.{eqb}
 
--- "A run has a width N of 8, 32 or 128."
+-- the widths that a run can have
 abbrev pub RunWidth : ℕ → Type 0
 RunWidth N = (N ≡ 8) ⊎ ((N ≡ 32) ⊎ (N ≡ 128))
 

@@ -1,5 +1,4 @@
--- A whole number in decimal: document 01, "The text run". "Decimal, a minus where negative, no plus, no leading zero, no "-0"", 32 bits
--- signed. Bytes are the codes of ASCII.
+-- A whole number in decimal, 32 bits signed: document 01, "The text run". There is one way to write each number. Bytes are the codes of ASCII.
 use mathlib.Core.Bool.{Bool, true, false, cond, not, _&&_}
 use mathlib.Core.List.{List, [], _∷_}
 use Prim.Native.Nat.{ℕ, zero, suc, _+_, _-_, _*_, _/_, _%_, _≤_}
@@ -51,7 +50,7 @@ valueOf n (b ∷ bs) = valueOf (n * 10 + (b - digitZero)) bs
 unfoldable pub valued : ℕ → ℕ → List ℕ → Size
 valued limit n bs = cond (allDigits bs && leb (valueOf n bs) limit) (Size.Of (valueOf n bs)) Size.Bad
 
--- "no leading zero": at least one digit, and '0' in front of no other
+-- at least one digit, and a '0' in front of no other digit
 unfoldable pub leads : List ℕ → Bool
 leads [] = false
 leads (b ∷ []) = true
@@ -60,7 +59,7 @@ leads (b ∷ c ∷ bs) = not (eqb b digitZero)
 unfoldable pub sized : ℕ → List ℕ → Size
 sized limit bs = cond (leads bs) (valued limit 0 bs) Size.Bad
 
--- "a minus where negative", "no "-0""
+-- a number behind a minus sign: `-0` is none
 unfoldable pub negative : Size → Field
 negative (Size.Of zero) = Field.Bad
 negative (Size.Of (suc n)) = Field.Number (negsuc n)

@@ -56,7 +56,7 @@ firstLines count N rows = decimal N ++ lineFeed ∷ rowLines (take count rows)
 abbrev pub FirstLinesBegin : Type 0
 FirstLinesBegin = (count N : ℕ) (rows : List (List ℤ)) → textOf N rows ≡ firstLines count N rows ++ (rowLines (drop count rows) ++ lastLine (length rows))
 
--- "`refused,number,line,place`"
+-- the line of a refusal, with its line feed
 unfoldable pub refusalLine : ℕ → ℕ → ℕ → List ℕ
 refusalLine number line place = refusal number line place ++ lineFeed ∷ []
 

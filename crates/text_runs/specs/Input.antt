@@ -17,7 +17,7 @@ unfoldable pub inFront : ℕ → List Line → List Line
 inFront b [] = (false, b ∷ []) ∷ []
 inFront b (line ∷ lines) = (line .0, b ∷ line .1) ∷ lines
 
--- "Each line ends in one line feed."
+-- the lines of an input; bytes behind the last line feed are a line that is not whole
 unfoldable pub linesOf : List ℕ → List Line
 linesOf [] = []
 linesOf (b ∷ bs) = cond (eqb b lineFeed) ((true, []) ∷ linesOf bs) (inFront b (linesOf bs))

@@ -18,15 +18,15 @@ use Rattle.text_runs.specs.declared.state.Phase.the-variants.{Width, Bet
 use Rattle.text_runs.specs.State.{Given, inPhase, withRun, refused}
 use Rattle.text_runs.specs.Way.{output, takenBy, endedBy, shownRow, shownLast}
 
--- "has at most 2,048 bytes"
+-- the most bytes of a line, its line feed not counted
 abbrev pub lineLimit : ℕ
 lineLimit = 2048
 
--- "A bad form .. gives 13."
+-- the form is refused by 13, which names no place
 unfoldable pub badForm : State → Given
 badForm state = refused state (13, 0)
 
--- "Line 1 is the width."
+-- the first line, which is the width
 unfoldable pub widthStarted : State → ℕ → Given
 widthStarted state N = cond (eqb (started N .0 .0) 0) (withRun Between (started N .1) state, decimal N ++ lineFeed ∷ []) (refused state (started N .0))
 
@@ -35,7 +35,7 @@ widthTaken state (Field.Number (pos N)) = widthStarted state N
 widthTaken state (Field.Number (negsuc n)) = refused state (1, 0)
 widthTaken state Field.Bad = badForm state
 
--- "Then one line per block or frame."
+-- a line with a block or a frame
 unfoldable pub rowGiven : State → Gate.Given → Given
 rowGiven state given =
     cond (eqb (given .0 .0) 0) (withRun Between (given .1) state, shownRow (state .way) (state .run) (given .2)) (refused state (given .0))
@@ -44,11 +44,11 @@ unfoldable pub rowTaken : State → Option (List ℤ) → Given
 rowTaken state none = badForm state
 rowTaken state (some xs) = rowGiven state (takenBy (state .way) (state .run) xs (output (state .run)))
 
--- "The last line is `end,` and the count of lines between."
+-- such a line, or the end line with the right count
 unfoldable pub betweenTaken : State → List ℕ → Given
 betweenTaken state bytes = cond (same bytes (endLine (state .run .count))) (inPhase Ended state, []) (rowTaken state (numbersIn bytes))
 
--- "left-over text by the end line, before the finish is worked"
+-- a line of good form, by what should come; behind the end line nothing should, so the finish is not worked there
 unfoldable pub formed : Phase → State → List ℕ → Given
 formed Width state bytes = widthTaken state (numberIn bytes)
 formed Between state bytes = betweenTaken state bytes
@@ -61,7 +61,7 @@ notFormed Between state = badForm state
 notFormed Ended state = badForm state
 notFormed Over state = (state, [])
 
--- a line, and whether it is whole: it ended in a line feed. "Form is asked before the gate for each line."
+-- a line, and whether it is whole: it ended in a line feed. That, and its length, are asked before anything else.
 unfoldable pub lineTaken : State → Bool → List ℕ → Given
 lineTaken state whole bytes = cond (whole && leb (length bytes) lineLimit) (formed (state .phase) state bytes) (notFormed (state .phase) state)
 
@@ -70,7 +70,7 @@ unfoldable pub finishGiven : State → Gate.Given → Given
 finishGiven state given =
     cond (eqb (given .0 .0) 0) (withRun Over (given .1) state, shownLast (state .way) (state .run) (given .2)) (refused state (given .0))
 
--- "Missing text is named by the line after the last."
+-- Where the end line has not come, text is missing: that is refused at the line that should come next.
 unfoldable pub endIn : Phase → State → Given
 endIn Width state = badForm state
 endIn Between state = badForm state

@@ -15,7 +15,7 @@ comma = 44
 abbrev pub lineFeed : ℕ
 lineFeed = 10
 
--- "refused," and "end,"
+-- the bytes of `refused,` and of `end,`
 unfoldable pub refusedTag : List ℕ
 refusedTag = 114 ∷ 101 ∷ 102 ∷ 117 ∷ 115 ∷ 101 ∷ 100 ∷ 44 ∷ []
 
@@ -27,16 +27,16 @@ unfoldable pub behindCommas : List ℤ → List ℕ
 behindCommas [] = []
 behindCommas (x ∷ xs) = comma ∷ printed x ++ behindCommas xs
 
--- "fields parted by commas"
+-- the numbers of a block or a frame, with commas between them
 unfoldable pub row : List ℤ → List ℕ
 row [] = []
 row (x ∷ xs) = printed x ++ behindCommas xs
 
--- "`end,` and the count of lines between"
+-- the last line of a run, with the count of its blocks or frames
 unfoldable pub endLine : ℕ → List ℕ
 endLine count = endTag ++ decimal count
 
--- "`refused,number,line,place`"
+-- what is printed for a refused line
 unfoldable pub refusal : ℕ → ℕ → ℕ → List ℕ
 refusal number line place = refusedTag ++ (decimal number ++ comma ∷ (decimal line ++ comma ∷ decimal place))
 

@@ -46,7 +46,7 @@ Said rows = map (λ row. row .0) rows ≡ map (λ row. row .1) rows
 abbrev less : ℕ → ℤ
 less n = negℤ (pos n)
 
--- ---- a number: "decimal, a minus where negative"
+-- ---- a number, printed and read
 numbers-printed : Said
     ((printed (pos 0), bytes "0")
     ∷ (printed (pos 9), bytes "9")
@@ -71,7 +71,7 @@ numbers-read : Said
 unfolding bytes numberIn negative positive sized leads valued valueOf allDigits isDigit
 numbers-read = refl
 
--- "no plus, no leading zero, no "-0"", 32 bits, nothing but digits behind the sign
+-- no numbers: nothing, a sign alone, other signs, zeros in front, minus zero, more than 32 bits, other bytes
 abbrev noNumbers : List String
 noNumbers = "" ∷ "-" ∷ "--1" ∷ "+1" ∷ "-0" ∷ "00" ∷ "01" ∷ "-01" ∷ "2147483648" ∷ "-2147483649" ∷ " 1" ∷ "1 " ∷ "1\r" ∷ "1/" ∷ "1:" ∷ "x" ∷ []
 
@@ -89,7 +89,7 @@ ends-fit : allBits (pos 2147483647 ∷ less 2147483648 ∷ [])
 unfolding allBits bits32
 ends-fit = (omega arith, (omega arith, tt))
 
--- ---- a line: "fields parted by commas", the end line, a refusal
+-- ---- a line: a row of numbers, the end line, a refusal
 lines-printed : Said
     ((row [], bytes "")
     ∷ (row (less 7 ∷ []), bytes "-7")
@@ -137,7 +137,7 @@ phases-go-on : map goesOn (Width ∷ Between ∷ Ended ∷ Over ∷ []) ≡ true
 unfolding goesOn
 phases-go-on = refl
 
--- "The line counted from 1."
+-- the number of the line that comes, where the first is 1
 lines-counted : Said
     ((lineNumber Width (opened 8 9 []), 1)
     ∷ (lineNumber Between (opened 8 0 []), 2)

@@ -36,8 +36,8 @@ goesOn Between = true
 goesOn Ended = true
 goesOn Over = false
 
--- "The line counted from 1": the width, a line for each block or frame taken, and then the next one or the end line. A count that no run
--- has is refused with its record, at line 0.
+-- The number of the line that comes: behind the width and a line for each block or frame taken. A count that no run has is refused with its
+-- record, at line 0.
 unfoldable pub lineBetween : ℕ → ℕ
 lineBetween count = cond (leb count frameLimit) (suc (suc count)) 0
 
@@ -47,6 +47,6 @@ lineNumber Between run = lineBetween (run .count)
 lineNumber Ended run = lineBetween (run .count)
 lineNumber Over run = lineBetween (run .count)
 
--- "A refused line prints `refused,number,line,place` .. and nothing follows."
+-- a refused line: its number, which line it is and the place are printed, and the run is over
 unfoldable pub refused : State → ℕ × ℕ → Given
 refused state answer = (inPhase Over state, refusal (answer .0) (lineNumber (state .phase) (state .run)) (answer .1) ++ lineFeed ∷ [])

@@ -34,7 +34,7 @@ rowLine xs = row xs ++ lineFeed ∷ []
 unfoldable pub lastLine : ℕ → List ℕ
 lastLine count = endLine count ++ lineFeed ∷ []
 
--- what is printed for a block or frame that a record takes: "the first frame only starts the run and writes nothing"
+-- what is printed for a block or frame that a record takes: nothing for the first frame going back
 unfoldable pub shownRow : Way → Run → List ℤ → List ℕ
 shownRow Forward run out = rowLine out
 shownRow Back run out = cond (eqb (run .count) 0) [] (rowLine out)
