@@ -10,7 +10,7 @@ use Rattle.pieces.specs.Run.{Stopped}
 use Rattle.feeding.proofs.LinesLeft.{text-bounded}
 use Rattle.pieces.proofs.SliceLaws.{part-long}
 use Rattle.pieces.proofs.TurnLaws.{Turns, turnsLeft, turns-first, turns-came, turn-begins, turn-again, turn-less}
-use Rattle.stream.specs.Text.{textLimits, placeOf}
+use Rattle.text_pieces.specs.Text.{textLimits, placeOf}
 use Rattle.stream.proofs.run.run.Statement.{statement}
 use Rattle.stream.proofs.run.run.Tie as tie
 

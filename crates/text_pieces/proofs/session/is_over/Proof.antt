@@ -1,9 +1,9 @@
--- `stream::session::is_over` meets its contract.
+-- `text_pieces::session::is_over` meets its contract.
 use borrow.Author.Needs.{needs}
 use mathlib.Core.Path.{ap}
 use mathlib.Core.Bool.{not}
-use Rattle.stream.proofs.session.is_over.Statement.{statement}
-use Rattle.stream.proofs.session.is_over.Tie as tie
+use Rattle.text_pieces.proofs.session.is_over.Statement.{statement}
+use Rattle.text_pieces.proofs.session.is_over.Tie as tie
 
 goes-on-requires : tie.Need-goes-on-requires
 goes-on-requires c κs = search needs

@@ -6,7 +6,7 @@ ghost use lib.ListN.{length};
 ghost use Rattle.pieces.specs.Piece.{Buffers, Gives, HandsOn, Goes, Took, Rests, Ends};
 ghost use Rattle.text_runs.specs.State.{given};
 ghost use Rattle.feeding.specs.Text.{sessionAfter, isOver, textProgram};
-ghost use Rattle.stream.specs.Text.{textLimits, placeOf};
+ghost use Rattle.text_pieces.specs.Text.{textLimits, placeOf};
 use crate::session;
 use decimal::print;
 use feeding::session::Ending;

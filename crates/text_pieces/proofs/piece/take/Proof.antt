@@ -1,4 +1,4 @@
--- `stream::piece::take` meets its contract.
+-- `text_pieces::piece::take` meets its contract.
 use borrow.Author.Needs.{needs}
 use native.Mathlib.Omega.{arith}
 use mathlib.Core.Path.{sym, _∙_}
@@ -6,9 +6,9 @@ use Prim.Native.Nat.{_-_}
 use lib.ListN.{length}
 use Rattle.pieces.proofs.PieceLaws.{Kept, kept-first, kept-more, took-all, took-full, took-over}
 use Rattle.feeding.specs.Text.{textProgram}
-use Rattle.stream.specs.Text.{textLimits, placeOf}
-use Rattle.stream.proofs.piece.take.Statement.{statement}
-use Rattle.stream.proofs.piece.take.Tie as tie
+use Rattle.text_pieces.specs.Text.{textLimits, placeOf}
+use Rattle.text_pieces.proofs.piece.take.Statement.{statement}
+use Rattle.text_pieces.proofs.piece.take.Tie as tie
 
 abbrev Inv-loop : tie.InvT-loop
 Inv-loop piece line₀ out₀ progress₀ line out progress = Kept textProgram textLimits piece line₀ out₀ (placeOf progress₀) line out (placeOf progress)

@@ -1,4 +1,4 @@
--- `stream::piece::rest` meets its contract.
+-- `text_pieces::piece::rest` meets its contract.
 use borrow.Author.Needs.{needs}
 use lib.ListN.{length-take}
 use native.Mathlib.Omega.{arith}
@@ -6,8 +6,8 @@ use mathlib.Core.Path.{sym, _∙_}
 use Rattle.pieces.proofs.SliceLaws.{part-long}
 use Rattle.pieces.proofs.PieceLaws.{rests-over, rests-none, rests-some}
 use Rattle.feeding.specs.Text.{textProgram}
-use Rattle.stream.proofs.piece.rest.Statement.{statement}
-use Rattle.stream.proofs.piece.rest.Tie as tie
+use Rattle.text_pieces.proofs.piece.rest.Statement.{statement}
+use Rattle.text_pieces.proofs.piece.rest.Tie as tie
 
 is-over-requires : tie.Need-is-over-requires
 is-over-requires c κs = search needs

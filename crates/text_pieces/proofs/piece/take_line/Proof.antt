@@ -1,12 +1,12 @@
--- `stream::piece::take_line` meets its contract.
+-- `text_pieces::piece::take_line` meets its contract.
 use borrow.Author.Needs.{needs}
 use lib.ListN.{length-take}
 use native.Mathlib.Omega.{arith}
 use Rattle.pieces.proofs.SliceLaws.{part-long}
 use Rattle.pieces.proofs.PieceLaws.{goes-open, goes-ended}
 use Rattle.feeding.specs.Text.{textProgram}
-use Rattle.stream.proofs.piece.take_line.Statement.{statement}
-use Rattle.stream.proofs.piece.take_line.Tie as tie
+use Rattle.text_pieces.proofs.piece.take_line.Statement.{statement}
+use Rattle.text_pieces.proofs.piece.take_line.Tie as tie
 
 gather-requires : tie.Need-gather-requires
 gather-requires c κs = search needs

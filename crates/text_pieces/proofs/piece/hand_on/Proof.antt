@@ -1,11 +1,11 @@
--- `stream::piece::hand_on` meets its contract.
+-- `text_pieces::piece::hand_on` meets its contract.
 use borrow.Author.Needs.{needs}
 use native.Mathlib.Omega.{arith}
 use Rattle.pieces.proofs.PieceLaws.{hands-on}
 use Rattle.feeding.specs.Text.{textProgram}
-use Rattle.stream.proofs.TextLaws.{line-given}
-use Rattle.stream.proofs.piece.hand_on.Statement.{statement}
-use Rattle.stream.proofs.piece.hand_on.Tie as tie
+use Rattle.text_pieces.proofs.TextLaws.{line-given}
+use Rattle.text_pieces.proofs.piece.hand_on.Statement.{statement}
+use Rattle.text_pieces.proofs.piece.hand_on.Tie as tie
 
 take-requires : tie.Need-take-requires
 take-requires c κs = search needs

@@ -1,13 +1,13 @@
--- `stream::piece::put` meets its contract.
+-- `text_pieces::piece::put` meets its contract.
 use borrow.Author.Needs.{needs}
 use native.Mathlib.Omega.{arith}
 use mathlib.Core.Path.{_≡_, refl, ap}
 use lib.ListN.{length}
 use Rattle.text_runs.specs.State.{given}
 use Rattle.feeding.specs.Text.{sessionAfter}
-use Rattle.stream.proofs.TextLaws.{text-part}
-use Rattle.stream.proofs.piece.put.Statement.{statement}
-use Rattle.stream.proofs.piece.put.Tie as tie
+use Rattle.text_pieces.proofs.TextLaws.{text-part}
+use Rattle.text_pieces.proofs.piece.put.Statement.{statement}
+use Rattle.text_pieces.proofs.piece.put.Tie as tie
 
 text-long : (c : tie.After-text) → length (c .before .before .args .given .text) ≡ 2048
 text-long c = search needs

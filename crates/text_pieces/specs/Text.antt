@@ -1,7 +1,7 @@
 -- The text programs, as the code of every program over lines takes them.
 use Rattle.feeding.specs.Text.{textProgram}
 use Rattle.pieces.specs.Piece.{Limits, Place}
-use Rattle.stream.specs.declared.piece.Progress.{Progress}
+use Rattle.text_pieces.specs.declared.piece.Progress.{Progress}
 
 -- a line prints at most 2,048 bytes, and every state is within the limits
 abbrev pub textLimits : Limits textProgram

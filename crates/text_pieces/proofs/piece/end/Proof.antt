@@ -1,11 +1,11 @@
--- `stream::piece::end` meets its contract.
+-- `text_pieces::piece::end` meets its contract.
 use borrow.Author.Needs.{needs}
 use native.Mathlib.Omega.{arith}
 use Rattle.pieces.proofs.PieceLaws.{ends}
 use Rattle.feeding.specs.Text.{textProgram}
-use Rattle.stream.proofs.TextLaws.{end-given}
-use Rattle.stream.proofs.piece.end.Statement.{statement}
-use Rattle.stream.proofs.piece.end.Tie as tie
+use Rattle.text_pieces.proofs.TextLaws.{end-given}
+use Rattle.text_pieces.proofs.piece.end.Statement.{statement}
+use Rattle.text_pieces.proofs.piece.end.Tie as tie
 
 rest-requires : tie.Need-rest-requires
 rest-requires c κs = search needs

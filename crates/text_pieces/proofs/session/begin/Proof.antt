@@ -1,10 +1,10 @@
--- `stream::session::begin` meets its contract.
+-- `text_pieces::session::begin` meets its contract.
 use borrow.Author.Needs.{needs}
 use mathlib.Core.Path.{ap}
 use Rattle.feeding.specs.declared.session.Ending.the-variants.{Open}
 use Rattle.feeding.specs.Text.{sessionBegun}
-use Rattle.stream.proofs.session.begin.Statement.{statement}
-use Rattle.stream.proofs.session.begin.Tie as tie
+use Rattle.text_pieces.proofs.session.begin.Statement.{statement}
+use Rattle.text_pieces.proofs.session.begin.Tie as tie
 
 begin-requires : tie.Need-begin-requires
 begin-requires c κs = search needs
