@@ -55,25 +55,13 @@ pub fn run(way: Way, input: i32, output: i32, buffer: &mut [u8]) -> Ending
     while on {
         filled = reading::refill(input, buffer, filled.count, progress.at);
         let count = filled.count;
-        let session = progress.session;
-        let begun = Progress {
-            session: session,
-            had: progress.had,
-            waiting: 0,
-            at: filled.at,
-        };
-        let taken = piece::take(&buffer[..count], &mut line, &mut out, begun);
-        let waiting = taken.waiting;
+        progress.at = filled.at;
+        progress = piece::take(&buffer[..count], &mut line, &mut out, progress);
+        let waiting = progress.waiting;
         written = writing::write(output, &out[..waiting]);
-        let after = taken.session;
-        progress = Progress {
-            session: after,
-            had: taken.had,
-            waiting: 0,
-            at: taken.at,
-        };
+        progress.waiting = 0;
         lost = reading::lost(filled.failed, written);
-        on = reading::goes_on(count, lost, session::is_over(after));
+        on = reading::goes_on(count, lost, session::is_over(progress.session));
     }
     if lost {
         return Ending::Open;
