@@ -26,15 +26,18 @@ pub struct Progress {
 }
 
 // What a line or the end gives, behind what waits.
-fn put(before: Ending, given: Printed, out: &mut [u8], waiting: usize, next: usize) -> Progress
-    requires { ⌜ (given .length ≤ 2048) × (waiting + 2048 ≤ length (now out)) ⌝ }
-    ensures { λ r. ⌜ Gives textProgram textLimits (sessionAfter before (Rattle.text_runs.specs.State.given given)) (now (out .entry)) waiting next (placeOf r) (now (out .exit)) ⌝ }
+fn put(given: Printed, out: &mut [u8], progress: Progress) -> Progress
+    requires { ⌜ (given .length ≤ 2048) × (progress .waiting + 2048 ≤ length (now out)) ⌝ }
+    ensures { λ r. ⌜ Gives textProgram textLimits (sessionAfter (progress .session .ending) (Rattle.text_runs.specs.State.given given)) (now (out .entry)) (progress .waiting) (progress .at) (placeOf r) (now (out .exit)) ⌝ }
 {
     let text = given.text;
     let n = given.length;
     let state = given.state;
-    let told = ending::after(before, state, &text[..n]);
-    let behind = print::bytes(out, waiting, &text[..n]);
+    let session = progress.session;
+    let before = session.ending;
+    let printed = &text[..n];
+    let told = ending::after(before, state, printed);
+    let behind = print::bytes(out, progress.waiting, printed);
     Progress {
         session: Session {
             state: state,
@@ -42,45 +45,31 @@ fn put(before: Ending, given: Printed, out: &mut [u8], waiting: usize, next: usi
         },
         had: 0,
         waiting: behind,
-        at: next,
+        at: progress.at,
     }
 }
 
-fn hand_on(whole: bool, line: &[u8], out: &mut [u8], progress: Progress, next: usize) -> Progress
+fn hand_on(whole: bool, line: &[u8], out: &mut [u8], progress: Progress) -> Progress
     requires { ⌜ (length (now line) ≤ 2048) × (progress .waiting + 2048 ≤ length (now out)) ⌝ }
-    ensures { λ r. ⌜ HandsOn textProgram textLimits whole (now (line .entry)) (now (out .entry)) (placeOf progress) next (placeOf r) (now (out .exit)) ⌝ }
+    ensures { λ r. ⌜ HandsOn textProgram textLimits whole (now (line .entry)) (now (out .entry)) (placeOf progress) (progress .at) (placeOf r) (now (out .exit)) ⌝ }
 {
     let session = progress.session;
-    let before = session.ending;
-    let state = session.state;
-    put(
-        before,
-        input::take(state, whole, line),
-        out,
-        progress.waiting,
-        next,
-    )
+    put(input::take(session.state, whole, line), out, progress)
 }
 
-fn take_line(piece: &[u8], line: &mut [u8], out: &mut [u8], progress: Progress) -> Progress
+fn take_line(piece: &[u8], line: &mut [u8], out: &mut [u8], mut progress: Progress) -> Progress
     requires { ⌜ Buffers textProgram textLimits (now piece) (now line) (now out) (placeOf progress) ⌝ }
     requires { ⌜ (isOver (progress .session) ≡ false) × (progress .waiting + 2048 ≤ length (now out)) × (progress .at < length (now piece)) ⌝ }
     ensures { λ r. ⌜ Goes textProgram textLimits (now (piece .entry)) (now (line .entry)) (now (out .entry)) (placeOf progress) (placeOf r) (now (line .exit)) (now (out .exit)) ⌝ }
 {
-    let had = progress.had;
-    let gathered = line::gather(piece, progress.at, line, had);
+    let gathered = line::gather(piece, progress.at, line, progress.had);
     let n = gathered.length;
-    let next = gathered.next;
+    progress.had = n;
+    progress.at = gathered.next;
     if gathered.ended {
-        return hand_on(gathered.whole, &line[..n], out, progress, next);
+        return hand_on(gathered.whole, &line[..n], out, progress);
     }
-    let session = progress.session;
-    Progress {
-        session: session,
-        had: n,
-        waiting: progress.waiting,
-        at: next,
-    }
+    progress
 }
 
 // Goes on until the piece is used up or the output has less room than one line can print.
@@ -90,14 +79,9 @@ pub fn take(piece: &[u8], line: &mut [u8], out: &mut [u8], begun: Progress) -> P
 {
     let mut progress = begun;
     while progress.at < piece.len() {
-        let session = progress.session;
-        if session::is_over(session) {
-            return Progress {
-                session: session,
-                had: progress.had,
-                waiting: progress.waiting,
-                at: piece.len(),
-            };
+        if session::is_over(progress.session) {
+            progress.at = piece.len();
+            return progress;
         }
         if out.len() - progress.waiting < 2048 {
             return progress;
@@ -112,15 +96,14 @@ fn rest(line: &[u8], out: &mut [u8], progress: Progress) -> Progress
     requires { ⌜ (length (now line) ≡ 2048) × (progress .had ≤ 2048) × (progress .waiting + 2048 ≤ length (now out)) ⌝ }
     ensures { λ r. ⌜ Rests textProgram textLimits (now (line .entry)) (now (out .entry)) (placeOf progress) (placeOf r) (now (out .exit)) ⌝ }
 {
-    let session = progress.session;
-    if session::is_over(session) {
+    if session::is_over(progress.session) {
         return progress;
     }
     let had = progress.had;
     if had == 0 {
         return progress;
     }
-    hand_on(false, &line[..had], out, progress, progress.at)
+    hand_on(false, &line[..had], out, progress)
 }
 
 // The input has no byte more.
@@ -130,7 +113,5 @@ pub fn end(line: &[u8], out: &mut [u8], progress: Progress) -> Progress
 {
     let rested = rest(line, out, progress);
     let session = rested.session;
-    let before = session.ending;
-    let state = session.state;
-    put(before, input::end(state), out, rested.waiting, rested.at)
+    put(input::end(session.state), out, rested)
 }

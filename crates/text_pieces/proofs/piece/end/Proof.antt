@@ -11,7 +11,7 @@ rest-requires : tie.Need-rest-requires
 rest-requires c κs = search needs
 
 end-requires : tie.Need-end-requires
-end-requires c κs = search needs
+end-requires c κs = tt
 
 put-requires : tie.Need-put-requires
 put-requires c κs = search needs
@@ -22,7 +22,7 @@ same-length c = search needs
 returns : tie.Need-returns
 returns c =
     let e = c .before .before .before .before in
-    let r = e .before .before .before .before .before in
+    let r = e .before .before .before .before in
     ends textProgram (r .rest .ensures) (c .before .before .put .ensures) (end-given _ (e .end .ensures .0)) (omega arith)
 
 pub end-spec : {M : Type 1} → statement M

@@ -1,5 +1,4 @@
 -- `text_pieces::piece::hand_on` meets its contract.
-use borrow.Author.Needs.{needs}
 use native.Mathlib.Omega.{arith}
 use Rattle.pieces.proofs.PieceLaws.{hands-on}
 use Rattle.feeding.specs.Text.{textProgram}
@@ -8,13 +7,13 @@ use Rattle.text_pieces.proofs.piece.hand_on.Statement.{statement}
 use Rattle.text_pieces.proofs.piece.hand_on.Tie as tie
 
 take-requires : tie.Need-take-requires
-take-requires c κs = search needs
+take-requires c κs = tt
 
 put-requires : tie.Need-put-requires
-put-requires c κs = search needs
+put-requires c κs = (c .before .take .ensures .1, c .before .before .before .before .before .pre .1)
 
 same-length : tie.Need-same-length
-same-length c = search needs
+same-length c = c .before .out .given
 
 returns : tie.Need-returns
 returns c =

@@ -16,35 +16,28 @@ part : (c : tie.After-text) → c .before .before .args .given .length ≡ lengt
 part c = text-part (c .before .before .args .given) (omega (arith, text-long c))
 
 array-share-prefix-text : tie.Need-array-share-prefix-text
-array-share-prefix-text c = omega (arith, text-long (c .before))
+array-share-prefix-text c = omega (arith, text-long (c .before .before))
 
-slice-aggregate-after : tie.Need-slice-aggregate-after
+slice-aggregate-printed : tie.Need-slice-aggregate-printed
 unfolding given
-slice-aggregate-after c = part (c .before .before)
+slice-aggregate-printed c = part (c .before .before .before)
 
 after-requires : tie.Need-after-requires
 unfolding given
-after-requires c κs = omega (arith, part (c .before .before))
-
-array-share-prefix-text-2 : tie.Need-array-share-prefix-text-2
-array-share-prefix-text-2 c = let at-text = c .before .before .before .before in omega (arith, text-long at-text)
-
-slice-aggregate-bytes : tie.Need-slice-aggregate-bytes
-unfolding given
-slice-aggregate-bytes c = let at-text = c .before .before .before .before .before in part at-text
+after-requires c κs = omega (arith, part (c .before .before .before))
 
 bytes-requires : tie.Need-bytes-requires
 unfolding given
 bytes-requires c κs = let at-text = c .before .before .before .before .before in omega (arith, part at-text)
 
 same-length : tie.Need-same-length
-same-length c = search needs
+same-length c = c .before .out .given
 
 returns : tie.Need-returns
 unfolding given sessionAfter
 returns c =
-    let at-after = c .before .before .before .before .before in
-    let t = at-after .before .before .before in
+    let at-after = c .before .before .before .before in
+    let t = at-after .before .before .before .before in
     record {
       state = ap (λ e. record { state = t .before .before .args .given .state; ending = e }) (at-after .after .ensures);
       put = c .before .before .bytes .ensures;
@@ -54,14 +47,4 @@ returns c =
     }
 
 pub put-spec : {M : Type 1} → statement M
-put-spec =
-    tie.close
-    (tie.spec
-    array-share-prefix-text
-    slice-aggregate-after
-    after-requires
-    array-share-prefix-text-2
-    slice-aggregate-bytes
-    bytes-requires
-    same-length
-    returns)
+put-spec = tie.close (tie.spec array-share-prefix-text slice-aggregate-printed after-requires bytes-requires same-length returns)

@@ -1,5 +1,4 @@
 -- `text_pieces::piece::rest` meets its contract.
-use borrow.Author.Needs.{needs}
 use lib.ListN.{length-take}
 use native.Mathlib.Omega.{arith}
 use mathlib.Core.Path.{sym, _∙_}
@@ -10,7 +9,7 @@ use Rattle.text_pieces.proofs.piece.rest.Statement.{statement}
 use Rattle.text_pieces.proofs.piece.rest.Tie as tie
 
 is-over-requires : tie.Need-is-over-requires
-is-over-requires c κs = search needs
+is-over-requires c κs = tt
 
 returns : tie.Need-returns
 returns c = rests-over textProgram (sym (c .before .is-over .ensures) ∙ c .if1 .taken)
@@ -25,7 +24,7 @@ hand-on-requires : tie.Need-hand-on-requires
 hand-on-requires c κs = (simp length-take (omega arith), omega arith)
 
 same-length : tie.Need-same-length
-same-length c = search needs
+same-length c = c .before .out .given
 
 returns-3 : tie.Need-returns-3
 returns-3 c =
