@@ -3,8 +3,8 @@ ghost use mathlib.Core.Path.{_≡_};
 ghost use Rattle.feeding.specs.Text.{sessionBegun, isOver};
 use feeding::session::Ending;
 use feeding::session::Session;
+use text_runs::state;
 use text_runs::state::Way;
-use text_state::state;
 
 pub fn begin(way: Way) -> Session
     ensures { λ r. ⌜ r ≡ sessionBegun way ⌝ }

@@ -1,9 +1,9 @@
--- `text_state::state::line_number` meets its contract.
+-- `text_runs::state::line_number` meets its contract.
 use borrow.Author.Needs.{needs}
 use mathlib.Core.Path.{sym, ap, _∙_}
 use Rattle.text_runs.specs.State.{lineNumber}
-use Rattle.text_state.proofs.state.line_number.Statement.{statement}
-use Rattle.text_state.proofs.state.line_number.Tie as tie
+use Rattle.text_runs.proofs.state.line_number.Statement.{statement}
+use Rattle.text_runs.proofs.state.line_number.Tie as tie
 
 enum-told : tie.Need-enum-told
 enum-told c = search needs

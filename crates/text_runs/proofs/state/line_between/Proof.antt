@@ -1,10 +1,10 @@
--- `text_state::state::line_between` meets its contract.
+-- `text_runs::state::line_between` meets its contract.
 use borrow.Author.Needs.{needs}
 use native.Mathlib.Omega.{arith}
 use borrow.Author.Tests.{lt-leb, le-leb}
 use Rattle.text_runs.specs.State.{lineBetween}
-use Rattle.text_state.proofs.state.line_between.Statement.{statement}
-use Rattle.text_state.proofs.state.line_between.Tie as tie
+use Rattle.text_runs.proofs.state.line_between.Statement.{statement}
+use Rattle.text_runs.proofs.state.line_between.Tie as tie
 
 returns : tie.Need-returns
 unfolding lineBetween

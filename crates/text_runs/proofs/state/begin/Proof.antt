@@ -1,15 +1,15 @@
--- `text_state::state::begin` meets its contract.
+-- `text_runs::state::begin` meets its contract.
 use borrow.Author.Needs.{needs}
 use mathlib.Core.Path.{ap, _∙_}
 use mathlib.Core.Bool.{false}
 use Rattle.runs.specs.declared.record.Run.{Run}
 use Rattle.runs.specs.Record.{recordOf, filled, opened}
 use Rattle.text_runs.specs.declared.state.Way.{Way}
 use Rattle.text_runs.specs.declared.state.State.{State}
 use Rattle.text_runs.specs.declared.state.Phase.the-variants.{Width}
 use Rattle.text_runs.specs.State.{begun}
-use Rattle.text_state.proofs.state.begin.Statement.{statement}
-use Rattle.text_state.proofs.state.begin.Tie as tie
+use Rattle.text_runs.proofs.state.begin.Statement.{statement}
+use Rattle.text_runs.proofs.state.begin.Tie as tie
 
 abbrev before-line-1 : Way → Run → State
 before-line-1 way run = record { way = way; phase = Width; run = run }

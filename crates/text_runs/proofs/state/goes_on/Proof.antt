@@ -1,9 +1,9 @@
--- `text_state::state::goes_on` meets its contract.
+-- `text_runs::state::goes_on` meets its contract.
 use borrow.Author.Needs.{needs}
 use mathlib.Core.Path.{sym, ap}
 use Rattle.text_runs.specs.State.{goesOn}
-use Rattle.text_state.proofs.state.goes_on.Statement.{statement}
-use Rattle.text_state.proofs.state.goes_on.Tie as tie
+use Rattle.text_runs.proofs.state.goes_on.Statement.{statement}
+use Rattle.text_runs.proofs.state.goes_on.Tie as tie
 
 enum-told : tie.Need-enum-told
 enum-told c = search needs
