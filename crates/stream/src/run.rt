@@ -6,13 +6,13 @@ ghost use Rattle.pieces.specs.Run.{Came};
 ghost use Rattle.feeding.specs.Text.{sessionBegun, textProgram};
 ghost use Rattle.text_pieces.specs.Text.{placeOf};
 ghost use Rattle.stream.specs.Run.{Finished, EndedAs};
-use text_pieces::piece;
-use text_pieces::piece::Progress;
-use text_pieces::session;
 use feeding::session::Ending;
 use pieces::reading;
 use pieces::reading::Filled;
 use pieces::writing;
+use text_pieces::piece;
+use text_pieces::piece::Progress;
+use text_pieces::session;
 use text_runs::state::Way;
 use text_state::ending;
 

@@ -121,7 +121,7 @@ slice-aggregate-finish-2 : tie.Need-slice-aggregate-finish-2 Inv-loop μ-loop
 slice-aggregate-finish-2 c = search needs
 
 finish-requires : tie.Need-finish-requires Inv-loop μ-loop
-finish-requires c κs = 
+finish-requires c κs =
     let k = c .before .before .before .before .loop .inv .0 in
     (turns-came textProgram k (c .before .before .if1 .left), (k .long, k .fits, k .none, k .free))
 
