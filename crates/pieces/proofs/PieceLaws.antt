@@ -49,8 +49,8 @@ module _ (P : Program) {L : Limits P} {piece line out : List ℕ} {p : Place P} 
     rises = h .rises more;
   }
 
-  pub goes-ended : g .ended ≡ true → p .waiting + L .most ≤ length out → {r : Place P} {out′ : List ℕ}
-      → HandsOn P L (g .whole) (take (g .length) line′) out p (g .next) r out′ → Goes P L piece line out p r line′ out′
+  pub goes-ended : g .ended ≡ true → p .waiting + L .most ≤ length out → {had : ℕ} {r : Place P} {out′ : List ℕ}
+      → HandsOn P L (g .whole) (take (g .length) line′) out (record { state = p .state; had = had; waiting = p .waiting; at = g .next }) (g .next) r out′ → Goes P L piece line out p r line′ out′
   unfolding readerOf
   goes-ended e free k = record {
     is = handed-reader k line′ ∙ ended-is P (p .state) on (take (p .waiting) out) h more e ∙ ap (λ (n : ℕ). fed P (readerOf P p line out) (slice (p .at) n piece)) (sym (k .place));

@@ -22,9 +22,13 @@ use Rattle.pieces.specs.Piece.{Limits, Place, reader, readerOf, Took, En
 use Rattle.pieces.specs.Run.{Came, Ran, Whole}
 use Rattle.pieces.proofs.SliceLaws.{le-or-lt, take-slice}
 
--- nothing waits, and the place is another
+-- the place is another
 abbrev pub onAt : (P : Program) → Place P → ℕ → Place P
-onAt P p at = record { state = p .state; had = p .had; waiting = 0; at = at }
+onAt P p at = record { state = p .state; had = p .had; waiting = p .waiting; at = at }
+
+-- nothing waits
+abbrev pub allWritten : (P : Program) → Place P → Place P
+allWritten P p = record { state = p .state; had = p .had; waiting = 0; at = p .at }
 
 fresh : (P : Program) (s : P .State) (had printed : List ℕ) → behind P printed (reader P s had []) ≡ reader P s had printed
 unfolding behind
@@ -61,7 +65,7 @@ module _ (P : Program) {s : P .State} {buffer line : List ℕ} {count : ℕ} {p 
 
 -- ---- a step on the piece, and its output written
 pub ran-took : (P : Program) {L : Limits P} {s : P .State} {piece line out line′ out′ : List ℕ} {p r : Place P} → Ran P s piece line p → p .waiting ≡ 0
-    → Took P L piece line out p r line′ out′ → Ran P s piece line′ (onAt P r (r .at))
+    → Took P L piece line out p r line′ out′ → Ran P s piece line′ (allWritten P r)
 unfolding behind readerOf
 ran-took P {s = s} {piece} {line} {out} {line′} {out′} {p} {r} ran none t =
     let part : List ℕ = slice (p .at) (r .at) piece in

@@ -13,7 +13,7 @@ use Rattle.pieces.specs.declared.reading.Filled.{Filled}
 use Rattle.pieces.specs.Own.Refills.{Refills}
 use Rattle.pieces.specs.Piece.{Limits, Place, reader, Buffers, Took}
 use Rattle.pieces.specs.Run.{Came, Ran}
-use Rattle.pieces.proofs.RunLaws.{onAt, ran-first, ran-refilled, ran-took, ran-came, took-counted, falls}
+use Rattle.pieces.proofs.RunLaws.{onAt, allWritten, ran-first, ran-refilled, ran-took, ran-came, took-counted, falls}
 
 -- what the loop keeps
 pub record Turns (P : Program) (L : Limits P) (s : P .State) (buffer line out : List ℕ) (p : Place P) (count : ℕ) (lost on : Bool) : Type 0 where
@@ -54,11 +54,11 @@ module _ (P : Program) {L : Limits P} {s : P .State} {buffer line out : List ℕ
     piece-long = length-take-le (f .count) buffer′ (omega (arith, h .fits))
 
     pub turn-begins : Buffers P L (take (f .count) buffer′) line out (onAt P p (f .at))
-    turn-begins = record { place = omega (arith, piece-long, h .place); long = k .long; fits = k .fits; room = omega arith; sound = k .sound }
+    turn-begins = record { place = omega (arith, piece-long, h .place); long = k .long; fits = k .fits; room = omega (arith, k .none); sound = k .sound }
 
     module _ (going : on ≡ true) {r : Place P} {line′ out′ : List ℕ} (t : Took P L (take (f .count) buffer′) line out (onAt P p (f .at)) r line′ out′) where
       pub turn-again : length line′ ≡ length line → length out′ ≡ length out → {lost′ on′ : Bool} → (on′ ≡ true → lost′ ≡ false)
-          → Turns P L s buffer′ line′ out′ (onAt P r (r .at)) (f .count) lost′ on′
+          → Turns P L s buffer′ line′ out′ (allWritten P r) (f .count) lost′ on′
       turn-again sl so goes = record {
         long = sl ∙ k .long;
         fits = t .within .fits;
@@ -67,11 +67,11 @@ module _ (P : Program) {L : Limits P} {s : P .State} {buffer line out : List ℕ
         within = omega (arith, same, h .fits);
         free = omega (arith, so, k .free);
         sound = t .within .sound;
-        ran = λ _. ran-took P (ran-refilled P (k .ran (k .goes going)) h) refl t;
+        ran = λ _. ran-took P (ran-refilled P (k .ran (k .goes going)) h) (k .none) t;
         goes = goes;
       }
 
       pub turn-less : (B : Bounded P) {on′ : Bool} → (on′ ≡ true → (0 < f .count) × (P .over (r .state) ≡ false))
-          → turnsLeft P B line′ (onAt P r (r .at)) on′ < turnsLeft P B line p on
+          → turnsLeft P B line′ (allWritten P r) on′ < turnsLeft P B line p on
       turn-less B {on′} h′ =
-          rw going (falls on′ (λ e. let t′ = h′ e in took-counted P B t (k .fits) (t .rises (omega (arith, k .free)) (omega (arith, h .more (t′ .0), piece-long))) (t′ .1)))
+          rw going (falls on′ (λ e. let t′ = h′ e in took-counted P B t (k .fits) (t .rises (omega (arith, k .none, k .free)) (omega (arith, h .more (t′ .0), piece-long))) (t′ .1)))

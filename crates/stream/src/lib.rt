@@ -1,4 +1,2 @@
-// The text programs: the step on a piece of the input, and the loop from one file descriptor to another.
-mod piece;
+// The text programs: the loop from one file descriptor to another.
 pub mod run;
-pub mod session;

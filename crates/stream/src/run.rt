@@ -4,15 +4,15 @@ ghost use Prim.Native.Nat.{_≤_};
 ghost use lib.ListN.{length};
 ghost use Rattle.pieces.specs.Run.{Came};
 ghost use Rattle.feeding.specs.Text.{sessionBegun, textProgram};
-ghost use Rattle.stream.specs.Text.{placeOf};
+ghost use Rattle.text_pieces.specs.Text.{placeOf};
 ghost use Rattle.stream.specs.Run.{Finished, EndedAs};
-use crate::piece;
-use crate::piece::Progress;
-use crate::session;
 use feeding::session::Ending;
 use pieces::reading;
 use pieces::reading::Filled;
 use pieces::writing;
+use text_pieces::piece;
+use text_pieces::piece::Progress;
+use text_pieces::session;
 use text_runs::state::Way;
 use text_state::ending;
 
@@ -55,25 +55,13 @@ pub fn run(way: Way, input: i32, output: i32, buffer: &mut [u8]) -> Ending
     while on {
         filled = reading::refill(input, buffer, filled.count, progress.at);
         let count = filled.count;
-        let session = progress.session;
-        let begun = Progress {
-            session: session,
-            had: progress.had,
-            waiting: 0,
-            at: filled.at,
-        };
-        let taken = piece::take(&buffer[..count], &mut line, &mut out, begun);
-        let waiting = taken.waiting;
+        progress.at = filled.at;
+        progress = piece::take(&buffer[..count], &mut line, &mut out, progress);
+        let waiting = progress.waiting;
         written = writing::write(output, &out[..waiting]);
-        let after = taken.session;
-        progress = Progress {
-            session: after,
-            had: taken.had,
-            waiting: 0,
-            at: taken.at,
-        };
+        progress.waiting = 0;
         lost = reading::lost(filled.failed, written);
-        on = reading::goes_on(count, lost, session::is_over(after));
+        on = reading::goes_on(count, lost, session::is_over(progress.session));
     }
     if lost {
         return Ending::Open;

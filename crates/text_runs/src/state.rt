@@ -1,4 +1,7 @@
 // How far a text run has come, and what is printed.
+ghost use mathlib.Core.Path.{_≡_};
+ghost use Rattle.text_runs.specs.State.{begun, goesOn, lineBetween, lineNumber};
+use runs::record;
 use runs::record::Run;
 
 // The way a run goes: readings to frames, or frames to readings.
@@ -26,4 +29,52 @@ pub struct Printed {
     pub state: State,
     pub text: [u8; 2048],
     pub length: usize,
+}
+
+// Before the first line.
+pub fn begin(way: Way) -> State
+    ensures { λ r. ⌜ r ≡ begun way ⌝ }
+{
+    let held = record::nothing_held();
+    State {
+        way: way,
+        phase: Phase::Width,
+        run: record::make(0, 0, held, false),
+    }
+}
+
+// Whether anything is still to be printed.
+pub fn goes_on(state: State) -> bool
+    ensures { λ r. ⌜ r ≡ goesOn (state .phase) ⌝ }
+{
+    let phase = state.phase;
+    match phase {
+        Phase::Width => true,
+        Phase::Between => true,
+        Phase::Ended => true,
+        Phase::Over => false,
+    }
+}
+
+fn line_between(count: usize) -> usize
+    ensures { λ r. ⌜ r ≡ lineBetween count ⌝ }
+{
+    if 65537 < count {
+        return 0;
+    }
+    count + 2
+}
+
+// The line that a refusal names.
+pub fn line_number(state: State) -> usize
+    ensures { λ r. ⌜ r ≡ lineNumber (state .phase) (state .run) ⌝ }
+{
+    let phase = state.phase;
+    let run = state.run;
+    match phase {
+        Phase::Width => 1,
+        Phase::Between => line_between(run.count),
+        Phase::Ended => line_between(run.count),
+        Phase::Over => line_between(run.count),
+    }
 }

@@ -5,13 +5,14 @@ ghost use lib.ListN.{length};
 ghost use Rattle.decimal.specs.Own.Put.{Put};
 ghost use Rattle.text_runs.specs.Lines.{numbersIn};
 ghost use Rattle.feeding.specs.Ending.{refusedBy, lastSaid, told, refusalLine};
-use crate::state;
+use crate::lines;
 use decimal::compare;
 use decimal::print;
 use decimal::read;
 use decimal::read::Fields;
 use decimal::search;
 use feeding::session::Ending;
+use text_runs::state;
 use text_runs::state::State;
 
 // What the numbers of a line say, once it begins as a refusal.
@@ -69,8 +70,7 @@ pub fn refusal_line(ending: Ending, text: &mut [u8]) -> usize
         Ending::Refused(number, line, place) => {
             let numbers = [number, line, place];
             let n = print::bytes(text, 0, b"refused,");
-            let m = print::numbers(text, n, &numbers);
-            print::bytes(text, m, b"\n")
+            lines::row_line(text, n, &numbers)
         }
     }
 }

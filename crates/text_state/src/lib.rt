@@ -1,5 +1,4 @@
-// How far a text run has come, and what it prints.
+// What a text run prints, and how it ended.
 pub mod ending;
 pub mod lines;
 pub mod refuse;
-pub mod state;

@@ -18,11 +18,11 @@ use text_runs::state::Printed;
 use text_runs::state::State;
 use text_runs::state::Way;
 
-fn row_line(out: &[i32], text: &mut [u8]) -> usize
-    requires { ⌜ 12 * length (now out) + 1 ≤ length (now text) ⌝ }
-    ensures { λ r. ⌜ Put 0 (now (text .entry)) (rowLine (now (out .entry))) r (now (text .exit)) × (r ≤ 12 * length (now (out .entry)) + 1) ⌝ }
+pub fn row_line(text: &mut [u8], at: usize, out: &[i32]) -> usize
+    requires { ⌜ at + 12 * length (now out) + 1 ≤ length (now text) ⌝ }
+    ensures { λ r. ⌜ Put at (now (text .entry)) (rowLine (now (out .entry))) r (now (text .exit)) × (r ≤ at + 12 * length (now (out .entry)) + 1) ⌝ }
 {
-    let n = print::numbers(text, 0, out);
+    let n = print::numbers(text, at, out);
     print::bytes(text, n, b"\n")
 }
 
@@ -42,7 +42,7 @@ fn shown_block(run: Run, out: &[i32], text: &mut [u8]) -> usize
     if run.count == 0 {
         return 0;
     }
-    row_line(out, text)
+    row_line(text, 0, out)
 }
 
 // For a block or frame that a record takes.
@@ -51,7 +51,7 @@ fn shown(way: Way, run: Run, out: &[i32], text: &mut [u8]) -> usize
     ensures { λ r. ⌜ (take r (now (text .exit)) ≡ shownRow way run (now (out .entry))) × (r ≤ length (now (text .entry))) ⌝ }
 {
     match way {
-        Way::Forward => row_line(out, text),
+        Way::Forward => row_line(text, 0, out),
         Way::Back => shown_block(run, out, text),
     }
 }
@@ -64,7 +64,7 @@ fn shown_last(way: Way, run: Run, out: &[i32], text: &mut [u8]) -> usize
 {
     match way {
         Way::Forward => {
-            let n = row_line(out, text);
+            let n = row_line(text, 0, out);
             last_line(text, n, run.count + 1)
         }
         Way::Back => last_line(text, 0, run.count - 1),

@@ -1,6 +1,7 @@
 -- `decimal::print::end_line` meets its contract.
 use borrow.Author.Needs.{needs}
 use native.Mathlib.Omega.{arith}
+use mathlib.Core.Path.{_∙_}
 use Rattle.text_runs.proofs.DecimalLaws.{decimal-within}
 use Rattle.decimal.proofs.PutLaws.{put-then, put-as}
 use Rattle.text_runs.proofs.TextLaws.{end-is}
@@ -19,7 +20,7 @@ natural-requires c κs =
     omega (arith, c .before .before .before .bytes .ensures .count, decimal-within (start .args .count))
 
 same-length : tie.Need-same-length
-same-length c = search needs
+same-length c = c .before .out2 .given ∙ c .before .before .before .before .before .out .given
 
 returns : tie.Need-returns
 returns c =

@@ -32,7 +32,7 @@ bytes-requires : tie.Need-bytes-requires
 bytes-requires c κs = omega (arith, ap length (text c))
 
 same-length : tie.Need-same-length
-same-length c = search needs
+same-length c = c .before .out .given
 
 returns : tie.Need-returns
 returns c =

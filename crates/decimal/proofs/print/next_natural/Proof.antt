@@ -1,6 +1,7 @@
 -- `decimal::print::next_natural` meets its contract.
 use borrow.Author.Needs.{needs}
 use native.Mathlib.Omega.{arith}
+use mathlib.Core.Path.{_∙_}
 use Rattle.text_runs.proofs.DecimalLaws.{decimal-within}
 use Rattle.decimal.proofs.PutLaws.{put-then}
 use Rattle.decimal.proofs.print.next_natural.Statement.{statement}
@@ -18,7 +19,7 @@ natural-requires c κs =
     omega (arith, c .before .before .before .bytes .ensures .count, decimal-within (start .args .n))
 
 same-length : tie.Need-same-length
-same-length c = search needs
+same-length c = c .before .out2 .given ∙ c .before .before .before .before .before .out .given
 
 returns : tie.Need-returns
 returns c =

@@ -1,7 +1,7 @@
 -- `decimal::print::next_number` meets its contract.
 use borrow.Author.Needs.{needs}
 use native.Mathlib.Omega.{arith}
-use mathlib.Core.Path.{ap}
+use mathlib.Core.Path.{ap, _∙_}
 use mir.Syntax.{w32}
 use Rattle.integers.proofs.Held.{held-ok}
 use Rattle.text_runs.specs.Decimal.{printed}
@@ -19,7 +19,7 @@ number-requires : tie.Need-number-requires
 number-requires c κs = omega (arith, c .before .before .before .bytes .ensures .count)
 
 same-length : tie.Need-same-length
-same-length c = search needs
+same-length c = c .before .out2 .given ∙ c .before .before .before .before .before .out .given
 
 returns : tie.Need-returns
 returns c =

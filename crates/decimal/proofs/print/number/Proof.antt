@@ -70,7 +70,7 @@ natural-requires c κs =
     omega (arith, c .before .before .before .bytes .ensures .count, digits s _ (minus-size s))
 
 same-length : tie.Need-same-length
-same-length c = search needs
+same-length c = c .before .out2 .given ∙ c .before .before .before .before .before .out .given
 
 returns : tie.Need-returns
 returns c =
@@ -91,7 +91,7 @@ natural-requires-2 c κs =
     omega (arith, digits s _ (ap natAbs (wide s .is)))
 
 same-length-2 : tie.Need-same-length-2
-same-length-2 c = search needs
+same-length-2 c = c .before .out3 .given
 
 returns-2 : tie.Need-returns-2
 returns-2 c =

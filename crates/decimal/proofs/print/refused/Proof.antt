@@ -1,6 +1,7 @@
 -- `decimal::print::refused` meets its contract.
 use borrow.Author.Needs.{needs}
 use native.Mathlib.Omega.{arith}
+use mathlib.Core.Path.{_∙_}
 use Rattle.text_runs.proofs.DecimalLaws.{decimal-within}
 use Rattle.text_runs.proofs.TextLaws.{refusal-is}
 use Rattle.decimal.proofs.PutLaws.{put-then, put-as}
@@ -32,7 +33,10 @@ next-natural-requires-2 c κs =
     omega (arith, c .before .before .before .next-natural .ensures .1, at-natural .natural .ensures .count, at-bytes .bytes .ensures .count, decimal-within (start .args .number))
 
 same-length : tie.Need-same-length
-same-length c = search needs
+same-length c =
+    let third = c .before .before .before .before .before in
+    let second = third .before .before .before .before in
+    c .before .out4 .given ∙ third .out3 .given ∙ second .out2 .given ∙ second .before .before .before .before .out .given
 
 returns : tie.Need-returns
 returns c =

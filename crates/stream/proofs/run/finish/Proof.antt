@@ -6,7 +6,7 @@ use mathlib.Core.Logic.{inl, inr}
 use Rattle.pieces.proofs.SliceLaws.{part-long}
 use Rattle.pieces.proofs.RunLaws.{whole}
 use Rattle.feeding.specs.Text.{textProgram}
-use Rattle.stream.specs.Text.{placeOf}
+use Rattle.text_pieces.specs.Text.{placeOf}
 use Rattle.stream.specs.Run.{endingOf}
 use Rattle.stream.proofs.run.finish.Statement.{statement}
 use Rattle.stream.proofs.run.finish.Tie as tie

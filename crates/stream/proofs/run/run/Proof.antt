@@ -10,7 +10,7 @@ use Rattle.pieces.specs.Run.{Stopped}
 use Rattle.feeding.proofs.LinesLeft.{text-bounded}
 use Rattle.pieces.proofs.SliceLaws.{part-long}
 use Rattle.pieces.proofs.TurnLaws.{Turns, turnsLeft, turns-first, turns-came, turn-begins, turn-again, turn-less}
-use Rattle.stream.specs.Text.{textLimits, placeOf}
+use Rattle.text_pieces.specs.Text.{textLimits, placeOf}
 use Rattle.stream.proofs.run.run.Statement.{statement}
 use Rattle.stream.proofs.run.run.Tie as tie
 
@@ -26,24 +26,24 @@ abbrev μ-loop : tie.MeasureT-loop
     turnsLeft textProgram text-bounded line (placeOf progress) on
 
 large-buffer-requires : tie.Need-large-buffer-requires Inv-loop μ-loop
-large-buffer-requires c κs = search needs
+large-buffer-requires c κs = tt
 
 begin-requires : tie.Need-begin-requires Inv-loop μ-loop
-begin-requires c κs = search needs
+begin-requires c κs = tt
 
 loop-holds : tie.Need-loop-holds Inv-loop μ-loop
-loop-holds c = (turns-first textProgram _ _ _ (c .begin .ensures) tt (search needs) (search needs), refl, search needs, λ e. absurd (false≢true (sym e)))
+loop-holds c = (turns-first textProgram _ _ _ (c .begin .ensures) tt refl (search needs), refl, search needs, λ e. absurd (false≢true (sym e)))
 
 refill-requires : tie.Need-refill-requires Inv-loop μ-loop
-refill-requires c κs = search needs
+refill-requires c κs = let k = c .before .before .loop .inv .0 in (omega (arith, k .place), k .within)
 
 slice-reshare-prefix-take : tie.Need-slice-reshare-prefix-take Inv-loop μ-loop
-slice-reshare-prefix-take c = search needs
+slice-reshare-prefix-take c = omega (arith, c .before .before .refill .ensures .fits, c .before .buffer .given)
 
 slice-aggregate-take : tie.Need-slice-aggregate-take Inv-loop μ-loop
 slice-aggregate-take c =
-    let at-refill = c .before .before .before .before in
-    part-long _ _ (omega (arith, at-refill .refill .ensures .fits, c .before .before .before .buffer .given))
+    let at-refill = c .before .before .before in
+    part-long _ _ (omega (arith, at-refill .refill .ensures .fits, c .before .before .buffer .given))
 
 slice-aggregate-take-2 : tie.Need-slice-aggregate-take-2 Inv-loop μ-loop
 slice-aggregate-take-2 c = search needs
@@ -53,34 +53,34 @@ slice-aggregate-take-3 c = search needs
 
 take-requires : tie.Need-take-requires Inv-loop μ-loop
 take-requires c κs =
-    let at-buffer = c .before .before .before .before .before in
+    let at-buffer = c .before .before .before .before in
     let f = at-buffer .before in
     turn-begins textProgram (f .before .before .before .loop .inv .0) (f .refill .ensures) (at-buffer .buffer .given)
 
 array-share-prefix-out : tie.Need-array-share-prefix-out Inv-loop μ-loop
-array-share-prefix-out c = search needs
+array-share-prefix-out c = omega (arith, c .before .before .take .ensures .within .room, c .out2 .given)
 
 slice-aggregate-write : tie.Need-slice-aggregate-write Inv-loop μ-loop
 slice-aggregate-write c = part-long _ _ (omega (arith, c .before .before .before .take .ensures .within .room))
 
 write-requires : tie.Need-write-requires Inv-loop μ-loop
-write-requires c κs = search needs
+write-requires c κs = tt
 
 lost-requires : tie.Need-lost-requires Inv-loop μ-loop
-lost-requires c κs = search needs
+lost-requires c κs = tt
 
 is-over-requires : tie.Need-is-over-requires Inv-loop μ-loop
-is-over-requires c κs = search needs
+is-over-requires c κs = tt
 
 goes-on-requires : tie.Need-goes-on-requires Inv-loop μ-loop
-goes-on-requires c κs = search needs
+goes-on-requires c κs = tt
 
 -- the step, and the read before it
 abbrev turned : tie.After-goes-on Inv-loop μ-loop → tie.After-take Inv-loop μ-loop
-turned c = c .before .before .before .before .before .before .before .before
+turned c = c .before .before .before .before .before .before .before
 
 abbrev filled : tie.After-take Inv-loop μ-loop → tie.After-refill Inv-loop μ-loop
-filled t = t .before .before .before .before .before .before .before
+filled t = t .before .before .before .before .before .before
 
 -- why no further turn comes
 stopped-why : (c : tie.After-goes-on Inv-loop μ-loop) → c .goes-on .result ≡ false → (c .before .before .lost .result ≡ true) ⊎ (filled (turned c) .refill .result .count ≡ 0) ⊎ (isOver (turned c .take .result .session) ≡ true)
@@ -89,7 +89,7 @@ stopped-why c e = ⊎-elim inl (λ r. inr (⊎-elim inl (λ o. inr (sym (c .befo
 loop-less : tie.Need-loop-less Inv-loop μ-loop
 loop-less c =
     let t = turned c in
-    let at-buffer = t .before .before .before .before .before .before in
+    let at-buffer = t .before .before .before .before .before in
     let f = filled t in
     turn-less textProgram (f .before .before .before .loop .inv .0) (f .refill .ensures) (at-buffer .buffer .given) (f .before .before .loop-test .taken) (t .take .ensures) text-bounded
     (λ e. let g = c .goes-on .ensures .0 e in (g .0, sym (c .before .is-over .ensures) ∙ g .2))
@@ -97,16 +97,19 @@ loop-less c =
 loop-again : tie.Need-loop-again Inv-loop μ-loop
 loop-again c =
     let t = turned c in
-    let at-buffer = t .before .before .before .before .before .before in
-    let f = filled t in (
-      turn-again textProgram (f .before .before .before .loop .inv .0) (f .refill .ensures) (at-buffer .buffer .given) (f .before .before .loop-test .taken) (t .take .ensures) (search needs) (search needs) (λ e. c .goes-on .ensures .0 e .1),
-      search needs,
-      search needs,
+    let at-buffer = t .before .before .before .before .before in
+    let f = filled t in
+    let k = f .before .before .before .loop .inv in
+    let at-out = c .before .before .before .before .before in
+    let at-line = at-out .before in (
+      turn-again textProgram (k .0) (f .refill .ensures) (at-buffer .buffer .given) (f .before .before .loop-test .taken) (t .take .ensures) (at-line .line2 .given ∙ sym (k .0 .long)) (at-out .out2 .given ∙ sym (k .2)) (λ e. c .goes-on .ensures .0 e .1),
+      at-buffer .buffer .given ∙ k .1,
+      at-out .out2 .given,
       λ e. record { why = stopped-why c e; whole = λ l. c .before .before .lost .ensures .0 l },
     )
 
 same-length : tie.Need-same-length Inv-loop μ-loop
-same-length c = search needs
+same-length c = c .before .before .loop .inv .1
 
 returns : tie.Need-returns Inv-loop μ-loop
 returns c = inl refl
@@ -118,10 +121,12 @@ slice-aggregate-finish-2 : tie.Need-slice-aggregate-finish-2 Inv-loop μ-loop
 slice-aggregate-finish-2 c = search needs
 
 finish-requires : tie.Need-finish-requires Inv-loop μ-loop
-finish-requires c κs = let at-loop = c .before .before .before .before in (turns-came textProgram (at-loop .loop .inv .0) (c .before .before .if1 .left), search needs)
+finish-requires c κs =
+    let k = c .before .before .before .before .loop .inv .0 in
+    (turns-came textProgram k (c .before .before .if1 .left), (k .long, k .fits, k .none, k .free))
 
 same-length-2 : tie.Need-same-length-2 Inv-loop μ-loop
-same-length-2 c = search needs
+same-length-2 c = c .before .before .before .before .before .before .loop .inv .1
 
 returns-2 : tie.Need-returns-2 Inv-loop μ-loop
 returns-2 c = ⊎-elim inl (λ e. inr (_, e)) (c .before .finish .ensures .ending)

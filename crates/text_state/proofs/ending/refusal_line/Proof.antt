@@ -6,6 +6,7 @@ use mir.Syntax.{w32}
 use Rattle.integers.proofs.Held.{held-ok}
 use Rattle.decimal.proofs.PutLaws.{put-none, put-as, put-then}
 use Rattle.text_runs.specs.Lines.{refusedTag}
+use Rattle.text_runs.specs.Way.{rowLine}
 use Rattle.feeding.specs.Ending.{refusalLine}
 use Rattle.text_state.proofs.EndingLaws.{refused-as}
 use Rattle.text_state.proofs.ending.refusal_line.Statement.{statement}
@@ -26,17 +27,11 @@ slice-aggregate-bytes c = search needs
 bytes-requires : tie.Need-bytes-requires
 bytes-requires c κs = search needs
 
-slice-aggregate-numbers : tie.Need-slice-aggregate-numbers
-slice-aggregate-numbers c = search needs
+slice-aggregate-row-line : tie.Need-slice-aggregate-row-line
+slice-aggregate-row-line c = search needs
 
-numbers-requires : tie.Need-numbers-requires
-numbers-requires c κs = search needs
-
-slice-aggregate-bytes-2 : tie.Need-slice-aggregate-bytes-2
-slice-aggregate-bytes-2 c = search needs
-
-bytes-requires-2 : tie.Need-bytes-requires-2
-bytes-requires-2 c κs = search needs
+row-line-requires : tie.Need-row-line-requires
+row-line-requires c κs = search needs
 
 returns : tie.Need-returns
 unfolding refusalLine
@@ -47,18 +42,18 @@ unfolding refusalLine
 returns-2 c = (put-as _ _ _ _ (sym (ap refusalLine (c .enum-told2 .given .1))) (put-none _ _), omega arith)
 
 same-length : tie.Need-same-length
-same-length c = search needs
+same-length c = c .before .text2 .given ∙ c .before .before .before .before .before .before .text .given
 
 returns-3 : tie.Need-returns-3
-unfolding refusalLine refusedTag
+unfolding refusalLine refusedTag rowLine
 returns-3 c =
-    let n = c .before .before .before .before .before .before .before in
+    let n = c .before .before in
     let b = n .before .before .before .before .before in
     let t = b .before .before .before in
     let x = t .before .ending .given in
     let same = refused-as (held-ok w32 _ (t .known-told .given .0 .1) .is) (held-ok w32 _ (t .known-told .given .1 .0 .1) .is) (held-ok w32 _ (t .known-told .given .1 .1 .0 .1) .is) in (
-      put-as _ _ _ _ (ap refusalLine same ∙ sym (ap refusalLine (x .1))) (put-then (b .bytes .ensures) (put-then (n .numbers2 .ensures .0) (c .before .before .bytes2 .ensures))),
-      omega (arith, b .bytes .ensures .count, n .numbers2 .ensures .1, c .before .before .bytes2 .ensures .count),
+      put-as _ _ _ _ (ap refusalLine same ∙ sym (ap refusalLine (x .1))) (put-then (b .bytes .ensures) (n .row-line .ensures .0)),
+      omega (arith, b .bytes .ensures .count, n .row-line .ensures .1),
     )
 
 pub refusal-line-spec : {M : Type 1} → statement M
@@ -70,10 +65,8 @@ refusal-line-spec =
     enum-known-ending
     slice-aggregate-bytes
     bytes-requires
-    slice-aggregate-numbers
-    numbers-requires
-    slice-aggregate-bytes-2
-    bytes-requires-2
+    slice-aggregate-row-line
+    row-line-requires
     returns
     returns-2
     same-length

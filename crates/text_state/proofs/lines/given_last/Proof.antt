@@ -9,13 +9,13 @@ use Rattle.text_state.proofs.lines.given_last.Statement.{statement}
 use Rattle.text_state.proofs.lines.given_last.Tie as tie
 
 number-requires : tie.Need-number-requires
-number-requires c κs = search needs
+number-requires c κs = tt
 
 place-requires : tie.Need-place-requires
-place-requires c κs = search needs
+place-requires c κs = tt
 
 by-requires : tie.Need-by-requires
-by-requires c κs = search needs
+by-requires c κs = tt
 
 returns : tie.Need-returns
 unfolding finishGiven

@@ -1,6 +1,7 @@
 -- `text_state::lines::row_line` meets its contract.
 use borrow.Author.Needs.{needs}
 use native.Mathlib.Omega.{arith}
+use mathlib.Core.Path.{_∙_}
 use Rattle.decimal.proofs.PutLaws.{put-then}
 use Rattle.text_runs.specs.Way.{rowLine}
 use Rattle.text_state.proofs.lines.row_line.Statement.{statement}
@@ -16,7 +17,7 @@ bytes-requires : tie.Need-bytes-requires
 bytes-requires c κs = search needs
 
 same-length : tie.Need-same-length
-same-length c = search needs
+same-length c = c .before .text2 .given ∙ c .before .before .before .before .before .before .text .given
 
 returns : tie.Need-returns
 unfolding rowLine

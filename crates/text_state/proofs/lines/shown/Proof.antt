@@ -19,7 +19,7 @@ shown-block-requires : tie.Need-shown-block-requires
 shown-block-requires c κs = search needs
 
 same-length : tie.Need-same-length
-same-length c = search needs
+same-length c = c .before .text .given
 
 returns : tie.Need-returns
 unfolding shownRow
@@ -30,7 +30,7 @@ returns c =
     (p .0 .is ∙ sym (ap (λ w. shownRow w (s .run) (s .out .now)) (at-enum-told .enum-told .given .1)), omega (arith, p .1))
 
 same-length-2 : tie.Need-same-length-2
-same-length-2 c = search needs
+same-length-2 c = c .before .text2 .given
 
 returns-2 : tie.Need-returns-2
 returns-2 c =

@@ -15,7 +15,7 @@ row-line-requires : tie.Need-row-line-requires
 row-line-requires c κs = search needs
 
 same-length : tie.Need-same-length
-same-length c = search needs
+same-length c = c .before .text .given
 
 returns-2 : tie.Need-returns-2
 unfolding shownRow

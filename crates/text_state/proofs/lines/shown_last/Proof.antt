@@ -38,7 +38,7 @@ last-line-requires-2 : tie.Need-last-line-requires-2
 last-line-requires-2 c κs = search needs
 
 same-length : tie.Need-same-length
-same-length c = search needs
+same-length c = c .before .text2 .given ∙ c .before .before .before .before .before .before .text .given
 
 returns : tie.Need-returns
 unfolding shownLast
@@ -53,7 +53,7 @@ returns c =
     )
 
 same-length-2 : tie.Need-same-length-2
-same-length-2 c = search needs
+same-length-2 c = c .before .text3 .given
 
 returns-2 : tie.Need-returns-2
 unfolding shownLast

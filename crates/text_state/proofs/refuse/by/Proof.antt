@@ -8,7 +8,7 @@ use Rattle.text_state.proofs.refuse.by.Statement.{statement}
 use Rattle.text_state.proofs.refuse.by.Tie as tie
 
 line-number-requires : tie.Need-line-number-requires
-line-number-requires c κs = search needs
+line-number-requires c κs = tt
 
 slice-aggregate-refused : tie.Need-slice-aggregate-refused
 slice-aggregate-refused c = search needs
