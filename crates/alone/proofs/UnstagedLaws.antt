@@ -10,24 +10,24 @@ use Rattle.runs.specs.Answers.{told, firstBeyond}
 use Rattle.runs.specs.declared.answer.Answer.{Answer}
 use Rattle.runs.specs.declared.answer.Found.{Found}
 use Rattle.runs.specs.declared.answer.Found.the-variants.{At, Nothing}
-use Rattle.runs.specs.Alone.{Given, refusedAt, unstagesAsked}
+use Rattle.runs.specs.Alone.{StagesResult, refusedAt, unstagesAsked}
 
 -- an answer, and what the two searches have found
 module _ (made folded : List ℤ) (answer : ℕ × ℕ) where
   abbrev Asked : Found → Found → Type 0
-  Asked f g = _≡_ {A = Given} (answer, folded) (refusedAt 9 f folded (refusedAt 10 g folded ((0, 0), made)))
+  Asked f g = _≡_ {A = StagesResult} (answer, folded) (refusedAt 9 f folded (refusedAt 10 g folded ((0, 0), made)))
 
   nothing : (f g : Found) → Asked f g → answer .0 ≡ 0 → (f ≡ Nothing) × (g ≡ Nothing) × (folded ≡ made)
   unfolding refusedAt
-  nothing (At place) g e z = absurd (omega (arith, z, ap (λ (x : Given). x .0 .0) e))
-  nothing Nothing (At place) e z = absurd (omega (arith, z, ap (λ (x : Given). x .0 .0) e))
-  nothing Nothing Nothing e z = (refl, refl, ap (λ (x : Given). x .1) e)
+  nothing (At place) g e z = absurd (omega (arith, z, ap (λ (x : StagesResult). x .0 .0) e))
+  nothing Nothing (At place) e z = absurd (omega (arith, z, ap (λ (x : StagesResult). x .0 .0) e))
+  nothing Nothing Nothing e z = (refl, refl, ap (λ (x : StagesResult). x .1) e)
 
   alone : (f g : Found) → Asked f g → (answer .0 ≡ 0 → ⊥) → (out : List ℤ) → (answer, out) ≡ refusedAt 9 f out (refusedAt 10 g out ((0, 0), made))
   unfolding refusedAt
-  alone (At place) g e h out = ap (λ (x : Given). (x .0, out)) e
-  alone Nothing (At place) e h out = ap (λ (x : Given). (x .0, out)) e
-  alone Nothing Nothing e h out = absurd (h (ap (λ (x : Given). x .0 .0) e))
+  alone (At place) g e h out = ap (λ (x : StagesResult). (x .0, out)) e
+  alone Nothing (At place) e h out = ap (λ (x : StagesResult). (x .0, out)) e
+  alone Nothing Nothing e h out = absurd (h (ap (λ (x : StagesResult). x .0 .0) e))
 
 module _ (N : ℕ) (frame folded : List ℤ) (answer : Answer) (e : (told answer, folded) ≡ unstagesAsked N frame folded) where
   abbrev coefficient : Found

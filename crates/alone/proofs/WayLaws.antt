@@ -19,7 +19,7 @@ use Rattle.runs.specs.Answers.{told, firstBeyond}
 use Rattle.runs.specs.declared.answer.Answer.{Answer}
 use Rattle.runs.specs.declared.answer.Found.{Found}
 use Rattle.runs.specs.declared.answer.Found.the-variants.{At, Nothing}
-use Rattle.runs.specs.Alone.{Given, refusedAt, shaped, stagesAsked, unstagesAsked, stagesAlone, unstagesAlone}
+use Rattle.runs.specs.Alone.{StagesResult, refusedAt, shaped, stagesAsked, unstagesAsked, stagesAlone, unstagesAlone}
 use Rattle.runs.proofs.RecordLaws.{width-pos}
 use Rattle.runs.proofs.Searches.{none-within}
 use Rattle.gate.specs.Own.Asked.{wholeParts, inParts}
@@ -31,20 +31,20 @@ use Rattle.alone.proofs.UnstagedLaws.{unstaged-inside, unstaged-made, u
 -- ---- question 10 of folded values
 module _ (made work : List ℤ) (answer : ℕ × ℕ) where
   abbrev Asked : Found → Type 0
-  Asked f = _≡_ {A = Given} (answer, work) (refusedAt 10 f work ((0, 0), made))
+  Asked f = _≡_ {A = StagesResult} (answer, work) (refusedAt 10 f work ((0, 0), made))
 
   nothing : (f : Found) → Asked f → answer .0 ≡ 0 → (f ≡ Nothing) × (work ≡ made)
   unfolding refusedAt
-  nothing (At place) e z = absurd (omega (arith, z, ap (λ (x : Given). x .0 .0) e))
-  nothing Nothing e z = (refl, ap (λ (x : Given). x .1) e)
+  nothing (At place) e z = absurd (omega (arith, z, ap (λ (x : StagesResult). x .0 .0) e))
+  nothing Nothing e z = (refl, ap (λ (x : StagesResult). x .1) e)
 
   something : (f : Found) → Asked f → (answer .0 ≡ 0 → ⊥) → (out : List ℤ) → (answer, out) ≡ refusedAt 10 f out ((0, 0), made)
   unfolding refusedAt
-  something (At place) e h out = ap (λ (x : Given). (x .0, out)) e
-  something Nothing e h out = absurd (h (ap (λ (x : Given). x .0 .0) e))
+  something (At place) e h out = ap (λ (x : StagesResult). (x .0, out)) e
+  something Nothing e h out = absurd (h (ap (λ (x : StagesResult). x .0 .0) e))
 
 -- ---- either way
-abbrev pub askedWay : Bool → ℕ → List ℤ → List ℤ → Given
+abbrev pub askedWay : Bool → ℕ → List ℤ → List ℤ → StagesResult
 askedWay undo N given out = cond undo (unstagesAsked N given out) (stagesAsked N given out)
 
 pub record Made (undo : Bool) (N : ℕ) (given work : List ℤ) (answer : Answer) : Type 0 where
@@ -97,7 +97,7 @@ module _ (N : ℕ) (given out : List ℤ) where
   way-shaped true = refl
   way-shaped false = refl
 
-  pub shape-refused : (answer : Answer) → told answer ≡ inParts N (length given) 1 1 → (told answer .0 ≡ 0 → ⊥) → (next : Given) → (told answer, out) ≡ shaped N given out next
+  pub shape-refused : (answer : Answer) → told answer ≡ inParts N (length given) 1 1 → (told answer .0 ≡ 0 → ⊥) → (next : StagesResult) → (told answer, out) ≡ shaped N given out next
   unfolding shaped
   shape-refused answer a h next = parts-refused N (length given) 1 1 answer a (eqb (length given) N) (λ w. one-part N (length given) (width-pos N (omega (arith, w)))) out _ h
 

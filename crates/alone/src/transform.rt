@@ -9,7 +9,7 @@ ghost use Rattle.tables.specs.Widths.{halfWidth};
 ghost use Rattle.width_tables.specs.Filled.{Filled};
 ghost use Rattle.steps.specs.Limits.{foldedLimit};
 ghost use Rattle.steps.specs.Steps.{stages};
-ghost use Rattle.width_tables.specs.Own.Parts.{Halves, Room};
+ghost use Rattle.width_tables.specs.Own.Parts.{TwoHalves, Room};
 ghost use Rattle.runs.specs.Answers.{told};
 ghost use Rattle.runs.specs.Alone.{stagesAsked, unstagesAsked};
 use frames::transform;
@@ -45,7 +45,7 @@ fn stages(
 )
     requires { ⌜ 0 < halfWidth width ⌝ }
     requires { ⌜ Filled width (now t) ⌝ }
-    requires { ⌜ Halves width (now top) (now bottom) ⌝ }
+    requires { ⌜ TwoHalves width (now top) (now bottom) ⌝ }
     requires { ⌜ Room width (now y) (now z) ⌝ }
     requires { ⌜ (length (now given) ≡ width) × (length (now out) ≡ width) ⌝ }
     requires { ⌜ Within foldedLimit (now given) ⌝ }
@@ -72,7 +72,7 @@ fn staged(
 ) -> Answer
     requires { ⌜ 0 < halfWidth width ⌝ }
     requires { ⌜ Filled width (now t) ⌝ }
-    requires { ⌜ Halves width (now top) (now bottom) ⌝ }
+    requires { ⌜ TwoHalves width (now top) (now bottom) ⌝ }
     requires { ⌜ Room width (now y) (now z) ⌝ }
     requires { ⌜ (length (now folded) ≡ width) × (length (now frame) ≡ width) ⌝ }
     ensures { λ r. ⌜ (told r, now (frame .exit)) ≡ stagesAsked width (now (folded .entry)) (now (frame .exit)) ⌝ }
@@ -98,7 +98,7 @@ fn unstaged(
 ) -> Answer
     requires { ⌜ 0 < halfWidth width ⌝ }
     requires { ⌜ Filled width (now t) ⌝ }
-    requires { ⌜ Halves width (now top) (now bottom) ⌝ }
+    requires { ⌜ TwoHalves width (now top) (now bottom) ⌝ }
     requires { ⌜ Room width (now y) (now z) ⌝ }
     requires { ⌜ (length (now frame) ≡ width) × (length (now folded) ≡ width) ⌝ }
     ensures { λ r. ⌜ (told r, now (folded .exit)) ≡ unstagesAsked width (now (frame .entry)) (now (folded .exit)) ⌝ }
@@ -129,7 +129,7 @@ fn either_way(
 ) -> Answer
     requires { ⌜ 0 < halfWidth width ⌝ }
     requires { ⌜ Filled width (now t) ⌝ }
-    requires { ⌜ Halves width (now top) (now bottom) ⌝ }
+    requires { ⌜ TwoHalves width (now top) (now bottom) ⌝ }
     requires { ⌜ Room width (now y) (now z) ⌝ }
     requires { ⌜ (length (now given) ≡ width) × (length (now out) ≡ width) ⌝ }
     ensures { λ r. ⌜ (told r, now (out .exit)) ≡ cond undo (unstagesAsked width (now (given .entry)) (now (out .exit))) (stagesAsked width (now (given .entry)) (now (out .exit))) ⌝ }

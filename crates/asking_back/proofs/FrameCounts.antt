@@ -7,9 +7,9 @@ use mathlib.Core.List.{List}
 use lib.ListN.{length}
 use Rattle.runs.specs.Record.{frameLimit}
 use Rattle.runs.proofs.RecordLaws.{width-le}
-use Rattle.asking_back.specs.Own.Ready.{Frames}
+use Rattle.asking_back.specs.Own.Ready.{WholeFrames}
 
-module _ (N : ℕ) (frames : List ℤ) (f : Frames N frames) where
+module _ (N : ℕ) (frames : List ℤ) (f : WholeFrames N frames) where
   pub few-numbers : length frames ≤ frameLimit * 128
   few-numbers = omega (arith, f .whole, mul-le-mul-right N (f .few), width-le N (f .wide))
 

@@ -5,7 +5,7 @@ use Prim.Native.Nat.{ℕ}
 use native.Mathlib.Omega.{arith}
 use lib.IntN.{ℤ}
 use lib.ListN.{length}
-use Rattle.width_tables.specs.Own.Parts.{Halves, Room}
+use Rattle.width_tables.specs.Own.Parts.{TwoHalves, Room}
 
 pub record SameRoom (folded₀ wide₀ top₀ bottom₀ y₀ z₀ folded wide top bottom y z : List ℤ) : Type 0 where
   pub folded-same : length folded ≡ length folded₀
@@ -16,7 +16,7 @@ pub record SameRoom (folded₀ wide₀ top₀ bottom₀ y₀ z₀ folded wide to
   pub z-same : length z ≡ length z₀
 
 module _ {folded₀ wide₀ top₀ bottom₀ y₀ z₀ folded wide top bottom y z : List ℤ} (same : SameRoom folded₀ wide₀ top₀ bottom₀ y₀ z₀ folded wide top bottom y z) (N : ℕ) where
-  pub halves-same : Halves N top₀ bottom₀ → Halves N top bottom
+  pub halves-same : TwoHalves N top₀ bottom₀ → TwoHalves N top bottom
   halves-same h = record { top-long = same .top-same ∙ h .top-long; bottom-long = same .bottom-same ∙ h .bottom-long }
 
   pub room-same : Room N y₀ z₀ → Room N y z

@@ -16,7 +16,7 @@ use Rattle.runs.specs.declared.answer.Found.{Found}
 use Rattle.runs.specs.declared.answer.Found.the-variants.{At, Nothing}
 use Rattle.runs.specs.declared.record.Run.{Run}
 use Rattle.runs.specs.Record.{frameLimit, nextCount, opened}
-use Rattle.runs.specs.Gate.{Given}
+use Rattle.runs.specs.Gate.{CallResult}
 use Rattle.runs.proofs.Refusals.{count-raised}
 use Rattle.runs.proofs.RecordLaws.{take-filled}
 use Rattle.asking_back.specs.Own.Ready.{toldHeld}
@@ -42,8 +42,8 @@ module _ (N count : ℕ) (low after c out w : List ℤ) (answer : Answer) (r : R
   frame-taken other l m =
       let same = taken-undone N count low r c other l m h in
       sym
-      (ap (λ (g : Given). (g .0, g .1, takenBack (opened N count low) c other .2)) e
-      ∙ ap (λ (x : List ℤ). (undoneIn (opened N count low) c out .0, undoneIn (opened N count low) c out .1, x)) (ap (λ (g : Given). g .2) same)
+      (ap (λ (g : CallResult). (g .0, g .1, takenBack (opened N count low) c other .2)) e
+      ∙ ap (λ (x : List ℤ). (undoneIn (opened N count low) c out .0, undoneIn (opened N count low) c out .1, x)) (ap (λ (g : CallResult). g .2) same)
       ∙ undone-alike (opened N count low) c out other .same
       ∙ sym same)
 
@@ -59,8 +59,8 @@ module _ (N count : ℕ) (low after c out w : List ℤ) (answer : Answer) (r : R
 
     pub reached-after : ReachedBack N (count + 1) after
     reached-after =
-        let u = undone-next N count low r c out h (sym (ap (λ (g : Given). g .0 .0) e) ∙ z) in
-        let same = opened-same N (suc count) after _ long (low-long N (r .wide) c) (sym run-next ∙ ap (λ (g : Given). g .1) e ∙ u .0) in
+        let u = undone-next N count low r c out h (sym (ap (λ (g : CallResult). g .0 .0) e) ∙ z) in
+        let same = opened-same N (suc count) after _ long (low-long N (r .wide) c) (sym run-next ∙ ap (λ (g : CallResult). g .1) e ∙ u .0) in
         rw (add-one count, same) (u .1)
 
 -- ---- behind the last frame
@@ -74,5 +74,5 @@ module _ (N count : ℕ) (low : List ℤ) (r : ReachedBack N count low) (n : cou
   end-told before = by (firstBeyond (pos 0) low 0) refl
     where
       by : (f : Found) → firstBeyond (pos 0) low 0 ≡ f → toldHeld before f ≡ placed N before (endedBack (opened N count low) .0)
-      by (At place) e = ap (λ (g : Given). placed N before (g .0)) (end-held-refused (opened N count low) (back-sound N count low r) refl n place (held-asked (At place) e))
-      by Nothing e = ap (λ (g : Given). placed N before (g .0)) (ended-done (opened N count low) (back-sound N count low r) refl n (held-asked Nothing e))
+      by (At place) e = ap (λ (g : CallResult). placed N before (g .0)) (end-held-refused (opened N count low) (back-sound N count low r) refl n place (held-asked (At place) e))
+      by Nothing e = ap (λ (g : CallResult). placed N before (g .0)) (ended-done (opened N count low) (back-sound N count low r) refl n (held-asked Nothing e))

@@ -7,14 +7,14 @@ ghost use Rattle.integers.specs.Places.{Within};
 ghost use Rattle.tables.specs.Widths.{halfWidth};
 ghost use Rattle.steps.specs.Limits.{foldedLimit};
 ghost use Rattle.width_tables.specs.Filled.{Filled};
-ghost use Rattle.width_tables.specs.Own.Parts.{Halves, Room};
+ghost use Rattle.width_tables.specs.Own.Parts.{TwoHalves, Room};
 ghost use Rattle.runs.specs.Answers.{told, firstBeyond};
 ghost use Rattle.runs.specs.Record.{frameLimit, zeros, opened};
 ghost use Rattle.runs.specs.Forward.{started};
 ghost use Rattle.runs.specs.Back.{takenBack};
 ghost use Rattle.runs.specs.Answers;
 ghost use Rattle.runs.specs.WholeBack.{firstAnswer};
-ghost use Rattle.asking_back.specs.Own.Ready.{Frames, toldHeld};
+ghost use Rattle.asking_back.specs.Own.Ready.{WholeFrames, toldHeld};
 use frames::step;
 use frames::undo;
 use gate::questions;
@@ -51,7 +51,7 @@ fn placed(width: usize, offset: usize, answer: Answer) -> Answer
 }
 
 // Question 11 at the finish. Its place is counted from the beginning of the last frame.
-fn ended(offset: usize, held: &[i64]) -> Answer
+fn finish_answer(offset: usize, held: &[i64]) -> Answer
     requires { ⌜ (offset ≤ frameLimit * 128) × (length (now held) ≤ 64) ⌝ }
     ensures { λ r. ⌜ told r ≡ toldHeld offset (firstBeyond (pos 0) (now (held .entry)) 0) ⌝ }
 {
@@ -78,9 +78,9 @@ fn answer_of(
 ) -> Answer
     requires { ⌜ Filled width (now t) ⌝ }
     requires { ⌜ now held ≡ zeros (halfWidth width) ⌝ }
-    requires { ⌜ Frames width (now frames) ⌝ }
+    requires { ⌜ WholeFrames width (now frames) ⌝ }
     requires { ⌜ (length (now folded) ≡ width) × (length (now wide) ≡ width) × (length (now block) ≡ width) ⌝ }
-    requires { ⌜ Halves width (now top) (now bottom) ⌝ }
+    requires { ⌜ TwoHalves width (now top) (now bottom) ⌝ }
     requires { ⌜ Room width (now y) (now z) ⌝ }
     ensures { λ r. ⌜ told r ≡ firstAnswer width (now (frames .entry)) (zeros (length (now (frames .entry)) - width)) ⌝ }
 {
@@ -110,13 +110,13 @@ fn answer_of(
         count += 1;
         left -= 1;
     }
-    ended(at - width, held)
+    finish_answer(at - width, held)
 }
 
 // The same, in room of its own.
 pub fn first_answer(width: usize, t: &[i64], frames: &[i32]) -> Answer
     requires { ⌜ Filled width (now t) ⌝ }
-    requires { ⌜ Frames width (now frames) ⌝ }
+    requires { ⌜ WholeFrames width (now frames) ⌝ }
     ensures { λ r. ⌜ told r ≡ firstAnswer width (now (frames .entry)) (zeros (length (now (frames .entry)) - width)) ⌝ }
 {
     let half = width / 2;
@@ -160,7 +160,7 @@ pub fn first_frame(
     requires { ⌜ Filled width (now t) ⌝ }
     requires { ⌜ (length (now frame) ≡ width) × (now held ≡ zeros (halfWidth width)) ⌝ }
     requires { ⌜ (length (now folded) ≡ width) × (length (now wide) ≡ width) ⌝ }
-    requires { ⌜ Halves width (now top) (now bottom) ⌝ }
+    requires { ⌜ TwoHalves width (now top) (now bottom) ⌝ }
     requires { ⌜ Room width (now y) (now z) ⌝ }
     ensures { λ _. ⌜ (takenBack (started width .1) (now (frame .entry)) (zeros width) .0 .0 ≡ 0 → (opened width 1 (now (held .exit)) ≡ takenBack (started width .1) (now (frame .entry)) (zeros width) .1) × Within foldedLimit (now (held .exit))) ⌝ }
 {

@@ -10,7 +10,7 @@ use Rattle.runs.specs.declared.answer.Answer.{Answer}
 use Rattle.runs.specs.declared.answer.Answer.the-variants.{Done, Width, Record, Closed, Full, Empty, InputLength, OutputLength, DeadMark, Range, Folded, Halves, Unfolded}
 use Rattle.runs.specs.declared.record.Run.{Run}
 use Rattle.c_record.specs.Record.{packed}
-use Rattle.c_record.specs.Calls.{kept}
+use Rattle.c_record.specs.Calls.{numbersAfter}
 
 pub told-pair : (answer : ℕ × ℕ) {a b : ℕ} → a ≡ answer .0 → b ≡ answer .1 → (a, b) ≡ answer
 told-pair (n, m) p q = rw (p, q)
@@ -50,10 +50,10 @@ told-done (Unfolded i) e = absurd (omega arith)
 
 -- ---- a refused call leaves the numbers, one that works packs its record
 module _ (numbers : List ℤ) (n : ℕ) (run : Run) where
-  pub kept-refused : (n ≡ 0 → ⊥) → numbers ≡ kept n run numbers
-  unfolding kept
+  pub kept-refused : (n ≡ 0 → ⊥) → numbers ≡ numbersAfter n run numbers
+  unfolding numbersAfter
   kept-refused e = rw (ne-eqb n 0 e)
 
-  pub kept-worked : n ≡ 0 → packed run ≡ kept n run numbers
-  unfolding kept
+  pub kept-worked : n ≡ 0 → packed run ≡ numbersAfter n run numbers
+  unfolding numbersAfter
   kept-worked e = rw (eq-eqb n 0 e)

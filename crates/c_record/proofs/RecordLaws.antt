@@ -16,8 +16,8 @@ use borrow.Rule.Slice.PartMut.{putMid}
 use Rattle.integers.specs.Places.{at}
 use Rattle.integers.proofs.Held.{held-ok}
 use Rattle.runs.specs.declared.record.Run.{Run}
-use Rattle.runs.specs.Record.{zeros, recordOf, filled, opened}
-use Rattle.runs.specs.Gate.{every}
+use Rattle.runs.specs.Record.{zeros, recordOf, zeroPadded, opened}
+use Rattle.runs.specs.Gate.{allYes}
 use Rattle.runs.proofs.CallLaws.{every-answer}
 use Rattle.c_record.specs.Record.{runLength, isRecord, packed, unpacked}
 use Rattle.c_record.specs.Ready.{Packable}
@@ -46,26 +46,26 @@ natural (negsuc n) e = absurd (subst T (sym e) tt)
 -- ---- the tests, one after the other
 module _ (numbers : List ℤ) where
   pub no-room : (length numbers ≡ runLength → ⊥) → false ≡ isRecord numbers
-  unfolding isRecord every
+  unfolding isRecord allYes
   no-room h = rw (ne-eqb _ _ h)
 
   module _ (l : length numbers ≡ runLength) where
     pub no-width : ltZ (at numbers 0) (pos 0) ≡ true → false ≡ isRecord numbers
-    unfolding isRecord every
+    unfolding isRecord allYes
     no-width h = rw (eq-eqb _ _ l, below (at numbers 0) h)
 
     module _ (w : ltZ (at numbers 0) (pos 0) ≡ false) where
       pub no-count : ltZ (at numbers 1) (pos 0) ≡ true → false ≡ isRecord numbers
-      unfolding isRecord every
+      unfolding isRecord allYes
       no-count h = rw (eq-eqb _ _ l, from (at numbers 0) w, below (at numbers 1) h)
 
       module _ (c : ltZ (at numbers 1) (pos 0) ≡ false) where
         pub no-flag : ltZ (at numbers 2) (pos 0) ≡ true → false ≡ isRecord numbers
-        unfolding isRecord every
+        unfolding isRecord allYes
         no-flag h = rw (eq-eqb _ _ l, from (at numbers 0) w, from (at numbers 1) c, below (at numbers 2) h)
 
         pub by-flag : ltZ (at numbers 2) (pos 0) ≡ false → ltZ (at numbers 2) (pos 2) ≡ isRecord numbers
-        unfolding isRecord every
+        unfolding isRecord allYes
         by-flag h = rw (eq-eqb _ _ l, from (at numbers 0) w, from (at numbers 1) c, from (at numbers 2) h) (one (at numbers 2) (from (at numbers 2) h))
 
 -- ---- the held values lie behind the first three numbers
@@ -107,7 +107,7 @@ finished (negsuc n) e = absurd (subst T (sym e) tt)
 
 module _ (numbers : List ℤ) where
   pub no-record : (held : List ℤ) → held ≡ zeros 64 → isRecord numbers ≡ false → record { width = 0; count = 0; held = held; finished = false } ≡ unpacked numbers
-  unfolding unpacked opened filled
+  unfolding unpacked opened zeroPadded
   no-record held h e = rw e (ap (λ xs. record { width = 0; count = 0; held = xs; finished = false }) h)
 
   pub some-record : (w c : ℤ) → w ≡ at numbers 0 → c ≡ at numbers 1 → isRecord numbers ≡ true → recordOf (natAbs w) (natAbs c) (drop 3 numbers) (eqb (ofZ w64 (at numbers 2)) 1) ≡ unpacked numbers
@@ -121,7 +121,7 @@ module _ (numbers : List ℤ) where
 
 -- ---- there and back: a record with 64 held values, and numbers that are those of a record
 pub unpacked-packed : (run : Run) → length (run .held) ≡ 64 → unpacked (packed run) ≡ run
-unfolding unpacked packed isRecord every
+unfolding unpacked packed isRecord allYes
 unpacked-packed run l = by (run .finished)
   where
     by : (f : Bool) → unpacked (packed (record { width = run .width; count = run .count; held = run .held; finished = f })) ≡ record { width = run .width; count = run .count; held = run .held; finished = f }

@@ -11,8 +11,8 @@ use Rattle.runs.specs.Forward.{started, taken, ended}
 use Rattle.runs.specs.Back.{takenBack, endedBack}
 use Rattle.c_record.specs.Record.{runLength, packed, unpacked}
 
-abbrev pub Given : Type 0
-Given = (ℕ × ℕ) × List ℤ × List ℤ
+abbrev pub PackedResult : Type 0
+PackedResult = (ℕ × ℕ) × List ℤ × List ℤ
 
 -- a fresh start: question 1, then 2 to the numbers that it is to fill. Where there are 67 of them a refused start fills them too, with the
 -- record of width 0 that `started` gives.
@@ -22,21 +22,21 @@ lappedStart N numbers =
     (cond (eqb (started N .0 .0) 0) (2, 0) (started N .0), numbers)
 
 -- a call that works packs the record that it hands back; a refused one leaves the numbers as they are
-unfoldable pub kept : ℕ → Run → List ℤ → List ℤ
-kept number run numbers = cond (eqb number 0) (packed run) numbers
+unfoldable pub numbersAfter : ℕ → Run → List ℤ → List ℤ
+numbersAfter number run numbers = cond (eqb number 0) (packed run) numbers
 
-unfoldable pub handed : List ℤ → Gate.Given → Given
-handed numbers given = (given .0, kept (given .0 .0) (given .1) numbers, given .2)
+unfoldable pub handedToC : List ℤ → Gate.CallResult → PackedResult
+handedToC numbers given = (given .0, numbersAfter (given .0 .0) (given .1) numbers, given .2)
 
-unfoldable pub lappedTake : List ℤ → List ℤ → List ℤ → Given
-lappedTake numbers block out = handed numbers (taken (unpacked numbers) block out)
+unfoldable pub lappedTake : List ℤ → List ℤ → List ℤ → PackedResult
+lappedTake numbers block out = handedToC numbers (taken (unpacked numbers) block out)
 
-unfoldable pub lappedFinish : List ℤ → List ℤ → Given
-lappedFinish numbers out = handed numbers (ended (unpacked numbers) out)
+unfoldable pub lappedFinish : List ℤ → List ℤ → PackedResult
+lappedFinish numbers out = handedToC numbers (ended (unpacked numbers) out)
 
-unfoldable pub lappedBackTake : List ℤ → List ℤ → List ℤ → Given
-lappedBackTake numbers frame out = handed numbers (takenBack (unpacked numbers) frame out)
+unfoldable pub lappedBackTake : List ℤ → List ℤ → List ℤ → PackedResult
+lappedBackTake numbers frame out = handedToC numbers (takenBack (unpacked numbers) frame out)
 
 -- no output is lent to the finish back
-unfoldable pub lappedBackFinish : List ℤ → Given
-lappedBackFinish numbers = handed numbers (endedBack (unpacked numbers))
+unfoldable pub lappedBackFinish : List ℤ → PackedResult
+lappedBackFinish numbers = handedToC numbers (endedBack (unpacked numbers))

@@ -9,7 +9,7 @@ use lib.Signed.{nonNeg}
 use Rattle.integers.specs.Places.{at}
 use Rattle.runs.specs.declared.record.Run.{Run}
 use Rattle.runs.specs.Record.{opened}
-use Rattle.runs.specs.Gate.{every}
+use Rattle.runs.specs.Gate.{allYes}
 
 -- three numbers and 64 held values
 abbrev pub runLength : ℕ
@@ -22,7 +22,7 @@ packed run = pos (run .width) ∷ pos (run .count) ∷ pos (cond (run .finished)
 -- whether numbers are those of some record: 67 of them, a width and a count from 0 up, and 0 or 1
 unfoldable pub isRecord : List ℤ → Bool
 isRecord numbers =
-    every
+    allYes
     (eqb (length numbers) runLength
     ∷ nonNeg (at numbers 0)
     ∷ nonNeg (at numbers 1)

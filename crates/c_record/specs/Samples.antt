@@ -9,18 +9,18 @@ use lib.ListN.{replicate}
 use Rattle.integers.specs.Floor.{round, floorDiv}
 use Rattle.integers.specs.Places.{tab, sum}
 use Rattle.tables.specs.Widths.{byWidth, halfWidth}
-use Rattle.tables.specs.Angles.{halfTurn, reflected, minus, signed}
+use Rattle.tables.specs.Angles.{halfTurn, reflected, belowZero, signed}
 use Rattle.tables.specs.Numbers.{sines, halfTangents, halfTangents8, secants, secants8, cosineOf, sineOf, halfTangentOf, secantOf}
 use Rattle.steps.specs.Steps.{rootLog, tangent, sine, cosine, oddOf, secant, alternate, tangentAmount, sineAmount, rotatedA, rotatedB, lower, held, topOf, bottomOf, amount1, amount2, amount3, stage1, stage2, stage3, stage4, stage5, stages, frame, unrotatedA, unrotatedB, unfolded, unstage1, unstage2, unstage3, unstage4, unstage5, interleaved, unstages}
 use Rattle.runs.specs.declared.record.Run.{Run}
-use Rattle.runs.specs.Answers.{first, beyond}
-use Rattle.runs.specs.Record.{zeros, recordOf, filled, opened, advanced, closed}
-use Rattle.runs.specs.Gate.{ask, askEach, nothing, inside, every, sound, dead, admitted}
+use Rattle.runs.specs.Answers.{firstWhere, beyond}
+use Rattle.runs.specs.Record.{zeros, recordOf, zeroPadded, opened, advanced, closed}
+use Rattle.runs.specs.Gate.{ask, askEach, nothing, inside, allYes, sound, dead, admitted}
 use Rattle.runs.specs.Forward.{started, frameOn, takenIn, taken, ended}
 use Rattle.runs.specs.Back.{framed, blockOn, firstUpper, firstFrame, laterFrame, unfoldedIn, undoneIn, takenBack, firstHeld, endedBack}
-use Rattle.runs.specs.Cases.{sample, output}
+use Rattle.runs.specs.Cases.{sample, sampleOutput}
 use Rattle.c_record.specs.Record.{packed, isRecord, unpacked}
-use Rattle.c_record.specs.Calls.{Given, kept, handed, lappedStart, lappedTake, lappedFinish, lappedBackTake, lappedBackFinish}
+use Rattle.c_record.specs.Calls.{PackedResult, numbersAfter, handedToC, lappedStart, lappedTake, lappedFinish, lappedBackTake, lappedBackFinish}
 
 -- a table of what is computed and what the paper says: in every row the two are the same
 abbrev Said : {A : Type 0} → List (A × A) → Type 0
@@ -71,7 +71,7 @@ records : Said {A = Bool}
     ∷ (isRecord (pos 8 ∷ pos 0 ∷ less 1 ∷ zeros 64), false)
     ∷ (isRecord damaged, false)
     ∷ [])
-unfolding isRecord every
+unfolding isRecord allYes
 records = refl
 
 -- ---- the record of numbers, and the numbers of a record
@@ -80,7 +80,7 @@ unpacked-given : Said {A = Run}
     ∷ (unpacked forward1, recordOf 8 1 (less 10 ∷ zeros 63) false)
     ∷ (unpacked damaged, recordOf 0 0 (zeros 64) false)
     ∷ [])
-unfolding unpacked isRecord every opened filled
+unfolding unpacked isRecord allYes opened zeroPadded
 unpacked-given = refl
 
 packed-given : packed (recordOf 32 7 (less 10 ∷ zeros 63) true) ∷ packed (recordOf 8 1 (ones 64) false) ∷ [] ≡ numbers 32 7 1 (less 10 ∷ zeros 63) ∷ numbers 8 1 0 (ones 64) ∷ []
@@ -95,23 +95,23 @@ start-given : Said {A = (ℕ × ℕ) × List ℤ}
     ∷ (lappedStart 8 (ones 66), ((2, 0), ones 66))
     ∷ (lappedStart 8 (ones 68), ((2, 0), ones 68))
     ∷ [])
-unfolding lappedStart started packed opened filled halfWidth byWidth
+unfolding lappedStart started packed opened zeroPadded halfWidth byWidth
 start-given = refl
 
 -- ---- the calls: what a refusal leaves, forward 2, 8 and 7, back 2, 11 and 5; one block there and back, and the finishes
-calls-given : Said {A = Given}
-    ((lappedTake damaged sample output, ((2, 0), damaged, output))
-    ∷ (lappedTake fresh marked output, ((8, 2), fresh, output))
-    ∷ (lappedTake fresh sample output, ((0, 0), forward1, one))
+calls-given : Said {A = PackedResult}
+    ((lappedTake damaged sample sampleOutput, ((2, 0), damaged, sampleOutput))
+    ∷ (lappedTake fresh marked sampleOutput, ((8, 2), fresh, sampleOutput))
+    ∷ (lappedTake fresh sample sampleOutput, ((0, 0), forward1, one))
     ∷ (lappedFinish forward1 (ones 7), ((7, 0), forward1, ones 7))
-    ∷ (lappedFinish forward1 output, ((0, 0), numbers 8 1 1 (zeros 64), two))
-    ∷ (lappedBackTake damaged one output, ((2, 0), damaged, output))
-    ∷ (lappedBackTake fresh two output, ((11, 4), fresh, output))
-    ∷ (lappedBackTake fresh one output, ((0, 0), back1, output))
-    ∷ (lappedBackTake back1 two output, ((0, 0), numbers 8 2 0 (zeros 64), sample))
+    ∷ (lappedFinish forward1 sampleOutput, ((0, 0), numbers 8 1 1 (zeros 64), two))
+    ∷ (lappedBackTake damaged one sampleOutput, ((2, 0), damaged, sampleOutput))
+    ∷ (lappedBackTake fresh two sampleOutput, ((11, 4), fresh, sampleOutput))
+    ∷ (lappedBackTake fresh one sampleOutput, ((0, 0), back1, sampleOutput))
+    ∷ (lappedBackTake back1 two sampleOutput, ((0, 0), numbers 8 2 0 (zeros 64), sample))
     ∷ (lappedBackFinish fresh, ((5, 0), fresh, []))
     ∷ (lappedBackFinish back1, ((11, 3), back1, []))
     ∷ (lappedBackFinish (numbers 8 2 0 (zeros 64)), ((0, 0), numbers 8 2 1 (zeros 64), []))
     ∷ [])
-unfolding lappedTake lappedFinish lappedBackTake lappedBackFinish handed kept packed unpacked isRecord byWidth halfWidth halfTurn reflected minus signed sines halfTangents halfTangents8 secants secants8 cosineOf sineOf halfTangentOf secantOf round floorDiv tab sum rootLog tangent sine cosine oddOf secant alternate tangentAmount sineAmount rotatedA rotatedB lower held topOf bottomOf amount1 amount2 amount3 stage1 stage2 stage3 stage4 stage5 stages frame first beyond ask askEach nothing inside every sound admitted filled opened advanced closed frameOn takenIn taken ended dead unrotatedA unrotatedB unfolded unstage1 unstage2 unstage3 unstage4 unstage5 interleaved unstages framed blockOn firstUpper firstFrame laterFrame unfoldedIn undoneIn takenBack firstHeld endedBack
+unfolding lappedTake lappedFinish lappedBackTake lappedBackFinish handedToC numbersAfter packed unpacked isRecord byWidth halfWidth halfTurn reflected belowZero signed sines halfTangents halfTangents8 secants secants8 cosineOf sineOf halfTangentOf secantOf round floorDiv tab sum rootLog tangent sine cosine oddOf secant alternate tangentAmount sineAmount rotatedA rotatedB lower held topOf bottomOf amount1 amount2 amount3 stage1 stage2 stage3 stage4 stage5 stages frame firstWhere beyond ask askEach nothing inside allYes sound admitted zeroPadded opened advanced closed frameOn takenIn taken ended dead unrotatedA unrotatedB unfolded unstage1 unstage2 unstage3 unstage4 unstage5 interleaved unstages framed blockOn firstUpper firstFrame laterFrame unfoldedIn undoneIn takenBack firstHeld endedBack
 calls-given = refl

@@ -1,7 +1,7 @@
 // An answer for C: its number by value, its place in a lent number, and the record in a lent slice.
 ghost use mathlib.Core.Path.{_≡_};
 ghost use Rattle.runs.specs.Answers.{told};
-ghost use Rattle.c_record.specs.Calls.{kept};
+ghost use Rattle.c_record.specs.Calls.{numbersAfter};
 ghost use Rattle.c_record.specs.Ready.{Packable};
 use crate::record;
 use runs::answer::Answer;
@@ -18,7 +18,7 @@ pub fn tell(answer: Answer, place: &mut usize) -> u32
 pub fn hand_back(outcome: Outcome, numbers: &mut [i64], place: &mut usize) -> u32
     requires { ⌜ (told (outcome .answer) .0 ≡ 0 → Packable (outcome .run) (now numbers)) ⌝ }
     ensures { λ r. ⌜ (r, now (place .exit)) ≡ told (outcome .answer) ⌝ }
-    ensures { λ _. ⌜ now (numbers .exit) ≡ kept (told (outcome .answer) .0) (outcome .run) (now (numbers .entry)) ⌝ }
+    ensures { λ _. ⌜ now (numbers .exit) ≡ numbersAfter (told (outcome .answer) .0) (outcome .run) (now (numbers .entry)) ⌝ }
 {
     let answer = outcome.answer;
     if runs::answer::number(answer) == 0 {

@@ -11,7 +11,7 @@ use Rattle.integers.specs.Places.{places, at, Within}
 use Rattle.integers.proofs.Tested.{and-left, and-right}
 use Rattle.integers.proofs.PlaceLaws.{places-ext}
 use Rattle.tables.specs.Widths.{byWidth, halfWidth}
-use Rattle.tables.specs.Angles.{reflected, minus, signed}
+use Rattle.tables.specs.Angles.{reflected, belowZero, signed}
 use Rattle.tables.specs.Numbers.{secants, secants8, secants32, secants128, secantOf, halfTangents, halfTangentOf}
 use Rattle.tables.proofs.Quadrants.{reflected-le, reflected-odd}
 use Rattle.tables.proofs.ByWidth.{at-each, at-other}
@@ -44,6 +44,6 @@ module _ (n x : ℕ) (z : 0 < halfWidth n) (o : x % 2 ≡ 1) where
   pub secant-place : reflected (halfWidth n) x / 2 < length (secants n)
   secant-place = omega (arith, reflected-odd (halfWidth n) x z o, reflected-le (halfWidth n) x z, secants-long n)
 
-  pub secant-odd : signed (minus (halfWidth n) x) (pos (getD (secants n) (reflected (halfWidth n) x / 2) 0)) ≡ secantOf n (pos x)
+  pub secant-odd : signed (belowZero (halfWidth n) x) (pos (getD (secants n) (reflected (halfWidth n) x / 2) 0)) ≡ secantOf n (pos x)
   unfolding secantOf
   secant-odd = rw (reflected-odd (halfWidth n) x z o)

@@ -2,10 +2,10 @@
 ghost use mathlib.Core.Path.{_≡_};
 ghost use Prim.Native.Nat.{_%_, _<_, _≤_, _^_};
 ghost use lib.IntN.{natAbs};
-ghost use Rattle.tables.specs.Angles.{halfTurn, reflected, minus, signed};
+ghost use Rattle.tables.specs.Angles.{halfTurn, reflected, belowZero, signed};
 
 // An angle of the first quadrant, and whether the cosine is below zero.
-pub struct Folded {
+pub struct QuadrantAngle {
     pub angle: u16,
     pub minus: bool,
 }
@@ -33,18 +33,18 @@ fn half_turn(angle: u16, quarter: u16) -> u16
 }
 
 // The angle brought into the first quadrant.
-pub fn first_quadrant(angle: u16, quarter: u16) -> Folded
+pub fn first_quadrant(angle: u16, quarter: u16) -> QuadrantAngle
     requires { ⌜ (0 < quarter) × (quarter ≤ 256) ⌝ }
-    ensures { λ r. ⌜ (r .angle ≡ reflected quarter angle) × (r .minus ≡ minus quarter angle) ⌝ }
+    ensures { λ r. ⌜ (r .angle ≡ reflected quarter angle) × (r .minus ≡ belowZero quarter angle) ⌝ }
 {
     let half = half_turn(angle, quarter);
     if half <= quarter {
-        return Folded {
+        return QuadrantAngle {
             angle: half,
             minus: false,
         };
     }
-    Folded {
+    QuadrantAngle {
         angle: 2 * quarter - half,
         minus: true,
     }

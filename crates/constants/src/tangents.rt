@@ -96,7 +96,7 @@ const HALF_TANGENTS_128: [i64; 64] = [
 ];
 
 // Each number of a table with its sign changed.
-fn minus(table: &[i64], out: &mut [i64])
+fn negate(table: &[i64], out: &mut [i64])
     requires { ⌜ length (now out) ≡ length (now table) ⌝ }
     requires { ⌜ Rattle.integers.specs.Places.Within 268435456 (now table) ⌝ }
     ensures { λ _. ⌜ now (out .exit) ≡ places (length (now (out .entry))) (λ m. negℤ (at (now (table .entry)) m)) ⌝ }
@@ -109,25 +109,25 @@ fn minus(table: &[i64], out: &mut [i64])
 }
 
 // A function writes out the table that it names, so each table has its own.
-fn minus_8(out: &mut [i64])
+fn negate_8(out: &mut [i64])
     requires { ⌜ length (now out) ≡ halfWidth 8 ⌝ }
     ensures { λ _. ⌜ now (out .exit) ≡ places (halfWidth 8) (λ m. negℤ (halfTangentOf 8 m)) ⌝ }
 {
-    minus(&HALF_TANGENTS_8, out);
+    negate(&HALF_TANGENTS_8, out);
 }
 
-fn minus_32(out: &mut [i64])
+fn negate_32(out: &mut [i64])
     requires { ⌜ length (now out) ≡ halfWidth 32 ⌝ }
     ensures { λ _. ⌜ now (out .exit) ≡ places (halfWidth 32) (λ m. negℤ (halfTangentOf 32 m)) ⌝ }
 {
-    minus(&HALF_TANGENTS_32, out);
+    negate(&HALF_TANGENTS_32, out);
 }
 
-fn minus_128(out: &mut [i64])
+fn negate_128(out: &mut [i64])
     requires { ⌜ length (now out) ≡ halfWidth 128 ⌝ }
     ensures { λ _. ⌜ now (out .exit) ≡ places (halfWidth 128) (λ m. negℤ (halfTangentOf 128 m)) ⌝ }
 {
-    minus(&HALF_TANGENTS_128, out);
+    negate(&HALF_TANGENTS_128, out);
 }
 
 // −t(m), as the lifts take it.
@@ -136,9 +136,9 @@ pub fn half_tangents(width: usize, out: &mut [i64])
     ensures { λ _. ⌜ now (out .exit) ≡ places (halfWidth width) (λ m. negℤ (halfTangentOf width m)) ⌝ }
 {
     match width {
-        8 => minus_8(out),
-        32 => minus_32(out),
-        128 => minus_128(out),
+        8 => negate_8(out),
+        32 => negate_32(out),
+        128 => negate_128(out),
         _ => {}
     }
 }

@@ -9,7 +9,7 @@ use lib.IntN.{ℤ}
 use lib.ListN.{length, take, drop, set, drop-of-length-le}
 use lib.Seq.{drop-cons, drop-drop, take-suc-set}
 use Rattle.text_runs.specs.Decimal.{numberIn}
-use Rattle.text_runs.specs.Lines.{comma, fields, upTo, inFront, allNumbers, numbersIn}
+use Rattle.text_runs.specs.Lines.{comma, fields, upTo, numberInFront, allNumbers, numbersIn}
 use Rattle.text_runs.specs.declared.number.Field.the-variants as Field
 use Rattle.text_runs.proofs.FieldLaws.{behind, fields-split}
 
@@ -47,8 +47,8 @@ pub from-start : (line : List ℕ) → numbersIn line ≡ ahead [] (allNumbers (
 unfolding numbersIn fieldsFrom
 from-start line = ahead-none (allNumbers (fields line))
 
-ahead-more : (xs : List ℤ) (x : ℤ) (o : Option (List ℤ)) → ahead xs (inFront (Field.Number x) o) ≡ ahead (xs ++ (x ∷ [])) o
-unfolding ahead inFront
+ahead-more : (xs : List ℤ) (x : ℤ) (o : Option (List ℤ)) → ahead xs (numberInFront (Field.Number x) o) ≡ ahead (xs ++ (x ∷ [])) o
+unfolding ahead numberInFront
 ahead-more xs x (some ys) = ap some (sym (append-assoc xs (x ∷ []) ys))
 ahead-more xs x none = refl
 
@@ -60,7 +60,7 @@ number-long (b ∷ bs) x e = omega arith
 -- n numbers are read, and stand in the list `out`
 module _ (line : List ℕ) (i : ℕ) (out : List ℤ) (n : ℕ) where
   pub read-bad : i ≤ length line → numberIn (upTo comma (drop i line)) ≡ Field.Bad → ahead (take n out) (allNumbers (fieldsFrom i line)) ≡ none
-  unfolding allNumbers inFront ahead
+  unfolding allNumbers numberInFront ahead
   read-bad h b = rw (fields-from i line h) (rw b)
 
   -- one more, y, is stored

@@ -101,7 +101,7 @@ fn next_natural(out: &mut [u8], at: usize, n: u64) -> usize
     natural(out, m, n)
 }
 
-pub fn refused(out: &mut [u8], at: usize, number: usize, line: usize, place: usize) -> usize
+pub fn refusal(out: &mut [u8], at: usize, number: usize, line: usize, place: usize) -> usize
     requires { ⌜ at + 70 ≤ length (now out) ⌝ }
     ensures { λ r. ⌜ Put at (now (out .entry)) (refusal number line place) r (now (out .exit)) × (r ≤ at + 70) ⌝ }
 {

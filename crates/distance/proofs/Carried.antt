@@ -5,11 +5,11 @@ use Prim.Native.Nat.{ℕ, max, _+_, _-_, _*_, _^_}
 use lib.Dec.{leb}
 use lib.IntN.{ℤ, pos, natAbs, _+ℤ_, _*ℤ_}
 use lib.ListN.{take, drop}
-use Rattle.integers.specs.Vectors.{plus, scale, sumAbs}
-use Rattle.integers.specs.Tests.{below}
+use Rattle.integers.specs.Vectors.{plus, scalarMul, sumAbs}
+use Rattle.integers.specs.Tests.{everyBelow}
 use Rattle.tables.specs.Boxes.{Box}
 use Rattle.steps.specs.Places.{tab}
-use Rattle.steps.specs.RowForm.{rev, onto, times, negative, alt, weave, Width}
+use Rattle.steps.specs.RowForm.{rev, onto, times, negatedRow, alt, weave, RowTables}
 use Rattle.distance.specs.Exact.{sineAngle, cosineAngle, denominator, rootM}
 use Rattle.distance.proofs.Transposed.{unit, zeros}
 use Rattle.distance.proofs.Columns.{cols, mulParts, mulSparse}
@@ -23,27 +23,27 @@ pub record Row : Type 0 where
 
 -- ---- before a step that adds to the second list the rounded amounts z / 2^k of the first, where b · z is gs · x
 unfoldable pub downB : ℕ → List ℤ → Row → Row
-downB k gs r = record { a = plus (scale (pos (2 ^ k)) (r .a)) gs; b = scale (pos (2 ^ k)) (r .b); p = 2 ^ k * r .p; e = 2 ^ k * r .e + 2 ^ (k - 1) * sumAbs (r .b) }
+downB k gs r = record { a = plus (scalarMul (pos (2 ^ k)) (r .a)) gs; b = scalarMul (pos (2 ^ k)) (r .b); p = 2 ^ k * r .p; e = 2 ^ k * r .e + 2 ^ (k - 1) * sumAbs (r .b) }
 
 -- the first list by the second
 unfoldable pub downA : ℕ → List ℤ → Row → Row
-downA k gs r = record { a = scale (pos (2 ^ k)) (r .a); b = plus (scale (pos (2 ^ k)) (r .b)) gs; p = 2 ^ k * r .p; e = 2 ^ k * r .e + 2 ^ (k - 1) * sumAbs (r .a) }
+downA k gs r = record { a = scalarMul (pos (2 ^ k)) (r .a); b = plus (scalarMul (pos (2 ^ k)) (r .b)) gs; p = 2 ^ k * r .p; e = 2 ^ k * r .e + 2 ^ (k - 1) * sumAbs (r .a) }
 
 -- ---- before the lifts of the rotation
-unfoldable pub rowB : Width → Row → Row
+unfoldable pub rowB : RowTables → Row → Row
 unfolding downB times
 rowB w r = downB 28 (times (w .tan) (r .b)) r
 
-unfoldable pub rowA : Width → Row → Row
+unfoldable pub rowA : RowTables → Row → Row
 unfolding downA times
 rowA w r = downA 28 (times (w .sin) (r .a)) r
 
-unfoldable pub rowRot : Width → Row → Row
+unfoldable pub rowRot : RowTables → Row → Row
 unfolding rowA rowB
 rowRot w r = rowB w (rowA w (rowB w r))
 
 -- ---- the frame's place k, on the top and the bottom reversed
-unfoldable pub rowAt : Width → ℕ → Row
+unfoldable pub rowAt : RowTables → ℕ → Row
 unfolding unit rev onto
 rowAt w k = let u = unit (w .M + w .M) k in record { a = take (w .M) u; b = rev (drop (w .M) u); p = 1; e = 0 }
 
@@ -52,47 +52,47 @@ unfolding rev onto
 turned r = record { a = r .a; b = rev (r .b); p = r .p; e = r .e }
 
 -- ---- before the stages; ct is the columns of C. Behind stages 4 and 5 the row has one place that is not 0.
-unfoldable pub row3 : Width → Row → Row
+unfoldable pub row3 : RowTables → Row → Row
 unfolding downB mulSparse
 row3 w r = downB (28 + 2 * w .l) (mulSparse (w .M) (r .b) (w .a3)) r
 
 unfoldable pub signed : Row → Row
-unfolding alt negative
-signed r = record { a = negative (alt (r .a)); b = r .b; p = r .p; e = r .e }
+unfolding alt negatedRow
+signed r = record { a = negatedRow (alt (r .a)); b = r .b; p = r .p; e = r .e }
 
-unfoldable pub row2 : Width → List (List ℤ) → Row → Row
+unfoldable pub row2 : RowTables → List (List ℤ) → Row → Row
 unfolding downA signed mulParts
 row2 w ct r = signed (downA (28 + w .l) (mulParts ct (r .a)) r)
 
 unfoldable pub added : Row → Row
 added r = record { a = plus (r .a) (r .b); b = r .b; p = r .p; e = r .e }
 
-unfoldable pub row1 : Width → List (List ℤ) → Row → Row
+unfoldable pub row1 : RowTables → List (List ℤ) → Row → Row
 unfolding downB added alt mulParts
 row1 w ct r = added (downB (27 + w .l) (alt (mulParts ct (r .b))) r)
 
 -- on the even and the odd folded places
-unfoldable pub rowOf : Width → List (List ℤ) → ℕ → Row
+unfoldable pub rowOf : RowTables → List (List ℤ) → ℕ → Row
 unfolding rowAt rowB rowA turned row3 row2 row1
 rowOf w ct k = row1 w ct (row2 w ct (row3 w (turned (rowA w (rowB w (rowAt w k))))))
 
-unfoldable pub columns : Width → List (List ℤ)
+unfoldable pub columns : RowTables → List (List ℤ)
 unfolding cols
 columns w = cols (w .M) (w .cs)
 
 -- ---- before the fold: a row f on the folded places is one on this block's a and one on the b of the block before
-unfoldable pub lowRow : Width → List ℤ → Row
+unfoldable pub lowRow : RowTables → List ℤ → Row
 unfolding rev onto
 lowRow w f = record { a = rev (take (w .M) f); b = zeros (w .M); p = 1; e = 0 }
 
-unfoldable pub highRow : Width → List ℤ → Row
+unfoldable pub highRow : RowTables → List ℤ → Row
 highRow w f = record { a = zeros (w .M); b = drop (w .M) f; p = 1; e = 0 }
 
-unfoldable pub currentRow : Width → List ℤ → Row
+unfoldable pub currentRow : RowTables → List ℤ → Row
 unfolding rowRot lowRow
 currentRow w f = rowRot w (lowRow w f)
 
-unfoldable pub previousRow : Width → List ℤ → Row
+unfoldable pub previousRow : RowTables → List ℤ → Row
 unfolding rowRot highRow
 previousRow w f = rowRot w (highRow w f)
 
@@ -140,7 +140,7 @@ unfoldable pub cosineBoxes : ℕ → (ℕ → Box) → ℕ → List Box
 unfolding tab cosineAngle
 cosineBoxes N box k = tab (λ n. box (cosineAngle N k n)) (2 * N) 0
 
-unfoldable pub passes : ℕ → Width → (ℕ → Box) → List (List ℤ) → List Box → Limits → ℕ → Bool
+unfoldable pub passes : ℕ → RowTables → (ℕ → Box) → List (List ℤ) → List Box → Limits → ℕ → Bool
 unfolding rowOf weave currentRow previousRow nearBy sizedBy cosineBoxes denominator rootM
 passes N w box ct ss lim k =
     let r = rowOf w ct k in
@@ -149,9 +149,9 @@ passes N w box ct ss lim k =
 
 -- ---- n tests from k on, of one f
 unfoldable pub allFrom : (ℕ → Bool) → ℕ → ℕ → Bool
-allFrom f n k = below n (λ i. f (k + i))
+allFrom f n k = everyBelow n (λ i. f (k + i))
 
 -- of n coefficients (the columns and the boxes of the sines made once)
-unfoldable pub tested : ℕ → Width → (ℕ → Box) → Limits → ℕ → ℕ → Bool
+unfoldable pub tested : ℕ → RowTables → (ℕ → Box) → Limits → ℕ → ℕ → Bool
 unfolding passes columns sineBoxes allFrom
 tested N w box lim n k = allFrom (passes N w box (columns w) (sineBoxes N box) lim) n k

@@ -6,7 +6,7 @@ use native.Mathlib.Nat.{le-refl, mul-pos}
 use lib.Pow.{pow-pos}
 use lib.ListN.{length}
 use lib.IntN.{ℤ, pos, natAbs, _+ℤ_, _-ℤ_, _*ℤ_, +ℤ-comm}
-use Rattle.integers.specs.Vectors.{dot, scale, plus}
+use Rattle.integers.specs.Vectors.{dot, scalarMul, plus}
 use Rattle.integers.proofs.Ring.{ring}
 use Rattle.integers.proofs.Order.{near-chain}
 use Rattle.integers.proofs.Lifts.{lift-known}
@@ -38,7 +38,7 @@ pub closeB : (k : ℕ) (gs : List ℤ) (r : Row) (c : ℤ) (x y z : List ℤ) �
     → Close r c x (lift k y z) → Close (downB k gs r) c x y
 unfolding downB
 closeB k gs r c x y z e d l h = record {
-  le = near-chain (r .p) (2 ^ k) c (dot (r .a) x +ℤ dot (r .b) (lift k y z)) (dot (plus (scale (pos (2 ^ k)) (r .a)) gs) x +ℤ dot (scale (pos (2 ^ k)) (r .b)) y)
+  le = near-chain (r .p) (2 ^ k) c (dot (r .a) x +ℤ dot (r .b) (lift k y z)) (dot (plus (scalarMul (pos (2 ^ k)) (r .a)) gs) x +ℤ dot (scalarMul (pos (2 ^ k)) (r .b)) y)
       (h .le) (lift-known k (r .a) (r .b) gs x y z e d l);
 }
 
@@ -49,7 +49,7 @@ closeA k gs r c x y z e d l h = close-exchanged (downB k gs (exchanged r)) c y x
 
 pub fitB : {n : ℕ} (k : ℕ) (gs : List ℤ) (r : Row) → Len n gs → Fit n r → Fit n (downB k gs r)
 unfolding downB
-fitB k gs r l f = record { fa = len-plus (scale (pos (2 ^ k)) (r .a)) gs (len-scale (pos (2 ^ k)) (r .a) (f .fa)) l; fb = len-scale (pos (2 ^ k)) (r .b) (f .fb); pp = mul-pos (pow-pos k) (f .pp) }
+fitB k gs r l f = record { fa = len-plus (scalarMul (pos (2 ^ k)) (r .a)) gs (len-scale (pos (2 ^ k)) (r .a) (f .fa)) l; fb = len-scale (pos (2 ^ k)) (r .b) (f .fb); pp = mul-pos (pow-pos k) (f .pp) }
 
 pub fitA : {n : ℕ} (k : ℕ) (gs : List ℤ) (r : Row) → Len n gs → Fit n r → Fit n (downA k gs r)
 unfolding downA downB

@@ -6,7 +6,7 @@ use native.Mathlib.Omega.{arith}
 use native.Mathlib.Nat.{suc-inj}
 use lib.ListN.{length, replicate, length-replicate}
 use lib.IntN.{ℤ, pos, negsuc, negℤ, subℕ, _+ℤ_, _*ℤ_, +ℤ-idr, +ℤ-assoc, *ℤ-comm}
-use Rattle.integers.specs.Vectors.{dot, scale, plus, mulVec, vecMul, Rows}
+use Rattle.integers.specs.Vectors.{dot, scalarMul, plus, mulVec, vecMul, Rows}
 use Rattle.integers.proofs.Differences.{_⊖_, dif, zs, sub⊖}
 use Rattle.integers.proofs.Ring.{ring}
 use Rattle.integers.proofs.Products.{dot-mulVec, length-vecMul}
@@ -35,7 +35,7 @@ unfolding cols
 len-cols n [] h = length-replicate n []
 len-cols n (r ∷ A) h = len-cons r (cols n A) (h .0 ∙ sym (len-cols n A (h .1))) ∙ h .0
 
-mul-cons : (r : List ℤ) (C : List (List ℤ)) (g : ℤ) (gs : List ℤ) → mulVec (consEach r C) (g ∷ gs) ≡ plus (scale g r) (mulVec C gs)
+mul-cons : (r : List ℤ) (C : List (List ℤ)) (g : ℤ) (gs : List ℤ) → mulVec (consEach r C) (g ∷ gs) ≡ plus (scalarMul g r) (mulVec C gs)
 unfolding consEach
 mul-cons [] C g gs = refl
 mul-cons (x ∷ xs) [] g gs = refl
@@ -50,7 +50,7 @@ unfolding cols
 vecMul-cols n [] [] h = sym (mul-empty n [])
 vecMul-cols n [] (r ∷ A) h = let z : ⊥ = omega arith in absurd z
 vecMul-cols n (g ∷ gs) [] h = let z : ⊥ = omega arith in absurd z
-vecMul-cols n (g ∷ gs) (r ∷ A) h = ap (λ l. plus (scale g r) l) (vecMul-cols n gs A (suc-inj h)) ∙ sym (mul-cons r (cols n A) g gs)
+vecMul-cols n (g ∷ gs) (r ∷ A) h = ap (λ l. plus (scalarMul g r) l) (vecMul-cols n gs A (suc-inj h)) ∙ sym (mul-cons r (cols n A) g gs)
 
 -- transposition of a dense matrix: no product of two matrices is ever made
 pub dot-cols : (n : ℕ) (g : List ℤ) (A : List (List ℤ)) (x : List ℤ) → Rows n A → length g ≡ length A → dot g (mulVec A x) ≡ dot (mulVec (cols n A) g) x
@@ -107,25 +107,25 @@ unfoldable pub mulSparse : ℕ → List ℤ → List (List ℤ) → List ℤ
 mulSparse n [] A = zeros n
 mulSparse n (g ∷ gs) [] = zeros n
 mulSparse n (pos zero ∷ gs) (r ∷ A) = mulSparse n gs A
-mulSparse n (pos (suc m) ∷ gs) (r ∷ A) = plus (scale (pos (suc m)) r) (mulSparse n gs A)
-mulSparse n (negsuc m ∷ gs) (r ∷ A) = plus (scale (negsuc m) r) (mulSparse n gs A)
+mulSparse n (pos (suc m) ∷ gs) (r ∷ A) = plus (scalarMul (pos (suc m)) r) (mulSparse n gs A)
+mulSparse n (negsuc m ∷ gs) (r ∷ A) = plus (scalarMul (negsuc m) r) (mulSparse n gs A)
 
 skipped : (x y : ℤ) → y ≡ pos 0 *ℤ x +ℤ y
 skipped x y = simp ring
 
-plus-none : (r v : List ℤ) → length r ≡ length v → v ≡ plus (scale (pos 0) r) v
+plus-none : (r v : List ℤ) → length r ≡ length v → v ≡ plus (scalarMul (pos 0) r) v
 plus-none [] [] h = refl
 plus-none [] (y ∷ v) h = let z : ⊥ = omega arith in absurd z
 plus-none (x ∷ r) [] h = let z : ⊥ = omega arith in absurd z
-plus-none (x ∷ r) (y ∷ v) h = ap (λ l. y ∷ l) (plus-none r v (suc-inj h)) ∙ ap (λ z. z ∷ plus (scale (pos 0) r) v) (skipped x y)
+plus-none (x ∷ r) (y ∷ v) h = ap (λ l. y ∷ l) (plus-none r v (suc-inj h)) ∙ ap (λ z. z ∷ plus (scalarMul (pos 0) r) v) (skipped x y)
 
 pub mulSparse-is : (n : ℕ) (g : List ℤ) (A : List (List ℤ)) → Rows n A → mulSparse n g A ≡ vecMul n g A
 unfolding mulSparse
 mulSparse-is n [] A h = refl
 mulSparse-is n (g ∷ gs) [] h = refl
 mulSparse-is n (pos zero ∷ gs) (r ∷ A) h = mulSparse-is n gs A (h .1) ∙ plus-none r (vecMul n gs A) (h .0 ∙ sym (length-vecMul n gs A (h .1)))
-mulSparse-is n (pos (suc m) ∷ gs) (r ∷ A) h = ap (λ l. plus (scale (pos (suc m)) r) l) (mulSparse-is n gs A (h .1))
-mulSparse-is n (negsuc m ∷ gs) (r ∷ A) h = ap (λ l. plus (scale (negsuc m) r) l) (mulSparse-is n gs A (h .1))
+mulSparse-is n (pos (suc m) ∷ gs) (r ∷ A) h = ap (λ l. plus (scalarMul (pos (suc m)) r) l) (mulSparse-is n gs A (h .1))
+mulSparse-is n (negsuc m ∷ gs) (r ∷ A) h = ap (λ l. plus (scalarMul (negsuc m) r) l) (mulSparse-is n gs A (h .1))
 
 pub len-sparse : (n : ℕ) (g : List ℤ) (A : List (List ℤ)) → Rows n A → Len n (mulSparse n g A)
 len-sparse n g A h = ap length (mulSparse-is n g A h) ∙ length-vecMul n g A h

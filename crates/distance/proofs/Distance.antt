@@ -16,13 +16,13 @@ use Rattle.tables.proofs.ByWidth.{at-each}
 use Rattle.steps.specs.Places.{at}
 use Rattle.steps.specs.Limits.{readingLimit, rotatedLimit, coefficientLimit}
 use Rattle.steps.specs.Steps.{lower, held, stages, frame}
-use Rattle.steps.specs.RowForm.{weave, widthOf, high, rowFrame}
+use Rattle.steps.specs.RowForm.{weave, rowTablesOf, rowHeld, rowFrame}
 use Rattle.steps.proofs.Rotation.{lower-size, held-size}
 use Rattle.steps.proofs.Lengths.{length-lower, length-held, width-half}
 use Rattle.steps.proofs.RowLengths.{good, M-of}
 use Rattle.steps.proofs.RowForms.{held-rows, stages-rows, frame-rows}
 use Rattle.distance.specs.Exact.{anySine, anyCosine, lesser, greater, total, least, greatest, rootM, denominator}
-use Rattle.distance.specs.Statement.{IsWidth, Block, coefficient, Near, DistanceAt, promised, Promised, shown, Shown, requested, Requested, gain, rounding, SizesAt, Sizes, Folded, FrameSizes}
+use Rattle.distance.specs.Statement.{IsWidth, Block, coefficient, Near, DistanceAt, promised, Promised, shown, Shown, requested, Requested, gain, rounding, SizesAt, Sizes, FoldedInRange, FrameSizes}
 use Rattle.distance.proofs.Carried.{Row, rowOf, columns, currentRow, previousRow, nearBy, sizedBy, sineBoxes, cosineBoxes, passes}
 use Rattle.distance.proofs.Ends.{picks-greater, picks-lesser}
 use Rattle.distance.proofs.Sound.{size-sound, end-sound}
@@ -30,19 +30,19 @@ use Rattle.distance.proofs.Runs.{limits, passesAt, Passes}
 
 -- ---- at one width
 module _ (N : ℕ) (twice : halfWidth N + halfWidth N ≡ N) where
-  twice-rows : widthOf N .M + widthOf N .M ≡ N
+  twice-rows : rowTablesOf N .M + rowTablesOf N .M ≡ N
   twice-rows = ap (λ m. m + m) (M-of N) ∙ twice
 
   module _ (k : ℕ) where
     -- the two parts of the test
     abbrev row : Row
-    row = rowOf (widthOf N) (columns (widthOf N)) k
+    row = rowOf (rowTablesOf N) (columns (rowTablesOf N)) k
 
     abbrev folded : List ℤ
     folded = weave (row .a) (row .b)
 
     abbrev nearTest : Bool
-    nearTest = nearBy (denominator N) (sineBoxes N anyCosine) (cosineBoxes N anyCosine k) (limits N) row (currentRow (widthOf N) folded) (previousRow (widthOf N) folded)
+    nearTest = nearBy (denominator N) (sineBoxes N anyCosine) (cosineBoxes N anyCosine k) (limits N) row (currentRow (rowTablesOf N) folded) (previousRow (rowTablesOf N) folded)
 
     abbrev sizeTest : Bool
     sizeTest = sizedBy (limits N) row folded
@@ -58,10 +58,10 @@ module _ (N : ℕ) (twice : halfWidth N + halfWidth N ≡ N) where
     near-at : T (passesAt N k) → (previous current : List ℤ) → Block N readingLimit previous → Block N readingLimit current → Near (shown N) N previous current k (coefficient N previous current k)
     unfolding least greatest total anySine coefficient limits
     near-at t previous current p c =
-        let w = widthOf N in
+        let w = rowTablesOf N in
         let ends = end-sound w (good N) k previous current (p .long ∙ sym twice-rows) (c .long ∙ sym twice-rows) N twice-rows anyCosine (limits N) (p .within) (c .within) in
         let rows = frame-rows N twice (held N previous) current (length-held N previous) (c .long) ∙ ap (λ h. rowFrame w h current) (held-rows N twice previous (p .long)) in
-        let same : at (rowFrame w (high w previous) current) k ≡ at (frame N (held N previous) current) k = ap (λ f. at f k) (sym rows) in
+        let same : at (rowFrame w (rowHeld w previous) current) k ≡ at (frame N (held N previous) current) k = ap (λ f. at f k) (sym rows) in
         record {
           least-near = rw same at (ends greater picks-greater (near-part t));
           greatest-near = rw same at (ends lesser picks-lesser (near-part t));
@@ -69,7 +69,7 @@ module _ (N : ℕ) (twice : halfWidth N + halfWidth N ≡ N) where
 
     size-at : T (passesAt N k) → (B : ℕ) (f : List ℤ) → length f ≡ N → AllAbs B f → 100 * natAbs (at (stages N f) k) ≤ gain N * B + 100 * rounding N
     unfolding limits
-    size-at t B f l b = rw (stages-rows N twice f l) (size-sound (widthOf N) (good N) k (limits N) (size-part t) B f (l ∙ sym twice-rows) b)
+    size-at t B f l b = rw (stages-rows N twice f l) (size-sound (rowTablesOf N) (good N) k (limits N) (size-part t) B f (l ∙ sym twice-rows) b)
 
   pub distance-at : Passes N 0 N → DistanceAt N readingLimit (shown N)
   distance-at t previous current p c k h = near-at k (t k (omega arith) h) previous current p c
@@ -103,7 +103,7 @@ weaker {N} l n =
 wider : {N R S : ℕ} {x : List ℤ} → R ≤ S → Block N R x → Block N S x
 wider {x} l b = record { long = b .long; within = all-mono x l (b .within) }
 
-pub folded-values : Folded
+pub folded-values : FoldedInRange
 folded-values N i previous current p c = all-append rotatedLimit (lower N current) (held N previous) (lower-size N current (c .within)) (held-size N previous (p .within))
 
 module _ (passes-all : (N : ℕ) → IsWidth N → Passes N 0 N) where

@@ -9,7 +9,7 @@ use Rattle.integers.specs.Vectors.{dot}
 use Rattle.integers.proofs.Ring.{*ℤ-distribl}
 use Rattle.integers.proofs.Order.{near-add}
 use Rattle.integers.proofs.Products.{dot-zeros, dot-append}
-use Rattle.steps.specs.RowForm.{rev, Width, rotA, rotB, low, high}
+use Rattle.steps.specs.RowForm.{rev, RowTables, rotA, rotB, rowLower, rowHeld}
 use Rattle.steps.proofs.Lists.{Len, len-rev, len-take, len-drop}
 use Rattle.steps.proofs.RowLengths.{Good, len-rotA, len-rotB}
 use Rattle.distance.proofs.Transposed.{zeros, dot-rev, dot-halves, dot-joined}
@@ -18,15 +18,15 @@ use Rattle.distance.proofs.Closeness.{Close, Fit, re-read, exact}
 use Rattle.distance.proofs.Rotations.{fit-rot, close-rot}
 
 -- this block's lower places, and what the block before held
-abbrev pub foldedRows : Width → List ℤ → List ℤ → List ℤ
-foldedRows w previous current = low w current ++ high w previous
+abbrev pub foldedRows : RowTables → List ℤ → List ℤ → List ℤ
+foldedRows w previous current = rowLower w current ++ rowHeld w previous
 
 -- two numbers, each near its own
 two-near : (q : ℕ) (x₁ x₂ y₁ y₂ : ℤ) {e₁ e₂ : ℕ} → natAbs (pos q *ℤ x₁ -ℤ y₁) ≤ e₁ → natAbs (pos q *ℤ x₂ -ℤ y₂) ≤ e₂
     → natAbs (pos q *ℤ (x₁ +ℤ x₂) -ℤ (y₂ +ℤ y₁)) ≤ e₁ + e₂
 two-near q x₁ x₂ y₁ y₂ h k = rw (*ℤ-distribl (pos q) x₁ x₂, +ℤ-comm y₂ y₁) (near-add (pos q *ℤ x₁) y₁ (pos q *ℤ x₂) y₂ h k)
 
-module _ (w : Width) (ok : Good w) where
+module _ (w : RowTables) (ok : Good w) where
   pub len-flat : (r : Row) → Fit (w .M) r → length (flat r) ≡ w .M + w .M
   unfolding flat
   len-flat r f = omega (arith, length-append (r .a) (rev (r .b)), len-rev (r .b) (f .fb), f .fa)
@@ -73,12 +73,12 @@ module _ (w : Width) (ok : Good w) where
     abbrev rotatedB : List ℤ
     rotatedB = rotB w front behind
 
-    len-low : Len (w .M) (low w x)
-    unfolding low
+    len-low : Len (w .M) (rowLower w x)
+    unfolding rowLower
     len-low = len-rev rotatedA (len-rotA w ok front behind len-front len-behind)
 
-    len-high : Len (w .M) (high w x)
-    unfolding high
+    len-high : Len (w .M) (rowHeld w x)
+    unfolding rowHeld
     len-high = len-rotB w ok front behind len-front len-behind
 
     -- what is close on the rotated pairs is close on the readings
@@ -92,8 +92,8 @@ module _ (w : Width) (ok : Good w) where
         (close-rot w ok r c front behind f len-front len-behind k .le)
 
     module _ (f : List ℤ) (h : length f ≡ w .M + w .M) where
-      near-current : natAbs (pos (currentRow w f .p) *ℤ dot (take (w .M) f) (low w x) -ℤ dot (flat (currentRow w f)) x) ≤ currentRow w f .e
-      unfolding currentRow lowRow low
+      near-current : natAbs (pos (currentRow w f .p) *ℤ dot (take (w .M) f) (rowLower w x) -ℤ dot (flat (currentRow w f)) x) ≤ currentRow w f .e
+      unfolding currentRow lowRow rowLower
       near-current =
           let g = take (w .M) f in
           before-fold (lowRow w f) (dot g (rev rotatedA)) (fit-low f h)
@@ -103,8 +103,8 @@ module _ (w : Width) (ok : Good w) where
                 ∙ sym (ap (λ z. dot (rev g) rotatedA +ℤ z) (dot-zeros (w .M) rotatedB) ∙ +ℤ-idr (dot (rev g) rotatedA)));
           })
 
-      near-previous : natAbs (pos (previousRow w f .p) *ℤ dot (drop (w .M) f) (high w x) -ℤ dot (flat (previousRow w f)) x) ≤ previousRow w f .e
-      unfolding previousRow highRow high
+      near-previous : natAbs (pos (previousRow w f .p) *ℤ dot (drop (w .M) f) (rowHeld w x) -ℤ dot (flat (previousRow w f)) x) ≤ previousRow w f .e
+      unfolding previousRow highRow rowHeld
       near-previous =
           let g = drop (w .M) f in
           before-fold (highRow w f) (dot g rotatedB) (fit-high f h)
@@ -116,7 +116,7 @@ module _ (w : Width) (ok : Good w) where
   -- ---- both blocks
   module _ (previous current : List ℤ) (lp : length previous ≡ w .M + w .M) (lc : length current ≡ w .M + w .M) where
     pub len-folded : length (foldedRows w previous current) ≡ w .M + w .M
-    len-folded = omega (arith, length-append (low w current) (high w previous), len-low current lc, len-high previous lp)
+    len-folded = omega (arith, length-append (rowLower w current) (rowHeld w previous), len-low current lc, len-high previous lp)
 
     pub near-folded : (f : List ℤ) → length f ≡ w .M + w .M
         → natAbs (pos (currentRow w f .p) *ℤ dot f (foldedRows w previous current)
@@ -124,6 +124,6 @@ module _ (w : Width) (ok : Good w) where
     near-folded f h =
         let v = previousRow w f in
         let c = currentRow w f in
-        rw (dot-halves f (low w current) (high w previous) h (len-low current lc), dot-append (flat v) previous (flat c) current (len-flat v (fit-previous f h) ∙ sym lp))
-        (two-near (c .p) (dot (take (w .M) f) (low w current)) (dot (drop (w .M) f) (high w previous)) (dot (flat c) current) (dot (flat v) previous)
+        rw (dot-halves f (rowLower w current) (rowHeld w previous) h (len-low current lc), dot-append (flat v) previous (flat c) current (len-flat v (fit-previous f h) ∙ sym lp))
+        (two-near (c .p) (dot (take (w .M) f) (rowLower w current)) (dot (drop (w .M) f) (rowHeld w previous)) (dot (flat c) current) (dot (flat v) previous)
         (near-current current lc f h) (rw (← same-scale f h) (near-previous previous lp f h)))

@@ -2,14 +2,14 @@
 use mathlib.Core.Path.{sym, _∙_}
 use mathlib.Core.List.{List}
 use lib.IntN.{ℤ}
-use Rattle.steps.specs.RowForm.{times, Width, tanAmounts, sinAmounts, rotA, rotB}
+use Rattle.steps.specs.RowForm.{times, RowTables, tanAmounts, sinAmounts, rotA, rotB}
 use Rattle.steps.proofs.Lists.{Len, len-times}
 use Rattle.steps.proofs.RowLengths.{Good, liftA, liftB, len-liftB, len-rotA}
 use Rattle.distance.proofs.Transposed.{dot-times}
 use Rattle.distance.proofs.Carried.{Row, rowA, rowB, rowRot}
 use Rattle.distance.proofs.Closeness.{Close, Fit, closeA, closeB, fitA, fitB}
 
-module _ (w : Width) (ok : Good w) where
+module _ (w : RowTables) (ok : Good w) where
   pub fit-rowB : (r : Row) → Fit (w .M) r → Fit (w .M) (rowB w r)
   unfolding rowB
   fit-rowB r f = fitB 28 _ r (len-times (w .tan) (r .b) (ok .tan-len) (f .fb)) f

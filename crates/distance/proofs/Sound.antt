@@ -14,7 +14,7 @@ use Rattle.integers.proofs.PlaceLaws.{sum-ext}
 use Rattle.integers.proofs.Tested.{and-left, and-right}
 use Rattle.tables.specs.Boxes.{Box}
 use Rattle.steps.specs.Places.{at, sum}
-use Rattle.steps.specs.RowForm.{evens, odds, weave, Width, high, rowStages, rowFrame}
+use Rattle.steps.specs.RowForm.{evens, odds, weave, RowTables, rowHeld, rowStages, rowFrame}
 use Rattle.steps.proofs.Lists.{len-weave}
 use Rattle.steps.proofs.RowLengths.{Good}
 use Rattle.distance.specs.Exact.{sineAngle, cosineAngle, denominator, term}
@@ -25,7 +25,7 @@ use Rattle.distance.proofs.StageRows.{fit-row, close-stages}
 use Rattle.distance.proofs.FoldRows.{foldedRows, fit-current, fit-previous, len-flat, len-folded, near-folded}
 use Rattle.distance.proofs.Ends.{Picks, total-near, off-scale}
 
-module _ (w : Width) (ok : Good w) (k : ℕ) where
+module _ (w : RowTables) (ok : Good w) (k : ℕ) where
   -- the row of coefficient k on the folded places
   abbrev row : Row
   row = rowOf w (columns w) k
@@ -66,7 +66,7 @@ module _ (w : Width) (ok : Good w) (k : ℕ) where
     abbrev now : Row
     now = currentRow w onFolded
 
-    near-frame : natAbs (pos (now .p * row .p) *ℤ at (rowFrame w (high w previous) current) k -ℤ dot (flat before ++ flat now) (previous ++ current)) ≤ now .p * row .e + (now .e + before .e)
+    near-frame : natAbs (pos (now .p * row .p) *ℤ at (rowFrame w (rowHeld w previous) current) k -ℤ dot (flat before ++ flat now) (previous ++ current)) ≤ now .p * row .e + (now .e + before .e)
     unfolding rowFrame
     near-frame =
         let F = foldedRows w previous current in
@@ -76,7 +76,7 @@ module _ (w : Width) (ok : Good w) (k : ℕ) where
     module _ (N : ℕ) (twice : w .M + w .M ≡ N) (box : ℕ → Box) (lim : Limits) (bp : AllAbs (lim .reading) previous) (bc : AllAbs (lim .reading) current) where
       -- either end, by the way it is picked
       pub end-sound : (pick : ℤ → ℤ → ℤ) → Picks pick → T (nearBy (denominator N) (sineBoxes N box) (cosineBoxes N box k) lim row now before)
-          → natAbs (pos (denominator N) *ℤ at (rowFrame w (high w previous) current) k
+          → natAbs (pos (denominator N) *ℤ at (rowFrame w (rowHeld w previous) current) k
           -ℤ negℤ (sum (2 * N) (λ n. term pick (at (previous ++ current) n) (box (sineAngle N n + 1536)) (box (cosineAngle N k n))))) ≤ lim .distance * denominator N
       unfolding nearBy sineBoxes cosineBoxes
       end-sound pick picks t =
@@ -92,6 +92,6 @@ module _ (w : Width) (ok : Good w) (k : ℕ) where
           let lx : length xs ≡ 2 * N = omega (arith, length-append previous current) in
           let here = sum-ext (2 * N) (λ n. term pick (at xs n) (s n) (c n)) (λ n. term pick (at xs n) (s (0 + n)) (c (0 + n))) (λ n h. ap (λ m. term pick (at xs n) (s m) (c m)) (sym (zero-add n))) in
           off-scale p q (lim .distance) (now .p * row .e + (now .e + before .e)) (lim .reading * fars (pos q) (pos p) (sineBoxes N box) (cosineBoxes N box k) L)
-          (at (rowFrame w (high w previous) current) k) (dot L xs) (sum (2 * N) (λ n. term pick (at xs n) (s n) (c n))) (mul-pos (fn .pp) (fit-row w ok k .pp)) near-frame
+          (at (rowFrame w (rowHeld w previous) current) k) (dot L xs) (sum (2 * N) (λ n. term pick (at xs n) (s n) (c n))) (mul-pos (fn .pp) (fit-row w ok k .pp)) near-frame
           (rw here (total-near pick picks (pos q) (pos p) (lim .reading) s c (2 * N) 0 L xs lL lx (all-append (lim .reading) previous current bp bc)))
           (leb→le _ _ t)

@@ -9,7 +9,7 @@ use Rattle.integers.specs.Vectors.{dot, plus, mulVec}
 use Rattle.integers.proofs.Ring.{ring}
 use Rattle.integers.proofs.Products.{dot-plus, dot-plus-r}
 use Rattle.steps.specs.Places.{at}
-use Rattle.steps.specs.RowForm.{rev, negative, alt, evens, odds, Width, one, two, three, four, five, rowStages}
+use Rattle.steps.specs.RowForm.{rev, negatedRow, alt, evens, odds, RowTables, rowStage1, rowStage2, rowStage3, rowStage4, rowStage5, rowStages}
 use Rattle.steps.proofs.Lists.{Len, len-lift, len-plus, len-mul, len-rev, len-alt, len-negative, len-evens, len-odds, len-take, len-drop}
 use Rattle.steps.proofs.RowLengths.{Good, liftA, liftB, len-liftA, len-liftB}
 use Rattle.distance.proofs.Transposed.{unit, len-unit, dot-unit, dot-rev, dot-alt, dot-signs, dot-halves}
@@ -18,7 +18,7 @@ use Rattle.distance.proofs.Carried.{Row, downA, downB, rowA, rowB, rowA
 use Rattle.distance.proofs.Closeness.{Close, Fit, closeA, closeB, fitA, fitB, re-read, exact}
 use Rattle.distance.proofs.Rotations.{fit-rowA, fit-rowB, close-liftA, close-liftB}
 
-module _ (w : Width) (ok : Good w) where
+module _ (w : RowTables) (ok : Good w) where
   -- ---- the frame's place k, and stages 4 and 5, which are the lifts of the rotation on (top, reversed bottom)
   closeAt : (k : ℕ) (t b : List ℤ) → Len (w .M) t → Len (w .M) b → Close (rowAt w k) (at (t ++ rev b) k) t b
   unfolding rowAt
@@ -57,8 +57,8 @@ module _ (w : Width) (ok : Good w) where
   unfolding row45
   fit45 k = fit-turned _ (fit-rowA w ok _ (fit-rowB w ok _ (fitAt k)))
 
-  close45 : (k : ℕ) (t b : List ℤ) → Len (w .M) t → Len (w .M) b → Close (row45 k) (at (four w t b ++ five w (four w t b) b) k) t b
-  unfolding row45 four five
+  close45 : (k : ℕ) (t b : List ℤ) → Len (w .M) t → Len (w .M) b → Close (row45 k) (at (rowStage4 w t b ++ rowStage5 w (rowStage4 w t b) b) k) t b
+  unfolding row45 rowStage4 rowStage5
   close45 k t b h l =
       let y = rev b in
       let ly = len-rev b l in
@@ -76,8 +76,8 @@ module _ (w : Width) (ok : Good w) where
   unfolding columns
   len-ct x = len-parts (cols (w .M) (w .cs)) x (len-cols (w .M) (w .cs) (ok .cs-rows))
 
-  close3 : (r : Row) (c : ℤ) (t b : List ℤ) → Fit (w .M) r → Len (w .M) b → Close r c t (three w t b) → Close (row3 w r) c t b
-  unfolding three row3
+  close3 : (r : Row) (c : ℤ) (t b : List ℤ) → Fit (w .M) r → Len (w .M) b → Close r c t (rowStage3 w t b) → Close (row3 w r) c t b
+  unfolding rowStage3 row3
   close3 r c t b f l = closeB (28 + 2 * w .l) (mulSparse (w .M) (r .b) (w .a3)) r c t b (mulVec (w .a3) t) (l ∙ sym (len-mul (w .a3) t (ok .a3-len)))
       (dot-sparse (w .M) (r .b) (w .a3) t (ok .a3-rows)) (f .fa ∙ sym (len-sparse (w .M) (r .b) (w .a3) (ok .a3-rows)))
 
@@ -85,17 +85,17 @@ module _ (w : Width) (ok : Good w) where
   unfolding row3
   fit3 r f = fitB (28 + 2 * w .l) (mulSparse (w .M) (r .b) (w .a3)) r (len-sparse (w .M) (r .b) (w .a3) (ok .a3-rows)) f
 
-  close-signed : (r : Row) (c : ℤ) (t b : List ℤ) → Close r c (negative (alt t)) b → Close (signed r) c t b
+  close-signed : (r : Row) (c : ℤ) (t b : List ℤ) → Close r c (negatedRow (alt t)) b → Close (signed r) c t b
   unfolding signed
   close-signed r c t b k = record {
-    le = re-read c (dot (r .a) (negative (alt t)) +ℤ dot (r .b) b) (dot (negative (alt (r .a))) t +ℤ dot (r .b) b) (r .p) (r .e)
+    le = re-read c (dot (r .a) (negatedRow (alt t)) +ℤ dot (r .b) b) (dot (negatedRow (alt (r .a))) t +ℤ dot (r .b) b) (r .p) (r .e)
         (ap (λ z. z +ℤ dot (r .b) b) (dot-signs (r .a) t)) (k .le);
   }
 
-  close2 : (r : Row) (c : ℤ) (t b : List ℤ) → Fit (w .M) r → Len (w .M) t → Close r c (two w t b) b → Close (row2 w (columns w) r) c t b
-  unfolding two row2 columns
+  close2 : (r : Row) (c : ℤ) (t b : List ℤ) → Fit (w .M) r → Len (w .M) t → Close r c (rowStage2 w t b) b → Close (row2 w (columns w) r) c t b
+  unfolding rowStage2 row2 columns
   close2 r c t b f h k = close-signed (downA (28 + w .l) (mulParts (columns w) (r .a)) r) c t b
-      (closeA (28 + w .l) (mulParts (cols (w .M) (w .cs)) (r .a)) r c (negative (alt t)) b (mulVec (w .cs) b) (len-negative (alt t) (len-alt t h) ∙ sym (len-mul (w .cs) b (ok .cs-len)))
+      (closeA (28 + w .l) (mulParts (cols (w .M) (w .cs)) (r .a)) r c (negatedRow (alt t)) b (mulVec (w .cs) b) (len-negative (alt t) (len-alt t h) ∙ sym (len-mul (w .cs) b (ok .cs-len)))
       (dot-parts (w .M) (r .a) (w .cs) b (ok .cs-rows) (f .fa ∙ sym (ok .cs-len))) (f .fb ∙ sym (len-ct (r .a))) k)
 
   fit2 : (r : Row) → Fit (w .M) r → Fit (w .M) (row2 w (columns w) r)
@@ -115,8 +115,8 @@ module _ (w : Width) (ok : Good w) where
       swapped : (x y z : ℤ) → x +ℤ (y +ℤ z) ≡ (x +ℤ z) +ℤ y
       swapped x y z = simp ring
 
-  close1 : (r : Row) (c : ℤ) (t b : List ℤ) → Fit (w .M) r → Len (w .M) t → Len (w .M) b → Close r c t (one w t b) → Close (row1 w (columns w) r) c t b
-  unfolding one row1 columns
+  close1 : (r : Row) (c : ℤ) (t b : List ℤ) → Fit (w .M) r → Len (w .M) t → Len (w .M) b → Close r c t (rowStage1 w t b) → Close (row1 w (columns w) r) c t b
+  unfolding rowStage1 row1 columns
   close1 r c t b f h l k =
       let gs = alt (mulParts (cols (w .M) (w .cs)) (r .b)) in
       let lg = len-alt (mulParts (cols (w .M) (w .cs)) (r .b)) (len-ct (r .b)) in
@@ -132,16 +132,16 @@ module _ (w : Width) (ok : Good w) where
       let d = downB (27 + w .l) gs r in
       record { fa = len-plus (d .a) (d .b) (g .fa) (g .fb); fb = g .fb; pp = g .pp }
 
-  len-one : (t b : List ℤ) → Len (w .M) t → Len (w .M) b → Len (w .M) (one w t b)
-  unfolding one
+  len-one : (t b : List ℤ) → Len (w .M) t → Len (w .M) b → Len (w .M) (rowStage1 w t b)
+  unfolding rowStage1
   len-one t b h l = len-lift (27 + w .l) (plus b t) (mulVec (w .cs) (alt t)) (len-plus b t l h) (len-mul (w .cs) (alt t) (ok .cs-len))
 
-  len-two : (t b : List ℤ) → Len (w .M) t → Len (w .M) (two w t b)
-  unfolding two
-  len-two t b h = len-lift (28 + w .l) (negative (alt t)) (mulVec (w .cs) b) (len-negative (alt t) (len-alt t h)) (len-mul (w .cs) b (ok .cs-len))
+  len-two : (t b : List ℤ) → Len (w .M) t → Len (w .M) (rowStage2 w t b)
+  unfolding rowStage2
+  len-two t b h = len-lift (28 + w .l) (negatedRow (alt t)) (mulVec (w .cs) b) (len-negative (alt t) (len-alt t h)) (len-mul (w .cs) b (ok .cs-len))
 
-  len-three : (t b : List ℤ) → Len (w .M) b → Len (w .M) (three w t b)
-  unfolding three
+  len-three : (t b : List ℤ) → Len (w .M) b → Len (w .M) (rowStage3 w t b)
+  unfolding rowStage3
   len-three t b l = len-lift (28 + 2 * w .l) b (mulVec (w .a3) t) l (len-mul (w .a3) t (ok .a3-len))
 
   pub fit-row : (k : ℕ) → Fit (w .M) (rowOf w (columns w) k)
@@ -155,13 +155,13 @@ module _ (w : Width) (ok : Good w) where
       let b = odds f in
       let lt = len-evens f h in
       let lb = len-odds f h in
-      let b1 = one w t b in
+      let b1 = rowStage1 w t b in
       let lb1 = len-one t b lt lb in
-      let t1 = two w t b1 in
+      let t1 = rowStage2 w t b1 in
       let lt1 = len-two t b1 lt in
-      let b2 = three w t1 b1 in
+      let b2 = rowStage3 w t1 b1 in
       let lb2 = len-three t1 b1 lb1 in
-      let c = at (four w t1 b2 ++ five w (four w t1 b2) b2) k in
+      let c = at (rowStage4 w t1 b2 ++ rowStage5 w (rowStage4 w t1 b2) b2) k in
       let r3 = row3 w (row45 k) in
       let f3 = fit3 (row45 k) (fit45 k) in
       let k3 = close3 (row45 k) c t1 b1 (fit45 k) lb1 (close45 k t1 b2 lt1 lb2) in

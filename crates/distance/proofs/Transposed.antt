@@ -9,7 +9,7 @@ use lib.IntN.{ℤ, pos, negℤ, _+ℤ_, _*ℤ_, +ℤ-idl, +ℤ-idr}
 use Rattle.integers.specs.Vectors.{dot}
 use Rattle.integers.proofs.Ring.{ring}
 use Rattle.integers.proofs.Products.{dot-zeros, dot-append}
-use Rattle.steps.specs.RowForm.{onto, rev, times, negative, alt, evens, odds, weave}
+use Rattle.steps.specs.RowForm.{onto, rev, times, negatedRow, alt, evens, odds, weave}
 use Rattle.steps.proofs.Lists.{Len, len-rev, len-take, rev-rev}
 
 -- ---- reversed
@@ -47,12 +47,12 @@ dot-times {n = suc n} (g ∷ gs) (d ∷ ds) (x ∷ xs) h l m = ap (λ t. g *ℤ 
 opposite : (g x s : ℤ) → g *ℤ negℤ x +ℤ s ≡ negℤ g *ℤ x +ℤ s
 opposite g x s = simp ring
 
-dot-negative : (g x : List ℤ) → dot g (negative x) ≡ dot (negative g) x
-unfolding negative
+dot-negative : (g x : List ℤ) → dot g (negatedRow x) ≡ dot (negatedRow g) x
+unfolding negatedRow
 dot-negative [] [] = refl
 dot-negative [] (x ∷ xs) = refl
 dot-negative (g ∷ gs) [] = refl
-dot-negative (g ∷ gs) (x ∷ xs) = ap (λ t. g *ℤ negℤ x +ℤ t) (dot-negative gs xs) ∙ opposite g x (dot (negative gs) xs)
+dot-negative (g ∷ gs) (x ∷ xs) = ap (λ t. g *ℤ negℤ x +ℤ t) (dot-negative gs xs) ∙ opposite g x (dot (negatedRow gs) xs)
 
 signs : (a x b y s : ℤ) → a *ℤ x +ℤ (b *ℤ negℤ y +ℤ s) ≡ a *ℤ x +ℤ (negℤ b *ℤ y +ℤ s)
 signs a x b y s = simp ring
@@ -69,15 +69,15 @@ dot-alt (a ∷ []) (x ∷ y ∷ xs) = refl
 dot-alt (a ∷ b ∷ gs) (x ∷ []) = refl
 dot-alt (a ∷ b ∷ gs) (x ∷ y ∷ xs) = ap (λ t. a *ℤ x +ℤ (b *ℤ negℤ y +ℤ t)) (dot-alt gs xs) ∙ signs a x b y (dot (alt gs) xs)
 
-alt-negative : (g : List ℤ) → alt (negative g) ≡ negative (alt g)
-unfolding alt negative
+alt-negative : (g : List ℤ) → alt (negatedRow g) ≡ negatedRow (alt g)
+unfolding alt negatedRow
 alt-negative [] = refl
 alt-negative (a ∷ []) = refl
 alt-negative (a ∷ b ∷ gs) = ap (λ t. negℤ a ∷ negℤ (negℤ b) ∷ t) (alt-negative gs)
 
 -- −d(n) on the list is −d(n) on the row
-pub dot-signs : (g x : List ℤ) → dot g (negative (alt x)) ≡ dot (negative (alt g)) x
-dot-signs g x = dot-negative g (alt x) ∙ dot-alt (negative g) x ∙ ap (λ z. dot z x) (alt-negative g)
+pub dot-signs : (g x : List ℤ) → dot g (negatedRow (alt x)) ≡ dot (negatedRow (alt g)) x
+dot-signs g x = dot-negative g (alt x) ∙ dot-alt (negatedRow g) x ∙ ap (λ z. dot z x) (alt-negative g)
 
 -- ---- even and odd places
 woven : (a b s t : ℤ) → a +ℤ (b +ℤ (s +ℤ t)) ≡ (a +ℤ s) +ℤ (b +ℤ t)

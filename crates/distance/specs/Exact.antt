@@ -5,7 +5,7 @@ use Prim.Native.Nat.{ℕ, _+_, _*_, _/_, _^_}
 use lib.IntN.{ℤ, negℤ, _*ℤ_}
 use lib.Signed.{leZ}
 use Rattle.tables.specs.Widths.{byWidth}
-use Rattle.tables.specs.Angles.{reflected, minus}
+use Rattle.tables.specs.Angles.{reflected, belowZero}
 use Rattle.tables.specs.Boxes.{Box, negated, cosineBox}
 use Rattle.steps.specs.Places.{at, sum}
 
@@ -16,7 +16,7 @@ signedBox true b = negated b
 signedBox false b = b
 
 unfoldable pub anyCosine : ℕ → Box
-anyCosine x = signedBox (minus 512 x) (cosineBox (reflected 512 x))
+anyCosine x = signedBox (belowZero 512 x) (cosineBox (reflected 512 x))
 
 -- a sine is the cosine a right angle before, which is the cosine three quarters of a turn on
 unfoldable pub anySine : ℕ → Box

@@ -1,4 +1,4 @@
--- What is shown of one frame, over the width N as a letter. The crate distance_runs proves it (proofs/Theorems).
+-- What is shown of one frame, over the width N as a letter. The crate distance_theorems proves it (proofs/Theorems).
 use mathlib.Core.Path.{_≡_}
 use mathlib.Core.List.{List, _++_}
 use Prim.Native.Nat.{ℕ, _+_, _*_, _≤_, _<_}
@@ -70,8 +70,8 @@ abbrev pub Sizes : Type 0
 Sizes = (N : ℕ) → IsWidth N → SizesAt N (gain N) (rounding N)
 
 -- readings in range fold to values within 46,342
-abbrev pub Folded : Type 0
-Folded =
+abbrev pub FoldedInRange : Type 0
+FoldedInRange =
     (N : ℕ) → IsWidth N → (previous current : List ℤ) → Block N readingLimit previous → Block N readingLimit current
     → AllAbs rotatedLimit (lower N current ++ held N previous)
 

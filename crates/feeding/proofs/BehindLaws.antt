@@ -10,7 +10,7 @@ use Rattle.text_runs.specs.Lines.{lineFeed}
 use Rattle.text_runs.specs.Line.{lineLimit}
 use Rattle.text_runs.proofs.UpToLaws.{tested}
 use Rattle.feeding.specs.Program.{Program, handed}
-use Rattle.feeding.specs.Feed.{Reader, handedOn, gathered, byteFed, fed, restFed, ended}
+use Rattle.feeding.specs.Feed.{Reader, handedOn, gathered, byteFed, fed, restFed, readerEnded}
 use Rattle.feeding.specs.Own.Behind.{behind, PrintedBehind, EndedBehind}
 
 module _ (P : Program) (before : List ℕ) (r : Reader P) where
@@ -44,7 +44,7 @@ printed-behind P before r [] = refl
 printed-behind P before r (b ∷ bs) = ap (λ (x : Reader P). fed P x bs) (byte-behind P before r b) ∙ printed-behind P before (byteFed P r b) bs
 
 pub ended-behind : EndedBehind
-unfolding ended behind
+unfolding readerEnded behind
 ended-behind P before r =
     ap (λ (x : Reader P). (P .end (x .state) .0, x .printed ++ P .end (x .state) .1)) (rest-behind P before r)
     ∙ ap (λ (t : List ℕ). (P .end (restFed P r .state) .0, t)) (append-assoc before (restFed P r .printed) _)

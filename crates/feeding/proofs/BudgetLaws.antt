@@ -9,9 +9,9 @@ use lib.ListN.{length, length-append}
 use Rattle.text_runs.specs.Line.{lineLimit}
 use Rattle.text_runs.proofs.UpToLaws.{tested}
 use Rattle.feeding.specs.Program.{Program, handed}
-use Rattle.feeding.specs.Feed.{Reader, begun, handedOn, gathered, byteFed, fed}
+use Rattle.feeding.specs.Feed.{Reader, readerBegun, handedOn, gathered, byteFed, fed}
 use Rattle.feeding.specs.Budget.{Bounded, lineBytes, accepts, handedBy, linesHanded}
-use Rattle.feeding.specs.Theorems.{Counted, LinesHandedOn, LinesCounted, OverInTheEnd, OverWithinBudget}
+use Rattle.feeding.specs.Theorems.{BytesCounted, LinesHandedOn, LinesCounted, OverInTheEnd, OverWithinBudget}
 use Rattle.feeding.proofs.FeedLaws.{by-byte, fed-over, Fits, byte-fits, fed-fits}
 
 -- ---- lines handed on
@@ -96,7 +96,7 @@ module _ (P : Program) (B : Bounded P) where
   over-at-none r fits e =
       ⊎-elim (λ o. o) (λ on. absurd (omega (arith, accepts-on r on, B .counts (r .state) (r .had) on))) (tested (P .over (r .state)))
 
-pub counted : Counted
+pub counted : BytesCounted
 unfolding fed
 counted P B r [] fits = omega arith
 counted P B r (b ∷ bs) fits = omega (arith, byte-counted P B r b fits, counted P B (byteFed P r b) bs (byte-fits P r b fits))
@@ -105,5 +105,5 @@ pub over-in-the-end : OverInTheEnd
 over-in-the-end P B r bytes fits h = over-at-none P B (fed P r bytes) (fed-fits P r bytes fits) (omega (arith, counted P B r bytes fits))
 
 pub over-within-budget : OverWithinBudget
-unfolding begun
-over-within-budget P B s bytes h = over-in-the-end P B (begun P s) bytes (omega arith) (omega (arith, accepts-most P B (begun P s)))
+unfolding readerBegun
+over-within-budget P B s bytes h = over-in-the-end P B (readerBegun P s) bytes (omega arith) (omega (arith, accepts-most P B (readerBegun P s)))

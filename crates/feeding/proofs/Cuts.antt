@@ -4,7 +4,7 @@ use mathlib.Core.List.{List, [], _∷_, _++_}
 use Prim.Native.Nat.{ℕ}
 use native.Mathlib.Omega.{arith}
 use Rattle.feeding.specs.Program.{Program}
-use Rattle.feeding.specs.Feed.{Reader, begun, fed, fedPieces, ended}
+use Rattle.feeding.specs.Feed.{Reader, readerBegun, fed, fedPieces, readerEnded}
 use Rattle.feeding.specs.Lines.{printedOf}
 use Rattle.feeding.specs.Theorems.{joined, AnyCut, SameForEveryCut, NothingTakenBack}
 use Rattle.feeding.proofs.FeedLaws.{fed-twice, fed-fits}
@@ -15,22 +15,22 @@ unfolding fedPieces joined fed
 pieces-joined P r [] = refl
 pieces-joined P r (piece ∷ pieces) = pieces-joined P (fed P r piece) pieces ∙ sym (fed-twice P r piece (joined pieces))
 
-pub all-printed : (P : Program) (s : P .State) (input : List ℕ) → ended P (fed P (begun P s) input) .1 ≡ printedOf P s input
-unfolding begun printedOf inFrontAll
-all-printed P s input = fed-as-lines P (begun P s) input (omega arith)
+pub all-printed : (P : Program) (s : P .State) (input : List ℕ) → readerEnded P (fed P (readerBegun P s) input) .1 ≡ printedOf P s input
+unfolding readerBegun printedOf inFrontAll
+all-printed P s input = fed-as-lines P (readerBegun P s) input (omega arith)
 
 pub any-cut : AnyCut
-any-cut P s pieces = ap (λ (x : Reader P). ended P x .1) (pieces-joined P (begun P s) pieces) ∙ all-printed P s (joined pieces)
+any-cut P s pieces = ap (λ (x : Reader P). readerEnded P x .1) (pieces-joined P (readerBegun P s) pieces) ∙ all-printed P s (joined pieces)
 
 pub same-for-every-cut : SameForEveryCut
 same-for-every-cut P s pieces pieces′ e =
-    ap (ended P) (pieces-joined P (begun P s) pieces ∙ ap (fed P (begun P s)) e ∙ sym (pieces-joined P (begun P s) pieces′))
+    ap (readerEnded P) (pieces-joined P (readerBegun P s) pieces ∙ ap (fed P (readerBegun P s)) e ∙ sym (pieces-joined P (readerBegun P s) pieces′))
 
 pub nothing-taken-back : NothingTakenBack
-unfolding begun
+unfolding readerBegun
 nothing-taken-back P s p q = (
   _,
   sym (all-printed P s (p ++ q))
-      ∙ ap (λ (x : Reader P). ended P x .1) (fed-twice P (begun P s) p q)
-      ∙ fed-as-lines P (fed P (begun P s) p) q (fed-fits P (begun P s) p (omega arith)),
+      ∙ ap (λ (x : Reader P). readerEnded P x .1) (fed-twice P (readerBegun P s) p q)
+      ∙ fed-as-lines P (fed P (readerBegun P s) p) q (fed-fits P (readerBegun P s) p (omega arith)),
 )

@@ -12,7 +12,7 @@ use Rattle.text_runs.specs.Lines.{lineFeed}
 use Rattle.text_runs.specs.Line.{lineLimit}
 use Rattle.text_runs.proofs.UpToLaws.{tested}
 use Rattle.feeding.specs.Program.{Program, handed}
-use Rattle.feeding.specs.Feed.{Reader, handedOn, gathered, byteFed, fed, restFed, ended}
+use Rattle.feeding.specs.Feed.{Reader, handedOn, gathered, byteFed, fed, restFed, readerEnded}
 use Rattle.feeding.specs.Budget.{handedBy}
 use Rattle.feeding.specs.Theorems.{FedTwice}
 
@@ -47,8 +47,8 @@ unfolding fed byteFed
 fed-over P r [] o = refl
 fed-over P r (b ∷ bs) o = rw (byteFed, o) (fed-over P r bs o)
 
-pub ended-over : (P : Program) (r : Reader P) → P .over (r .state) ≡ true → ended P r .1 ≡ r .printed ++ P .end (r .state) .1
-unfolding ended restFed
+pub ended-over : (P : Program) (r : Reader P) → P .over (r .state) ≡ true → readerEnded P r .1 ≡ r .printed ++ P .end (r .state) .1
+unfolding readerEnded restFed
 ended-over P r o = rw o
 
 -- ---- the bytes had never leave the room of a line

@@ -10,32 +10,32 @@ use lib.Dec.{leb, eqb·suc-zero}
 use lib.ListN.{length, length-append}
 use Rattle.text_runs.specs.Lines.{lineFeed}
 use Rattle.text_runs.specs.Line.{lineLimit}
-use Rattle.text_runs.specs.Input.{Line, inFront, linesOf}
+use Rattle.text_runs.specs.Input.{Line, byteInFront, linesOf}
 use Rattle.text_runs.proofs.UpToLaws.{tested}
 use Rattle.feeding.specs.Program.{Program, handed}
-use Rattle.feeding.specs.Feed.{Reader, handedOn, gathered, byteFed, fed, restFed, ended}
-use Rattle.feeding.specs.Lines.{taken, printedFrom}
+use Rattle.feeding.specs.Feed.{Reader, handedOn, gathered, byteFed, fed, restFed, readerEnded}
+use Rattle.feeding.specs.Lines.{lineHanded, printedFrom}
 use Rattle.feeding.proofs.FeedLaws.{by-byte, one-more, fed-over, ended-over}
 
 -- ---- lines behind bytes of the first one
 unfoldable pub inFrontAll : List ℕ → List Line → List Line
 inFrontAll [] lines = lines
-inFrontAll (b ∷ had) lines = inFront b (inFrontAll had lines)
+inFrontAll (b ∷ had) lines = byteInFront b (inFrontAll had lines)
 
 pub behind-line : (had : List ℕ) (ends : Bool) (bytes : List ℕ) (lines : List Line) → inFrontAll had ((ends, bytes) ∷ lines) ≡ (ends, had ++ bytes) ∷ lines
-unfolding inFrontAll inFront
+unfolding inFrontAll byteInFront
 behind-line [] ends bytes lines = refl
-behind-line (b ∷ had) ends bytes lines = ap (inFront b) (behind-line had ends bytes lines)
+behind-line (b ∷ had) ends bytes lines = ap (byteInFront b) (behind-line had ends bytes lines)
 
-pub behind-byte : (had : List ℕ) (b : ℕ) (lines : List Line) → inFrontAll had (inFront b lines) ≡ inFrontAll (had ++ b ∷ []) lines
+pub behind-byte : (had : List ℕ) (b : ℕ) (lines : List Line) → inFrontAll had (byteInFront b lines) ≡ inFrontAll (had ++ b ∷ []) lines
 unfolding inFrontAll
 behind-byte [] b lines = refl
-behind-byte (a ∷ had) b lines = ap (inFront a) (behind-byte had b lines)
+behind-byte (a ∷ had) b lines = ap (byteInFront a) (behind-byte had b lines)
 
 pub behind-none : (b : ℕ) (had : List ℕ) → inFrontAll (b ∷ had) [] ≡ (false, b ∷ had) ∷ []
-unfolding inFrontAll inFront
+unfolding inFrontAll byteInFront
 behind-none b [] = refl
-behind-none b (a ∷ had) = ap (inFront b) (behind-none a had)
+behind-none b (a ∷ had) = ap (byteInFront b) (behind-none a had)
 
 never-whole : (ends : Bool) → (ends && false) ≡ false
 never-whole true = refl
@@ -43,8 +43,8 @@ never-whole false = refl
 
 module _ (P : Program) where
   -- ---- one line
-  quiet-line : (s : P .State) (line : Line) → P .over s ≡ true → taken P s line ≡ (s, [])
-  unfolding taken handed
+  quiet-line : (s : P .State) (line : Line) → P .over s ≡ true → lineHanded P s line ≡ (s, [])
+  unfolding lineHanded handed
   quiet-line s line o =
       ⊎-elim
       (λ w. rw w (P .quiet s o .0 (line .1)))
@@ -56,18 +56,18 @@ module _ (P : Program) where
   printed-over s [] o = refl
   printed-over s (line ∷ lines) o = rw (quiet-line s line o) (printed-over s lines o)
 
-  taken-short : (s : P .State) (ends : Bool) (bytes : List ℕ) → length bytes ≤ lineLimit → taken P s (ends, bytes) ≡ handed P s (ends && true) bytes
-  unfolding taken
+  taken-short : (s : P .State) (ends : Bool) (bytes : List ℕ) → length bytes ≤ lineLimit → lineHanded P s (ends, bytes) ≡ handed P s (ends && true) bytes
+  unfolding lineHanded
   taken-short s ends bytes h = ap (λ (short : Bool). handed P s (ends && short) bytes) (le-leb (length bytes) lineLimit h)
 
-  taken-long : (s : P .State) (ends : Bool) (had : List ℕ) (b : ℕ) (bytes : List ℕ) → length had ≡ lineLimit → taken P s (ends, had ++ b ∷ bytes) ≡ P .broken s
-  unfolding taken handed
+  taken-long : (s : P .State) (ends : Bool) (had : List ℕ) (b : ℕ) (bytes : List ℕ) → length had ≡ lineLimit → lineHanded P s (ends, had ++ b ∷ bytes) ≡ P .broken s
+  unfolding lineHanded handed
   taken-long s ends had b bytes h =
       let l : lineLimit < length (had ++ b ∷ bytes) = omega (arith, length-append had (b ∷ bytes)) in
       ap (λ (short : Bool). handed P s (ends && short) (had ++ b ∷ bytes)) (lt-leb (length (had ++ b ∷ bytes)) lineLimit l)
       ∙ ap (λ (whole : Bool). handed P s whole (had ++ b ∷ bytes)) (never-whole ends)
 
-  printed-line : (s : P .State) (line : Line) (lines : List Line) {given : P .State × List ℕ} → taken P s line ≡ given
+  printed-line : (s : P .State) (line : Line) (lines : List Line) {given : P .State × List ℕ} → lineHanded P s line ≡ given
       → printedFrom P s (line ∷ lines) ≡ given .1 ++ printedFrom P (given .0) lines
   unfolding printedFrom
   printed-line s line lines e = rw e
@@ -81,15 +81,15 @@ module _ (P : Program) where
         ∙ ap (λ (t : List ℕ). P .broken s .1 ++ t) (printed-over _ lines (P .stops s))
 
     long-printed : (had : List ℕ) (b : ℕ) (lines : List Line) → length had ≡ lineLimit
-        → printedFrom P s (inFrontAll had (inFront b lines)) ≡ P .broken s .1 ++ P .end (P .broken s .0) .1
-    unfolding inFront
+        → printedFrom P s (inFrontAll had (byteInFront b lines)) ≡ P .broken s .1 ++ P .end (P .broken s .0) .1
+    unfolding byteInFront
     long-printed had b [] h = long-first had b false [] [] h
     long-printed had b (line ∷ lines) h = long-first had b (line .0) (line .1) lines h
 
     -- the end: bytes that no line feed has ended
     rest-printed : P .over s ≡ false → (had out : List ℕ) → length had ≤ lineLimit
-        → ended P (record { state = s; had = had; printed = out }) .1 ≡ out ++ printedFrom P s (inFrontAll had [])
-    unfolding ended restFed handedOn inFrontAll printedFrom handed
+        → readerEnded P (record { state = s; had = had; printed = out }) .1 ≡ out ++ printedFrom P s (inFrontAll had [])
+    unfolding readerEnded restFed handedOn inFrontAll printedFrom handed
     rest-printed on [] out h = rw on
     rest-printed on (b ∷ had) out h =
         rw (on, eqb·suc-zero (length had))
@@ -98,19 +98,19 @@ module _ (P : Program) where
 
   -- ---- byte by byte
   abbrev as-lines : List ℕ → Reader P → Type 0
-  as-lines bs r = ended P (fed P r bs) .1 ≡ r .printed ++ printedFrom P (r .state) (inFrontAll (r .had) (linesOf bs))
+  as-lines bs r = readerEnded P (fed P r bs) .1 ≡ r .printed ++ printedFrom P (r .state) (inFrontAll (r .had) (linesOf bs))
 
   over-as-lines : (r : Reader P) (bs : List ℕ) (lines : List Line) → P .over (r .state) ≡ true
-      → ended P (fed P r bs) .1 ≡ r .printed ++ printedFrom P (r .state) lines
+      → readerEnded P (fed P r bs) .1 ≡ r .printed ++ printedFrom P (r .state) lines
   over-as-lines r bs lines o =
-      ap (λ (x : Reader P). ended P x .1) (fed-over P r bs o)
+      ap (λ (x : Reader P). readerEnded P x .1) (fed-over P r bs o)
       ∙ ended-over P r o
       ∙ ap (λ (t : List ℕ). r .printed ++ t) (sym (printed-over (r .state) lines o))
 
   module _ (r : Reader P) (b : ℕ) (bs : List ℕ) where
     -- after the byte b as it is after r, which b comes in front of
     abbrev Goes : Reader P → Type 0
-    Goes x = ended P (fed P x bs) .1 ≡ r .printed ++ printedFrom P (r .state) (inFrontAll (r .had) (linesOf (b ∷ bs)))
+    Goes x = readerEnded P (fed P x bs) .1 ≡ r .printed ++ printedFrom P (r .state) (inFrontAll (r .had) (linesOf (b ∷ bs)))
 
     module _ (fits : length (r .had) ≤ lineLimit) where
       feed-as-lines : b ≡ lineFeed → as-lines bs (handedOn P true r) → Goes (handedOn P true r)
@@ -134,7 +134,7 @@ module _ (P : Program) where
         unfolding linesOf handedOn handed
         long-as-lines h =
             let full : length (r .had) ≡ lineLimit = omega arith in
-            ap (λ (x : Reader P). ended P x .1) (fed-over P _ bs (P .stops (r .state)))
+            ap (λ (x : Reader P). readerEnded P x .1) (fed-over P _ bs (P .stops (r .state)))
             ∙ ended-over P _ (P .stops (r .state))
             ∙ append-assoc (r .printed) _ _
             ∙ rw (ne-eqb b lineFeed other) (ap (λ (t : List ℕ). r .printed ++ t) (sym (long-printed (r .state) (r .had) b (linesOf bs) full)))

@@ -28,10 +28,10 @@ use Rattle.text_runs.specs.Lines.{same, endLine, numbersIn}
 use Rattle.text_runs.specs.declared.state.Way.{Way}
 use Rattle.text_runs.specs.declared.state.Way.the-variants.{Forward, Back}
 use Rattle.text_runs.specs.declared.state.Phase.{Phase}
-use Rattle.text_runs.specs.declared.state.Phase.the-variants.{Width, Between, Ended, Over}
+use Rattle.text_runs.specs.declared.state.Phase.the-variants.{First, Between, Ended, Over}
 use Rattle.text_runs.specs.declared.state.State.{State}
-use Rattle.text_runs.specs.State.{Given, begun, goesOn, refused, inPhase, withRun}
-use Rattle.text_runs.specs.Way.{takenBy, output}
+use Rattle.text_runs.specs.State.{LineResult, begun, goesOn, refused, inPhase, withRun}
+use Rattle.text_runs.specs.Way.{takenBy, lentOutput}
 use Rattle.text_runs.specs.Line.{lineTaken, formed, notFormed, badForm, widthStarted, widthTaken, rowGiven, rowTaken, betweenTaken, lineLimit}
 use Rattle.feeding.specs.Text.{sessionBegun, sessionAfter, textLine, textProgram}
 use Rattle.feeding.specs.TextTheorems.{leftIn, linesLeft, LinesFall, OverWithin}
@@ -41,41 +41,41 @@ use Rattle.feeding.proofs.BudgetLaws.{over-within-budget}
 none-zero : {n : ℕ} → n ≡ 0 → 0 < n → ⊥
 none-zero e h = omega arith
 
-ask-passed : (number : ℕ) (answer : Bool) (run : Run) (out : List ℤ) (next : Gate.Given) → 0 < number → ask number answer run out next .0 .0 ≡ 0
+ask-passed : (number : ℕ) (answer : Bool) (run : Run) (out : List ℤ) (next : Gate.CallResult) → 0 < number → ask number answer run out next .0 .0 ≡ 0
     → (answer ≡ true) × (ask number answer run out next ≡ next)
 unfolding ask
 ask-passed number true run out next h e = (refl, refl)
 ask-passed number false run out next h e = absurd (none-zero e h)
 
-each-passed : (number : ℕ) (found : Found) (run : Run) (out : List ℤ) (next : Gate.Given) → 0 < number → askEach number found run out next .0 .0 ≡ 0
+each-passed : (number : ℕ) (found : Found) (run : Run) (out : List ℤ) (next : Gate.CallResult) → 0 < number → askEach number found run out next .0 .0 ≡ 0
     → askEach number found run out next ≡ next
 unfolding askEach
 each-passed number (At place) run out next h e = absurd (none-zero e h)
 each-passed number Nothing run out next h e = refl
 
-abbrev Worked : Gate.Given → Type 0
+abbrev Worked : Gate.CallResult → Type 0
 Worked g = g .0 .0 ≡ 0
 
-abbrev OneMore : Run → Gate.Given → Type 0
+abbrev OneMore : Run → Gate.CallResult → Type 0
 OneMore run g = Worked g → g .1 .count ≡ suc (run .count)
 
-ask-more : (number : ℕ) (answer : Bool) (run : Run) (out : List ℤ) (next : Gate.Given) → 0 < number → OneMore run next → OneMore run (ask number answer run out next)
+ask-more : (number : ℕ) (answer : Bool) (run : Run) (out : List ℤ) (next : Gate.CallResult) → 0 < number → OneMore run next → OneMore run (ask number answer run out next)
 unfolding ask
 ask-more number true run out next h k = k
 ask-more number false run out next h k = λ e. absurd (none-zero e h)
 
-each-more : (number : ℕ) (found : Found) (run : Run) (out : List ℤ) (next : Gate.Given) → 0 < number → OneMore run next → OneMore run (askEach number found run out next)
+each-more : (number : ℕ) (found : Found) (run : Run) (out : List ℤ) (next : Gate.CallResult) → 0 < number → OneMore run next → OneMore run (askEach number found run out next)
 unfolding askEach
 each-more number (At place) run out next h k = λ e. absurd (none-zero e h)
 each-more number Nothing run out next h k = k
 
-ask-below : (number : ℕ) (answer : Bool) (run : Run) (out : List ℤ) (next : Gate.Given) → 0 < number → (Worked next → run .count < frameLimit)
+ask-below : (number : ℕ) (answer : Bool) (run : Run) (out : List ℤ) (next : Gate.CallResult) → 0 < number → (Worked next → run .count < frameLimit)
     → Worked (ask number answer run out next) → run .count < frameLimit
 unfolding ask
 ask-below number true run out next h k = k
 ask-below number false run out next h k = λ e. absurd (none-zero e h)
 
-module _ (top : ℕ) (run : Run) (given out : List ℤ) (next : Gate.Given) where
+module _ (top : ℕ) (run : Run) (given out : List ℤ) (next : Gate.CallResult) where
   admitted-more : OneMore run next → OneMore run (admitted top run given out next)
   unfolding admitted
   admitted-more k =
@@ -113,7 +113,7 @@ left s = leftIn (s .phase) (s .run .count)
 
 some-left : (phase : Phase) (count : ℕ) → not (goesOn phase) ≡ false → 0 < leftIn phase count
 unfolding leftIn goesOn
-some-left Width count on = omega arith
+some-left First count on = omega arith
 some-left Between count on = omega arith
 some-left Ended count on = omega arith
 some-left Over count on = absurd (false≢true (sym on))
@@ -127,7 +127,7 @@ unfolding started opened
 started-none N = ⊎-elim (λ e. rw e) (λ e. rw e) (tested (eqb (halfWidth N) 0))
 
 module _ (s : State) where
-  width-falls : s .phase ≡ Width → (field : Field) → left (widthTaken s field .0) < left s
+  width-falls : s .phase ≡ First → (field : Field) → left (widthTaken s field .0) < left s
   unfolding widthTaken widthStarted badForm withRun leftIn
   width-falls e (Field.Number (pos N)) =
       ⊎-elim
@@ -141,10 +141,10 @@ module _ (s : State) where
   unfolding rowTaken rowGiven badForm withRun leftIn
   row-falls e none = refused-falls s (13, 0) (rw e (omega arith))
   row-falls e (some xs) =
-      let g : Gate.Given = takenBy (s .way) (s .run) xs (output (s .run)) in
+      let g : Gate.CallResult = takenBy (s .way) (s .run) xs (lentOutput (s .run)) in
       ⊎-elim
       (λ (t : eqb (g .0 .0) 0 ≡ true). let w : Worked g = eqb-true _ _ t in
-      rw t (rw (e, taken-more (s .run) xs (output (s .run)) (s .way) w) (omega (arith, taken-below (s .run) xs (output (s .run)) (s .way) w))))
+      rw t (rw (e, taken-more (s .run) xs (lentOutput (s .run)) (s .way) w) (omega (arith, taken-below (s .run) xs (lentOutput (s .run)) (s .way) w))))
       (λ t. rw t (refused-falls s (g .0) (rw e (omega arith))))
       (tested (eqb (g .0 .0) 0))
 
@@ -155,7 +155,7 @@ module _ (s : State) where
 
   formed-falls : (phase : Phase) → s .phase ≡ phase → not (goesOn phase) ≡ false → (bytes : List ℕ) → left (formed phase s bytes .0) < left s
   unfolding formed badForm leftIn goesOn
-  formed-falls Width e on bytes = width-falls e (numberIn bytes)
+  formed-falls First e on bytes = width-falls e (numberIn bytes)
   formed-falls Between e on bytes = between-falls e bytes
   formed-falls Ended e on bytes = refused-falls s (13, 0) (rw e (omega arith))
   formed-falls Over e on bytes = absurd (false≢true (sym on))

@@ -12,7 +12,7 @@ use Rattle.runs.specs.Record.{frameLimit}
 use Rattle.text_runs.specs.Decimal.{decimal, printed, bits32, allBits}
 use Rattle.text_runs.specs.Lines.{lineFeed, refusedTag, behindCommas, row, refusal, numbersIn, upTo, same}
 use Rattle.text_runs.specs.declared.state.Phase.{Phase}
-use Rattle.text_runs.specs.declared.state.Phase.the-variants.{Width, Between, Ended, Over}
+use Rattle.text_runs.specs.declared.state.Phase.the-variants.{First, Between, Ended, Over}
 use Rattle.text_runs.specs.State.{goesOn, lineBetween, lineNumber, refused}
 use Rattle.text_runs.specs.Own.Lacks.{lacks}
 use Rattle.text_runs.proofs.UpToLaws.{tested}
@@ -20,7 +20,7 @@ use Rattle.text_runs.proofs.RowLaws.{row-no-feed}
 use Rattle.text_runs.proofs.Inverse.{read-row}
 use Rattle.feeding.specs.declared.session.Ending.{Ending}
 use Rattle.feeding.specs.declared.session.Ending.the-variants.{Refused}
-use Rattle.feeding.specs.Ending.{refusedBy, lastSaid, told, refusalLine}
+use Rattle.feeding.specs.Ending.{refusedBy, lastSaid, endingAfter, endingLine}
 use Rattle.feeding.specs.TextTheorems.{RefusalTold}
 
 up-to-lacks : (b : ℕ) (xs rest : List ℕ) → lacks b xs → upTo b (xs ++ b ∷ rest) ≡ xs
@@ -34,7 +34,7 @@ between-few count = ⊎-elim (λ e. rw e (omega (arith, leb-true count frameLimi
 
 line-few : (phase : Phase) (run : Run) → lineNumber phase run ≤ 65539
 unfolding lineNumber
-line-few Width run = omega arith
+line-few First run = omega arith
 line-few Between run = between-few (run .count)
 line-few Ended run = between-few (run .count)
 line-few Over run = between-few (run .count)
@@ -47,23 +47,23 @@ module _ (number line place : ℕ) where
   unfolding refusal row behindCommas printed
   refusal-row = rw append-nil
 
-  line-again : refusalLine (Refused (pos number) (pos line) (pos place)) ≡ refusal number line place ++ lineFeed ∷ []
-  unfolding refusalLine
+  line-again : endingLine (Refused (pos number) (pos line) (pos place)) ≡ refusal number line place ++ lineFeed ∷ []
+  unfolding endingLine
   line-again = sym (ap (λ (t : List ℕ). t ++ lineFeed ∷ []) refusal-row)
 
   said : allBits three → lastSaid (refusedTag ++ (row three ++ lineFeed ∷ [])) ≡ Refused (pos number) (pos line) (pos place)
   unfolding lastSaid refusedTag same refusedBy
   said bits = ap (λ (bs : List ℕ). refusedBy (numbersIn bs)) (up-to-lacks lineFeed (row three) [] (row-no-feed three)) ∙ ap refusedBy (read-row (pos number) (pos line ∷ pos place ∷ []) bits)
 
-  told-so : (before : Ending) → allBits three → told before Over (refusal number line place ++ lineFeed ∷ []) ≡ Refused (pos number) (pos line) (pos place)
-  unfolding told refusedTag goesOn
+  told-so : (before : Ending) → allBits three → endingAfter before Over (refusal number line place ++ lineFeed ∷ []) ≡ Refused (pos number) (pos line) (pos place)
+  unfolding endingAfter refusedTag goesOn
   told-so before bits =
-      ap (told before Over) (ap (λ (t : List ℕ). t ++ lineFeed ∷ []) refusal-row ∙ append-assoc refusedTag (row three) (lineFeed ∷ [])) ∙ said bits
+      ap (endingAfter before Over) (ap (λ (t : List ℕ). t ++ lineFeed ∷ []) refusal-row ∙ append-assoc refusedTag (row three) (lineFeed ∷ [])) ∙ said bits
 
 pub refusal-told : RefusalTold
 unfolding refused allBits bits32
 refusal-told before s number place n p =
     let line : ℕ = lineNumber (s .phase) (s .run) in
-    let is : told before Over (refusal number line place ++ lineFeed ∷ []) ≡ Refused (pos number) (pos line) (pos place) =
+    let is : endingAfter before Over (refusal number line place ++ lineFeed ∷ []) ≡ Refused (pos number) (pos line) (pos place) =
     told-so number line place before (omega arith, (omega (arith, line-few (s .phase) (s .run)), (omega arith, tt)))
-    in record { ending = is; line = ap refusalLine is ∙ line-again number line place }
+    in record { ending = is; line = ap endingLine is ∙ line-again number line place }

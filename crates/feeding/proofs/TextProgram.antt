@@ -12,15 +12,15 @@ use Rattle.text_runs.proofs.UpToLaws.{tested}
 use Rattle.feeding.specs.Program.{handed}
 use Rattle.feeding.specs.declared.session.Session.{Session}
 use Rattle.feeding.specs.Lines as Lines
-use Rattle.feeding.specs.Lines.{taken}
+use Rattle.feeding.specs.Lines.{lineHanded}
 use Rattle.feeding.specs.Theorems.{joined}
 use Rattle.feeding.specs.Text.{sessionBegun, sessionAfter, textLine, textBroken, textEnd, textProgram}
 use Rattle.feeding.specs.TextTheorems.{EveryCut, LiveRun}
 use Rattle.feeding.proofs.Cuts.{any-cut, nothing-taken-back}
 
 -- one line
-line-same : (s : Session) (line : Line) → taken textProgram s line ≡ sessionAfter (s .ending) (lineTaken (s .state) (line .0) (line .1))
-unfolding taken handed textLine textBroken lineTaken
+line-same : (s : Session) (line : Line) → lineHanded textProgram s line ≡ sessionAfter (s .ending) (lineTaken (s .state) (line .0) (line .1))
+unfolding lineHanded handed textLine textBroken lineTaken
 line-same s line = ⊎-elim (λ w. rw w) (λ w. rw w) (tested (line .0 && leb (length (line .1)) lineLimit))
 
 lines-same : (s : Session) (lines : List Line) → Lines.printedFrom textProgram s lines ≡ printedFrom (s .state) lines

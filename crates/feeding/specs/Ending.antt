@@ -22,12 +22,12 @@ unfoldable pub lastSaid : List ℕ → Ending
 lastSaid bytes = cond (same (take 8 bytes) refusedTag) (refusedBy (numbersIn (upTo lineFeed (drop 8 bytes)))) Whole
 
 -- the ending after a line that was printed, and what comes next: as before, unless it is the last one
-unfoldable pub told : Ending → Phase → List ℕ → Ending
-told before phase [] = before
-told before phase (b ∷ bs) = cond (goesOn phase) before (lastSaid (b ∷ bs))
+unfoldable pub endingAfter : Ending → Phase → List ℕ → Ending
+endingAfter before phase [] = before
+endingAfter before phase (b ∷ bs) = cond (goesOn phase) before (lastSaid (b ∷ bs))
 
 -- the line of a refusal
-unfoldable pub refusalLine : Ending → List ℕ
-refusalLine Open = []
-refusalLine Whole = []
-refusalLine (Refused number line place) = refusedTag ++ row (number ∷ line ∷ place ∷ []) ++ lineFeed ∷ []
+unfoldable pub endingLine : Ending → List ℕ
+endingLine Open = []
+endingLine Whole = []
+endingLine (Refused number line place) = refusedTag ++ row (number ∷ line ∷ place ∷ []) ++ lineFeed ∷ []

@@ -14,8 +14,8 @@ pub record Reader (P : Program) : Type 0 where
   pub had : List ℕ
   pub printed : List ℕ
 
-unfoldable pub begun : (P : Program) → P .State → Reader P
-begun P s = record { state = s; had = []; printed = [] }
+unfoldable pub readerBegun : (P : Program) → P .State → Reader P
+readerBegun P s = record { state = s; had = []; printed = [] }
 
 -- the bytes had are handed on as a line, whole or broken
 unfoldable pub handedOn : (P : Program) → Bool → Reader P → Reader P
@@ -49,5 +49,5 @@ unfoldable pub restFed : (P : Program) → Reader P → Reader P
 restFed P r = cond (P .over (r .state)) r (cond (eqb (length (r .had)) 0) r (handedOn P false r))
 
 -- and then the end is told: the state afterwards, and all that is printed
-unfoldable pub ended : (P : Program) → Reader P → P .State × List ℕ
-ended P r = (P .end (restFed P r .state) .0, restFed P r .printed ++ P .end (restFed P r .state) .1)
+unfoldable pub readerEnded : (P : Program) → Reader P → P .State × List ℕ
+readerEnded P r = (P .end (restFed P r .state) .0, restFed P r .printed ++ P .end (restFed P r .state) .1)

@@ -7,7 +7,7 @@ use lib.IntN.{pos}
 use lib.ListN.{replicate}
 use Rattle.text_runs.specs.Bytes.{bytes}
 use Rattle.text_runs.specs.Decimal.{isDigit, allDigits, valueOf, valued, leads, sized, negative, positive, numberIn}
-use Rattle.text_runs.specs.Lines.{lineFeed, refusedTag, longer, fields, inFront, allNumbers, numbersIn, upTo, same}
+use Rattle.text_runs.specs.Lines.{lineFeed, refusedTag, longer, fields, numberInFront, allNumbers, numbersIn, upTo, same}
 use Rattle.text_runs.specs.Input as Input
 use Rattle.text_runs.specs.Input.{linesOf}
 use Rattle.text_runs.specs.declared.state.Phase.the-variants.{Between, Over}
@@ -15,10 +15,10 @@ use Rattle.text_runs.specs.State.{goesOn}
 use Rattle.feeding.specs.declared.session.Ending.{Ending}
 use Rattle.feeding.specs.declared.session.Ending.the-variants.{Open, Whole, Refused}
 use Rattle.feeding.specs.Program.{Program, handed}
-use Rattle.feeding.specs.Feed.{begun, handedOn, gathered, byteFed, fed, fedPieces, restFed, ended}
-use Rattle.feeding.specs.Lines.{taken, printedFrom, printedOf}
+use Rattle.feeding.specs.Feed.{readerBegun, handedOn, gathered, byteFed, fed, fedPieces, restFed, readerEnded}
+use Rattle.feeding.specs.Lines.{lineHanded, printedFrom, printedOf}
 use Rattle.feeding.specs.Budget.{handedBy, linesHanded}
-use Rattle.feeding.specs.Ending.{refusedBy, lastSaid, told}
+use Rattle.feeding.specs.Ending.{refusedBy, lastSaid, endingAfter}
 
 abbrev Said : {A : Type 0} → List (A × A) → Type 0
 Said rows = map (λ row. row .0) rows ≡ map (λ row. row .1) rows
@@ -43,27 +43,27 @@ echo = record { State = Bool; line = again; broken = marked; end = λ over. (ove
 
 -- an input in three pieces, and whole; a last line with no line feed; a line of 2,048 bytes, and one of 2,049
 cut-and-whole : Said
-    ((ended echo (fedPieces echo (begun echo false) (bytes "ab" ∷ bytes "c\nd" ∷ bytes "e\n" ∷ [])) .1, bytes "abc\nde\n.")
+    ((readerEnded echo (fedPieces echo (readerBegun echo false) (bytes "ab" ∷ bytes "c\nd" ∷ bytes "e\n" ∷ [])) .1, bytes "abc\nde\n.")
     ∷ (printedOf echo false (bytes "abc\nde\n"), bytes "abc\nde\n.")
-    ∷ (ended echo (fed echo (begun echo false) (bytes "a\n\nb")) .1, bytes "a\n\n!.")
+    ∷ (readerEnded echo (fed echo (readerBegun echo false) (bytes "a\n\nb")) .1, bytes "a\n\n!.")
     ∷ (printedOf echo false (bytes "a\n\nb"), bytes "a\n\n!.")
-    ∷ (ended echo (fed echo (begun echo false) (replicate 2048 97 ++ bytes "\nb\n")) .1, replicate 2048 97 ++ bytes "\nb\n.")
-    ∷ (ended echo (fed echo (begun echo false) (replicate 2049 97 ++ bytes "\nb\n")) .1, bytes "!.")
+    ∷ (readerEnded echo (fed echo (readerBegun echo false) (replicate 2048 97 ++ bytes "\nb\n")) .1, replicate 2048 97 ++ bytes "\nb\n.")
+    ∷ (readerEnded echo (fed echo (readerBegun echo false) (replicate 2049 97 ++ bytes "\nb\n")) .1, bytes "!.")
     ∷ (printedOf echo false (replicate 2049 97 ++ bytes "\nb\n"), bytes "!.")
     ∷ [])
-unfolding bytes handed begun handedOn gathered byteFed fed fedPieces restFed ended taken printedFrom printedOf linesOf Input.inFront
+unfolding bytes handed readerBegun handedOn gathered byteFed fed fedPieces restFed readerEnded lineHanded printedFrom printedOf linesOf Input.byteInFront
 cut-and-whole = refl
 
-lines-handed : linesHanded echo (begun echo false) (bytes "a\n\nb") ∷ linesHanded echo (begun echo true) (bytes "a\n\nb") ∷ [] ≡ 2 ∷ 0 ∷ []
-unfolding bytes handed begun handedOn gathered byteFed handedBy linesHanded
+lines-handed : linesHanded echo (readerBegun echo false) (bytes "a\n\nb") ∷ linesHanded echo (readerBegun echo true) (bytes "a\n\nb") ∷ [] ≡ 2 ∷ 0 ∷ []
+unfolding bytes handed readerBegun handedOn gathered byteFed handedBy linesHanded
 lines-handed = refl
 
 -- what a last line says
 endings : Said
-    ((told Open Over (bytes "refused,6,2,0\n"), Refused (pos 6) (pos 2) (pos 0))
-    ∷ (told Open Over (bytes "1,2\nend,2\n"), Whole)
-    ∷ (told Open Between (bytes "1,2\n"), Open)
-    ∷ (told (Refused (pos 6) (pos 2) (pos 0)) Over (bytes ""), Refused (pos 6) (pos 2) (pos 0))
+    ((endingAfter Open Over (bytes "refused,6,2,0\n"), Refused (pos 6) (pos 2) (pos 0))
+    ∷ (endingAfter Open Over (bytes "1,2\nend,2\n"), Whole)
+    ∷ (endingAfter Open Between (bytes "1,2\n"), Open)
+    ∷ (endingAfter (Refused (pos 6) (pos 2) (pos 0)) Over (bytes ""), Refused (pos 6) (pos 2) (pos 0))
     ∷ [])
-unfolding bytes told goesOn lastSaid refusedTag same upTo refusedBy isDigit allDigits valueOf valued leads sized negative positive numberIn longer fields inFront allNumbers numbersIn
+unfolding bytes endingAfter goesOn lastSaid refusedTag same upTo refusedBy isDigit allDigits valueOf valued leads sized negative positive numberIn longer fields numberInFront allNumbers numbersIn
 endings = refl

@@ -11,7 +11,7 @@ ghost use Rattle.steps.specs.Limits.{foldedLimit};
 ghost use Rattle.steps.specs.Steps;
 ghost use Rattle.steps.specs.Steps.{lower, topOf, bottomOf, rotatedA, rotatedB};
 ghost use Rattle.slices.specs.Own.Moves.{moved};
-ghost use Rattle.width_tables.specs.Own.Parts.{Tangents, Sines, Halves};
+ghost use Rattle.width_tables.specs.Own.Parts.{Tangents, Sines, TwoHalves};
 use slices::vectors;
 
 struct Pair {
@@ -84,7 +84,7 @@ pub fn fold(
     requires { ⌜ Tangents width (now tangents) ⌝ }
     requires { ⌜ Sines width (now sines) ⌝ }
     requires { ⌜ (length (now block) ≡ width) × (length (now held) ≡ halfWidth width) ⌝ }
-    requires { ⌜ Halves width (now top) (now bottom) ⌝ }
+    requires { ⌜ TwoHalves width (now top) (now bottom) ⌝ }
     requires { ⌜ Within foldedLimit (now block) ⌝ }
     ensures { λ _. ⌜ now (held .exit) ≡ Rattle.steps.specs.Steps.held width (now (block .entry)) ⌝ }
     ensures { λ _. ⌜ (now (top .exit) ≡ topOf width (lower width (now (block .entry)) ++ now (held .entry))) × (now (bottom .exit) ≡ bottomOf width (lower width (now (block .entry)) ++ now (held .entry))) ⌝ }
@@ -114,7 +114,7 @@ pub fn unfold(
     requires { ⌜ 0 < halfWidth width ⌝ }
     requires { ⌜ Tangents width (now tangents) ⌝ }
     requires { ⌜ Sines width (now sines) ⌝ }
-    requires { ⌜ Halves width (now lower) (now held) ⌝ }
+    requires { ⌜ TwoHalves width (now lower) (now held) ⌝ }
     requires { ⌜ length (now block) ≡ width ⌝ }
     requires { ⌜ Within foldedLimit (now lower) ⌝ }
     requires { ⌜ Within foldedLimit (now held) ⌝ }

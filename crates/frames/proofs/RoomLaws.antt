@@ -11,7 +11,7 @@ use Rattle.tables.proofs.ByWidth.{at-each, half-width-le}
 use Rattle.tables.proofs.Reading.{half-is}
 use Rattle.steps.proofs.Lengths.{width-half}
 use Rattle.width_tables.specs.Filled.{leavesLong, tablesLong, listRoom, productRoom, Filled}
-use Rattle.width_tables.specs.Own.Parts.{Tangents, Sines, Halves}
+use Rattle.width_tables.specs.Own.Parts.{Tangents, Sines, TwoHalves}
 use Rattle.slices.proofs.Parts.{part-long, front, front-long, front-le}
 
 module _ (N : ℕ) (wide : 0 < halfWidth N) (t : List ℤ) (filled : Filled N t) where
@@ -80,5 +80,5 @@ module _ {N : ℕ} (long : ℕ) (is : long ≡ tablesLong N) (t rest : List ℤ)
   filled-lent = subst (Filled N) (sym (front long t rest front-is)) filled
 
 -- the halves of a frame in room of their own
-pub halves-lent : (N : ℕ) → 0 < halfWidth N → (xs ys : List ℤ) → N / 2 ≤ length xs → N / 2 ≤ length ys → Halves N (take (N / 2) xs) (take (N / 2) ys)
+pub halves-lent : (N : ℕ) → 0 < halfWidth N → (xs ys : List ℤ) → N / 2 ≤ length xs → N / 2 ≤ length ys → TwoHalves N (take (N / 2) xs) (take (N / 2) ys)
 halves-lent N wide xs ys h k = record { top-long = sym (part-long (N / 2) xs h) ∙ half-is N wide; bottom-long = sym (part-long (N / 2) ys k) ∙ half-is N wide }

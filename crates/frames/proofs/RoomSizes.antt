@@ -9,7 +9,7 @@ use Rattle.tables.specs.Widths.{halfWidth}
 use Rattle.tables.proofs.ByWidth.{half-width-le}
 use Rattle.tables.proofs.Reading.{half-is}
 use Rattle.width_tables.specs.Filled.{tablesLong, listRoom, productRoom}
-use Rattle.width_tables.specs.Own.Parts.{Halves, Room}
+use Rattle.width_tables.specs.Own.Parts.{TwoHalves, Room}
 use Rattle.slices.proofs.Parts.{part-long}
 use Rattle.frames.proofs.RoomLaws.{half-small, tables-small, tables-le, lists-small, lists-le, product-small, product-le, halves-lent}
 
@@ -49,7 +49,7 @@ module _ {N tables half list : ℕ} (r : Wide N tables half list) {top bottom y 
   pub bottom-le : N / 2 ≤ length bottom
   bottom-le = omega (arith, half-is N (r .wide), r .for-half, l .bottom-long)
 
-  pub lent-halves : Halves N (take (N / 2) top) (take (N / 2) bottom)
+  pub lent-halves : TwoHalves N (take (N / 2) top) (take (N / 2) bottom)
   lent-halves = halves-lent N (r .wide) top bottom top-le bottom-le
 
   pub lent-room : Room N y z

@@ -10,7 +10,7 @@ use lib.ListN.{length, take, drop}
 use Rattle.tables.specs.Widths.{halfWidth}
 use Rattle.steps.specs.Limits.{foldedLimit, coefficientLimit}
 use Rattle.steps.specs.Steps.{unstages, unfolded}
-use Rattle.runs.specs.Answers.{told, first, firstBeyond}
+use Rattle.runs.specs.Answers.{told, firstWhere, firstBeyond}
 use Rattle.runs.specs.declared.answer.Answer.the-variants.{Done, Range, Folded, Halves, Unfolded}
 use Rattle.runs.specs.declared.answer.Found.{Found}
 use Rattle.runs.specs.declared.answer.Found.the-variants.{At, Nothing}
@@ -26,12 +26,12 @@ from : ℕ → Found → Found
 from m (At place) = At (m + place)
 from m Nothing = Nothing
 
-first-from : (test : ℤ → Bool) (xs : List ℤ) (m k : ℕ) → first test xs (m + k) ≡ from m (first test xs k)
-unfolding first from
+first-from : (test : ℤ → Bool) (xs : List ℤ) (m k : ℕ) → firstWhere test xs (m + k) ≡ from m (firstWhere test xs k)
+unfolding firstWhere from
 first-from test [] m k = refl
 first-from test (x ∷ xs) m k = by (test x) (first-from test xs m (suc k))
   where
-    by : (b : Bool) → first test xs (m + suc k) ≡ from m (first test xs (suc k)) → cond b (At (m + k)) (first test xs (suc (m + k))) ≡ from m (cond b (At k) (first test xs (suc k)))
+    by : (b : Bool) → firstWhere test xs (m + suc k) ≡ from m (firstWhere test xs (suc k)) → cond b (At (m + k)) (firstWhere test xs (suc (m + k))) ≡ from m (cond b (At k) (firstWhere test xs (suc k)))
     by true h = refl
     by false h = rw (← add-suc m k) h
 
@@ -45,7 +45,7 @@ module _ (N count : ℕ) (low folded out : List ℤ) where
 
   upper-at : (f : Found) → firstBeyond (pos 0) upper 0 ≡ f → firstUpper run folded ≡ from (halfWidth N) f
   unfolding firstUpper opened
-  upper-at f e = ap (first _ upper) (sym (add-zero (halfWidth N))) ∙ first-from _ upper (halfWidth N) 0 ∙ ap (from (halfWidth N)) e
+  upper-at f e = ap (firstWhere _ upper) (sym (add-zero (halfWidth N))) ∙ first-from _ upper (halfWidth N) 0 ∙ ap (from (halfWidth N)) e
 
   framed-is : (kept : List ℤ) → kept ≡ take (halfWidth N) folded → opened N (suc count) kept ≡ framed run folded
   unfolding framed opened

@@ -9,7 +9,7 @@ ghost use Rattle.tables.specs.Widths.{halfWidth};
 ghost use Rattle.width_tables.specs.Filled.{Filled};
 ghost use Rattle.steps.specs.Limits.{coefficientLimit};
 ghost use Rattle.steps.specs.Steps.{unstages};
-ghost use Rattle.width_tables.specs.Own.Parts.{Halves, Room};
+ghost use Rattle.width_tables.specs.Own.Parts.{TwoHalves, Room};
 ghost use Rattle.runs.specs.Answers.{firstBeyond};
 use gate::limits;
 use gate::questions;
@@ -36,7 +36,7 @@ pub fn unstages(
 )
     requires { ⌜ 0 < halfWidth width ⌝ }
     requires { ⌜ Filled width (now t) ⌝ }
-    requires { ⌜ Halves width (now top) (now bottom) ⌝ }
+    requires { ⌜ TwoHalves width (now top) (now bottom) ⌝ }
     requires { ⌜ Room width (now y) (now z) ⌝ }
     requires { ⌜ (length (now given) ≡ width) × (length (now out) ≡ width) ⌝ }
     requires { ⌜ Within coefficientLimit (now given) ⌝ }

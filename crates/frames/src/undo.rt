@@ -7,7 +7,7 @@ ghost use Rattle.tables.specs.Widths.{halfWidth};
 ghost use Rattle.steps.specs.Limits.{foldedLimit};
 ghost use Rattle.steps.specs.Steps;
 ghost use Rattle.width_tables.specs.Filled.{Filled};
-ghost use Rattle.width_tables.specs.Own.Parts.{Halves, Room};
+ghost use Rattle.width_tables.specs.Own.Parts.{TwoHalves, Room};
 ghost use Rattle.runs.specs.Answers.{told};
 ghost use Rattle.runs.specs.Record.{nextCount, opened};
 ghost use Rattle.runs.specs.Back.{unfoldedIn, undoneIn};
@@ -52,7 +52,7 @@ fn write(folded: &[i64], wide: &[i64], held: &mut [i64], block: &mut [i32])
 }
 
 // The first frame: question 11. A later one: its block, and question 12. Then the lower half is held.
-fn unfolded(
+fn unfolded_in(
     width: usize,
     count: usize,
     t: &[i64],
@@ -104,7 +104,7 @@ pub fn undo(
     requires { ⌜ 0 < halfWidth width ⌝ }
     requires { ⌜ Filled width (now t) ⌝ }
     requires { ⌜ (length (now frame) ≡ width) × (length (now held) ≡ halfWidth width) × (length (now folded) ≡ width) × (length (now wide) ≡ width) × (length (now block) ≡ width) ⌝ }
-    requires { ⌜ Halves width (now top) (now bottom) ⌝ }
+    requires { ⌜ TwoHalves width (now top) (now bottom) ⌝ }
     requires { ⌜ Room width (now y) (now z) ⌝ }
     requires { ⌜ Within foldedLimit (now held) ⌝ }
     ensures { λ r. ⌜ (told r, opened width (nextCount (told r .0) count) (now (held .exit)), now (block .exit)) ≡ undoneIn (opened width count (now (held .entry))) (now (frame .entry)) (now (block .entry)) ⌝ }
@@ -118,7 +118,7 @@ pub fn undo(
     if let Found::At(place) = value {
         return Answer::Folded(place);
     }
-    unfolded(width, count, t, folded, held, wide, block)
+    unfolded_in(width, count, t, folded, held, wide, block)
 }
 
 // The same of a frame behind others of which it is known that no question refuses it: nothing is asked.
@@ -138,7 +138,7 @@ pub fn give_back(
     requires { ⌜ 0 < halfWidth width ⌝ }
     requires { ⌜ Filled width (now t) ⌝ }
     requires { ⌜ (length (now frame) ≡ width) × (length (now held) ≡ halfWidth width) × (length (now folded) ≡ width) × (length (now wide) ≡ width) × (length (now block) ≡ width) ⌝ }
-    requires { ⌜ Halves width (now top) (now bottom) ⌝ }
+    requires { ⌜ TwoHalves width (now top) (now bottom) ⌝ }
     requires { ⌜ Room width (now y) (now z) ⌝ }
     requires { ⌜ Within foldedLimit (now held) ⌝ }
     requires { ⌜ Unrefused width (now held) (now frame) ⌝ }

@@ -13,11 +13,11 @@ use Rattle.runs.specs.Answers.{told}
 use Rattle.runs.specs.declared.answer.Answer.{Answer}
 use Rattle.runs.specs.declared.record.Run.{Run}
 use Rattle.runs.specs.Record.{zeros, recordOf, nextCount}
-use Rattle.runs.specs.Gate.{Given, ask, sound, admitted}
+use Rattle.runs.specs.Gate.{CallResult, ask, sound, admitted}
 use Rattle.runs.proofs.Refusals.{count-kept}
 use Rattle.gate.specs.Own.Asked.{answered, StillOpen, Admitted, wholeParts, inParts}
 
-module _ (answer : Answer) (run : Run) (out : List ℤ) (next : Given) where
+module _ (answer : Answer) (run : Run) (out : List ℤ) (next : CallResult) where
   pub refused : (told answer .0 ≡ 0 → ⊥) → (told answer, run, out) ≡ answered answer run out next
   unfolding answered
   refused h = rw (ne-eqb (told answer .0) 0 h)
@@ -27,19 +27,19 @@ module _ (answer : Answer) (run : Run) (out : List ℤ) (next : Given) where
   passed h = rw (eq-eqb (told answer .0) 0 h)
 
 -- a question to which the answer is 0 has been answered yes
-asked-yes : (n : ℕ) (yes : Bool) (run : Run) (out : List ℤ) (next : Given) → ask (suc n) yes run out next .0 .0 ≡ 0 → (yes ≡ true) × (next .0 .0 ≡ 0)
+asked-yes : (n : ℕ) (yes : Bool) (run : Run) (out : List ℤ) (next : CallResult) → ask (suc n) yes run out next .0 .0 ≡ 0 → (yes ≡ true) × (next .0 .0 ≡ 0)
 unfolding ask
 asked-yes n true run out next e = (refl, e)
 asked-yes n false run out next e = absurd (omega arith)
 
-abbrev done : Run → List ℤ → Given
+abbrev done : Run → List ℤ → CallResult
 done run out = ((0, 0), run, out)
 
 -- ---- 2 and 3
 module _ {top : ℕ} {run : Run} {answer : Answer} (a : StillOpen top run answer) where
   module _ (z : told answer .0 ≡ 0) where
     asked-2 : ask 2 (sound top run) run [] (ask 3 (not (run .finished)) run [] (done run [])) .0 .0 ≡ 0
-    asked-2 = ap (λ (g : Given). g .0 .0) (sym (passed answer run [] (done run []) z ∙ a .asked [] (done run [])))
+    asked-2 = ap (λ (g : CallResult). g .0 .0) (sym (passed answer run [] (done run []) z ∙ a .asked [] (done run [])))
 
     pub open-sound : sound top run ≡ true
     open-sound = asked-yes 1 _ run [] _ asked-2 .0
@@ -53,7 +53,7 @@ module _ {top : ℕ} {run : Run} {answer : Answer} (a : StillOpen top run answer
   open-refused given room h = record { asked = λ xs out next l m. sym (refused answer run out next h) ∙ refused answer run out _ h ∙ a .asked out _ }
 
 -- ---- 2, 3, 4, 6 and 7
-module _ {top : ℕ} {run : Run} {given room : ℕ} {answer : Answer} (a : Admitted top run given room answer) (xs out : List ℤ) (next : Given) (l : length xs ≡ given) (m : length out ≡ room) where
+module _ {top : ℕ} {run : Run} {given room : ℕ} {answer : Answer} (a : Admitted top run given room answer) (xs out : List ℤ) (next : CallResult) (l : length xs ≡ given) (m : length out ≡ room) where
   pub admitted-refused : (told answer .0 ≡ 0 → ⊥)
       → (told answer, recordOf (run .width) (nextCount (told answer .0) (run .count)) (run .held) (run .finished), out) ≡ admitted top run xs out next
   admitted-refused h =
@@ -72,7 +72,7 @@ module _ {top : ℕ} {run : Run} {given room : ℕ} {answer : Answer} (a : Admit
   out = zeros room
 
   asked-2-to-7 : admitted top run xs out (done run out) .0 .0 ≡ 0
-  asked-2-to-7 = ap (λ (g : Given). g .0 .0) (sym (passed answer run out (done run out) z ∙ a .asked xs out (done run out) (length-replicate given (pos 0)) (length-replicate room (pos 0))))
+  asked-2-to-7 = ap (λ (g : CallResult). g .0 .0) (sym (passed answer run out (done run out) z ∙ a .asked xs out (done run out) (length-replicate given (pos 0)) (length-replicate room (pos 0))))
 
   yes-2 : (sound top run ≡ true) × (ask 3 (not (run .finished)) run out (ask 4 (ltb (run .count) top) run out (ask 6 (eqb (length xs) (run .width)) run out (ask 7 (eqb (length out) (run .width)) run out (done run out)))) .0 .0 ≡ 0)
   unfolding admitted

@@ -12,7 +12,7 @@ use Rattle.runs.specs.declared.answer.Found.{Found}
 use Rattle.runs.specs.declared.answer.Found.the-variants.{At, Nothing}
 use Rattle.runs.specs.declared.record.Run.{Run}
 use Rattle.runs.specs.Record.{advanced}
-use Rattle.runs.specs.Gate.{Given, askEach, inside, firstDead, firstOut}
+use Rattle.runs.specs.Gate.{CallResult, askEach, inside, firstDead, firstOut}
 use Rattle.runs.specs.Forward.{frameOn, takenIn}
 use Rattle.runs.proofs.Searches.{none-within, nothing-is, all-inside}
 use Rattle.gate.specs.declared.questions.Fault.{Fault}
@@ -54,7 +54,7 @@ clear-within block e = none-within readingLimit block (clear-both block e .1)
 
 -- ---- questions 8 and 9 to a block
 module _ (run : Run) (block out : List ℤ) where
-  byFault : Fault → Given
+  byFault : Fault → CallResult
   byFault (Dead place) = ((8, place), run, out)
   byFault (Beyond place) = ((9, place), run, out)
   byFault Clear = ((0, 0), advanced run block, frameOn run block)

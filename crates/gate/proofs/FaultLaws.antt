@@ -17,7 +17,7 @@ use Rattle.gate.specs.declared.questions.Fault.the-variants.{Dead, Beyon
 use Rattle.runs.specs.Gate.{inside, firstDead, firstOut}
 use Rattle.gate.specs.Own.Faults.{faultBy, faultOf, faultFrom, firstFault}
 use Rattle.runs.specs.Record.{blockLimit}
-use Rattle.gate.specs.Own.Ready.{Blocks}
+use Rattle.gate.specs.Own.Ready.{WholeBlocks}
 use Rattle.steps.specs.Limits.{readingLimit}
 use Rattle.runs.proofs.Searches.{placeFound, found-place}
 use Rattle.runs.proofs.RecordLaws.{width-le}
@@ -59,7 +59,7 @@ half-room N half xs h e = omega (arith, half-width-le N)
 pub front-same : (n : ℕ) (xs ys : List ℤ) → n ≤ length xs → length ys ≡ length (take n xs) → length (ys ++ drop n xs) ≡ length xs
 front-same n xs ys h e = omega (arith, length-append ys (drop n xs), length-take-le n xs h, length-drop n xs)
 
-pub few-readings : (N : ℕ) (xs : List ℤ) → Blocks N xs → length xs ≤ blockLimit * 128
+pub few-readings : (N : ℕ) (xs : List ℤ) → WholeBlocks N xs → length xs ≤ blockLimit * 128
 few-readings N xs h = omega (arith, h .whole, mul-le-mul-right N (h .some), width-le N (h .wide))
 
 -- one block of those left

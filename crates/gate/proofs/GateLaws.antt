@@ -25,7 +25,7 @@ use Rattle.runs.specs.Answers.{beyond, firstBeyond}
 use Rattle.runs.specs.declared.answer.Found.the-variants.{At, Nothing}
 use Rattle.gate.proofs.LimitLaws.{stops, goes-on, ends}
 use Rattle.runs.specs.declared.record.Run.{Run}
-use Rattle.runs.specs.Gate.{nothing, inside, every, sound, dead, firstDead}
+use Rattle.runs.specs.Gate.{nothing, inside, allYes, sound, dead, firstDead}
 use Rattle.runs.proofs.Searches.{all-within, All, none-found, inside-all, all-inside}
 use Rattle.runs.proofs.RecordLaws.{all-take, all-drop}
 
@@ -153,7 +153,7 @@ module _ (top : ℕ) (run : Run) where
   front = take M (run .held)
 
   pub no-width : M ≡ 0 → false ≡ sound top run
-  unfolding sound every
+  unfolding sound allYes
   no-width e = rw (le-ltb 0 M (omega (arith, e)))
 
   module _ (w : M ≡ 0 → ⊥) where
@@ -161,28 +161,28 @@ module _ (top : ℕ) (run : Run) where
     wide = omega (arith, w)
 
     pub no-count : top < run .count → false ≡ sound top run
-    unfolding sound every
+    unfolding sound allYes
     no-count h = rw (lt-ltb 0 M wide, lt-leb _ _ h)
 
     module _ (n : run .count ≤ top) where
       pub rest-held : inside (pos 0) (drop M (run .held)) ≡ false → false ≡ sound top run
-      unfolding sound every
+      unfolding sound allYes
       rest-held r = rw (lt-ltb 0 M wide, le-leb _ _ n, r, and-false)
 
       module _ (r : inside (pos 0) (drop M (run .held)) ≡ true) where
         pub none-taken : run .count ≡ 0 → inside (pos 0) front ≡ sound top run
-        unfolding sound every
+        unfolding sound allYes
         none-taken e =
             rw (lt-ltb 0 M wide, le-leb _ _ n, r, eq-eqb _ _ e, inside-front foldedLimit M (run .held) r, inside-front 0 M (run .held) r)
             (both-asked _ _ (inside-up 0 foldedLimit front zero-le))
 
         module _ (k : run .count ≡ 0 → ⊥) where
           pub run-over : run .finished ≡ true → inside (pos 0) front ≡ sound top run
-          unfolding sound every
+          unfolding sound allYes
           run-over e =
               rw (lt-ltb 0 M wide, le-leb _ _ n, r, ne-eqb _ _ k, e, inside-front foldedLimit M (run .held) r, inside-front 0 M (run .held) r)
               (both-asked _ _ (inside-up 0 foldedLimit front zero-le))
 
           pub run-open : run .finished ≡ false → inside (pos foldedLimit) front ≡ sound top run
-          unfolding sound every
+          unfolding sound allYes
           run-open e = rw (lt-ltb 0 M wide, le-leb _ _ n, r, ne-eqb _ _ k, e, inside-front foldedLimit M (run .held) r) (last-asked _)

@@ -11,7 +11,7 @@ use lib.IntN.{ℤ, pos, negsuc, negℤ}
 use lib.ListN.{length, getD, drop}
 use lib.Seq.{drop-cons, drop-length}
 use lib.Signed.{ltZ, _≤ℤ_}
-use Rattle.runs.specs.Answers.{beyond, first}
+use Rattle.runs.specs.Answers.{beyond, firstWhere}
 use Rattle.runs.specs.declared.answer.Found.the-variants.{At, Nothing}
 
 pub above : (l x : ℤ) → pos 0 ≤ℤ l → ltZ l x ≡ true → beyond l x ≡ true
@@ -37,14 +37,14 @@ neither (negsuc l) x k e f = absurd (k .le)
 
 -- the search that goes on at i: it ends there, goes on, or has nothing left
 module _ (test : ℤ → Bool) (s : List ℤ) (i : ℕ) where
-  pub stops : i < length s → test (getD s i (pos 0)) ≡ true → first test (drop i s) i ≡ At i
-  unfolding first
+  pub stops : i < length s → test (getD s i (pos 0)) ≡ true → firstWhere test (drop i s) i ≡ At i
+  unfolding firstWhere
   stops h e = rw (drop-cons s i (pos 0) h, e)
 
-  pub goes-on : i < length s → test (getD s i (pos 0)) ≡ false → first test (drop i s) i ≡ first test (drop (i + 1) s) (i + 1)
-  unfolding first
+  pub goes-on : i < length s → test (getD s i (pos 0)) ≡ false → firstWhere test (drop i s) i ≡ firstWhere test (drop (i + 1) s) (i + 1)
+  unfolding firstWhere
   goes-on h e = rw (drop-cons s i (pos 0) h, e, add-one)
 
-  pub ends : i ≡ length s → first test (drop i s) i ≡ Nothing
-  unfolding first
+  pub ends : i ≡ length s → firstWhere test (drop i s) i ≡ Nothing
+  unfolding firstWhere
   ends e = rw (e, drop-length)

@@ -8,7 +8,7 @@ use lib.ListN.{length, take, drop, length-append, length-drop, drop-of-length-le
 use lib.Seq.{length-take-le, take-at, drop-drop}
 use borrow.Rule.Slice.PartMut.{putMid, drop-put}
 use Rattle.runs.specs.declared.record.Run.{Run}
-use Rattle.runs.specs.Gate.{Given}
+use Rattle.runs.specs.Gate.{CallResult}
 use Rattle.runs.specs.Forward.{taken, ended}
 use Rattle.runs.specs.Calls.{give, made}
 use Rattle.runs.specs.Whole.{callsOf, outputs}
@@ -32,7 +32,7 @@ written-end place xs ys h =
     ∙ ap (λ (zs : List ℤ). take place xs ++ zs) (append-nil ys)
 
 -- ---- the outputs of the calls left
-module _ (N : ℕ) (run : Run) (readings out : List ℤ) (g : Given) where
+module _ (N : ℕ) (run : Run) (readings out : List ℤ) (g : CallResult) where
   outputs-next : (left : ℕ) → 0 < left → g ≡ taken run (take N readings) (take N out)
       → outputs (made run (callsOf N left readings out)) ≡ g .2 ++ outputs (made (g .1) (callsOf N (left - 1) (drop N readings) (drop N out)))
   unfolding outputs made callsOf give
@@ -41,7 +41,7 @@ module _ (N : ℕ) (run : Run) (readings out : List ℤ) (g : Given) where
 
   outputs-end : g ≡ ended run out → outputs (made run (callsOf N 0 readings out)) ≡ g .2
   unfolding outputs made callsOf give
-  outputs-end e = append-nil _ ∙ ap (λ (x : Given). x .2) (sym e)
+  outputs-end e = append-nil _ ∙ ap (λ (x : CallResult). x .2) (sym e)
 
 module _ (N place left : ℕ) (run after : Run) (answer : ℕ × ℕ) (readings out ys : List ℤ) where
   pub frames-next : 0 < left → place + N ≤ length out → length ys ≡ N → (answer, after, ys) ≡ taken run (take N (drop place readings)) (take N (drop place out))

@@ -17,7 +17,7 @@ use Rattle.steps.specs.Steps.{held, frame}
 use Rattle.steps.proofs.Lengths.{length-held}
 use Rattle.distance.proofs.ZeroBlock.{zero-block}
 use Rattle.runs.specs.declared.record.Run.{Run}
-use Rattle.runs.specs.Record.{frameLimit, zeros, recordOf, filled, opened, advanced}
+use Rattle.runs.specs.Record.{frameLimit, zeros, recordOf, zeroPadded, opened, advanced}
 use Rattle.runs.specs.Gate.{inside, sound}
 use Rattle.runs.specs.Forward.{frameOn}
 use Rattle.gate.specs.Own.Ready.{Ready}
@@ -57,7 +57,7 @@ passed top m run half e h l = record {
 -- ---- held values written in front of zeros
 module _ (N half count : ℕ) (kept low : List ℤ) (rest : drop half kept ≡ zeros (64 - halfWidth N)) (long : length low ≡ halfWidth N) where
   pub stored-opened : (xs : List ℤ) → xs ≡ low ++ drop half kept → record { width = N; count = count; held = xs; finished = false } ≡ opened N count low
-  unfolding opened filled
+  unfolding opened zeroPadded
   stored-opened xs e = ap (λ (h : List ℤ). record { width = N; count = count; held = h; finished = false }) (e ∙ ap (λ xs. low ++ xs) (rest ∙ ap (λ n. zeros (64 - n)) (sym long)))
 
 module _ (run : Run) (half : ℕ) (ready : Ready run half) where

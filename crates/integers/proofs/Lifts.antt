@@ -7,7 +7,7 @@ use native.Mathlib.Nat.{suc-inj, le-refl}
 use lib.ListN.{length, getD}
 use lib.IntN.{ℤ, pos, natAbs, _+ℤ_, _-ℤ_, _*ℤ_}
 use Rattle.integers.specs.Floor.{round}
-use Rattle.integers.specs.Vectors.{dot, scale, plus, sumAbs}
+use Rattle.integers.specs.Vectors.{dot, scalarMul, plus, sumAbs}
 use Rattle.integers.proofs.Ring.{ring}
 use Rattle.integers.proofs.Order.{natAbs-+ℤ, natAbs-*ℤ-le}
 use Rattle.integers.proofs.Rounding.{round-near}
@@ -19,7 +19,7 @@ split-term p g y r a d s t = simp ring
 -- for every row g: | p · g(y + f a) − (p g y + g a) | ≤ h · Σ|g|, where | p · f a − a | ≤ h
 module _ (p h : ℕ) (f : ℤ → ℤ) (near : (a : ℤ) → natAbs (pos p *ℤ f a -ℤ a) ≤ h) where
   pub lift-row : (g y a : List ℤ) → length y ≡ length a
-      → natAbs (pos p *ℤ dot g (zipWith (λ y a. y +ℤ f a) y a) -ℤ (dot (scale (pos p) g) y +ℤ dot g a)) ≤ h * sumAbs g
+      → natAbs (pos p *ℤ dot g (zipWith (λ y a. y +ℤ f a) y a) -ℤ (dot (scalarMul (pos p) g) y +ℤ dot g a)) ≤ h * sumAbs g
   unfolding zipWith
   lift-row [] y a e = omega arith
   lift-row (g ∷ gs) [] [] e = omega arith
@@ -27,7 +27,7 @@ module _ (p h : ℕ) (f : ℤ → ℤ) (near : (a : ℤ) → natAbs (pos p *ℤ 
   lift-row (g ∷ gs) (y ∷ ys) [] e = let z : ⊥ = omega arith in absurd z
   lift-row (g ∷ gs) (y ∷ ys) (a ∷ bs) e =
       let d = dot gs (zipWith (λ y a. y +ℤ f a) ys bs) in
-      let s = dot (scale (pos p) gs) ys in
+      let s = dot (scalarMul (pos p) gs) ys in
       let t = dot gs bs in
       rw (split-term (pos p) g y (f a) a d s t)
       (omega (arith, natAbs-+ℤ (g *ℤ (pos p *ℤ f a -ℤ a)) (pos p *ℤ d -ℤ (s +ℤ t)), natAbs-*ℤ-le g (pos p *ℤ f a -ℤ a) (le-refl (natAbs g)) (near a), lift-row gs ys bs (suc-inj e)))
@@ -37,13 +37,13 @@ kept : (p u d v s : ℤ) → p *ℤ (u +ℤ d) -ℤ ((p *ℤ u +ℤ v) +ℤ s) �
 kept p u d v s = simp ring
 
 pub lift-known : (k : ℕ) (u g gs x y z : List ℤ) → length y ≡ length z → dot g z ≡ dot gs x → length u ≡ length gs
-    → natAbs (pos (2 ^ k) *ℤ (dot u x +ℤ dot g (zipWith (λ y a. y +ℤ round k a) y z)) -ℤ (dot (plus (scale (pos (2 ^ k)) u) gs) x +ℤ dot (scale (pos (2 ^ k)) g) y)) ≤ 2 ^ (k - 1) * sumAbs g
+    → natAbs (pos (2 ^ k) *ℤ (dot u x +ℤ dot g (zipWith (λ y a. y +ℤ round k a) y z)) -ℤ (dot (plus (scalarMul (pos (2 ^ k)) u) gs) x +ℤ dot (scalarMul (pos (2 ^ k)) g) y)) ≤ 2 ^ (k - 1) * sumAbs g
 lift-known k u g gs x y z e d l =
     rw (
-      dot-plus (scale (pos (2 ^ k)) u) gs x (length-scale (pos (2 ^ k)) u ∙ l),
+      dot-plus (scalarMul (pos (2 ^ k)) u) gs x (length-scale (pos (2 ^ k)) u ∙ l),
       dot-scale (pos (2 ^ k)) u x,
       ← d,
-      kept (pos (2 ^ k)) (dot u x) (dot g (zipWith (λ y a. y +ℤ round k a) y z)) (dot g z) (dot (scale (pos (2 ^ k)) g) y),
+      kept (pos (2 ^ k)) (dot u x) (dot g (zipWith (λ y a. y +ℤ round k a) y z)) (dot g z) (dot (scalarMul (pos (2 ^ k)) g) y),
     )
     (lift-row (2 ^ k) (2 ^ (k - 1)) (round k) (round-near k) g y z e)
 

@@ -6,7 +6,7 @@ use borrow.Author.Tests.{eq-eqb, ne-eqb}
 use lib.Dec.{T, ltb, ltb→lt, eqb, eqb→eq}
 use lib.IntN.{ℤ, pos, _+ℤ_}
 use Rattle.integers.specs.Places.{sum}
-use Rattle.integers.specs.Tests.{below}
+use Rattle.integers.specs.Tests.{everyBelow}
 use Rattle.integers.proofs.Tested.{and-left, and-right, below-at}
 use Rattle.integers.proofs.PlaceLaws.{sum-ext, sum-only}
 use Rattle.integers.proofs.Ring.{+ℤ-swap}
@@ -15,7 +15,7 @@ use Rattle.integers.proofs.Ring.{+ℤ-swap}
 abbrev pub back : (ℕ → ℕ) → (ℕ → ℕ) → ℕ → ℕ → Bool
 back p q M j = ltb (p j) M && eqb (q (p j)) j
 
-pub back-at : (p q : ℕ → ℕ) (M : ℕ) → T (below M (back p q M)) → (j : ℕ) → j < M → (p j < M) × (q (p j) ≡ j)
+pub back-at : (p q : ℕ → ℕ) (M : ℕ) → T (everyBelow M (back p q M)) → (j : ℕ) → j < M → (p j < M) × (q (p j) ≡ j)
 back-at p q M t j h =
     let u = below-at M (back p q M) t j h in
     (ltb→lt (p j) M (and-left (ltb (p j) M) (eqb (q (p j)) j) u), eqb→eq (q (p j)) j (and-right (ltb (p j) M) (eqb (q (p j)) j) u))

@@ -6,12 +6,12 @@ use native.Mathlib.Omega.{arith}
 use native.Mathlib.Nat.{suc-inj, le-refl, le-of-suc-le-suc}
 use lib.ListN.{length, take, getD, set, replicate, length-replicate, length-map}
 use lib.IntN.{ℤ, pos, natAbs, _+ℤ_, _-ℤ_, _*ℤ_, +ℤ-assoc, +ℤ-comm, +ℤ-idl, *ℤ-zero, *ℤ-comm, zero-*ℤ}
-use Rattle.integers.specs.Vectors.{dot, scale, plus, sumAbs, mulVec, vecMul, Rows, AllAbs}
+use Rattle.integers.specs.Vectors.{dot, scalarMul, plus, sumAbs, mulVec, vecMul, Rows, AllAbs}
 use Rattle.integers.proofs.Ring.{ring}
 use Rattle.integers.proofs.Order.{natAbs-+ℤ, natAbs-*ℤ, natAbs-*ℤ-le}
 
 -- ---- lengths
-pub length-scale : (c : ℤ) (xs : List ℤ) → length (scale c xs) ≡ length xs
+pub length-scale : (c : ℤ) (xs : List ℤ) → length (scalarMul c xs) ≡ length xs
 length-scale c [] = refl
 length-scale c (x ∷ xs) = ap suc (length-scale c xs)
 
@@ -23,7 +23,7 @@ length-plus (x ∷ xs) (y ∷ ys) h = ap suc (length-plus xs ys (suc-inj h))
 pub length-vecMul : (n : ℕ) (g : List ℤ) (A : List (List ℤ)) → Rows n A → length (vecMul n g A) ≡ n
 length-vecMul n [] A h = length-replicate n (pos 0)
 length-vecMul n (g ∷ gs) [] h = length-replicate n (pos 0)
-length-vecMul n (g ∷ gs) (r ∷ A) h = length-plus (scale g r) (vecMul n gs A) (omega (arith, length-scale g r, length-vecMul n gs A (h .1))) ∙ length-scale g r ∙ h .0
+length-vecMul n (g ∷ gs) (r ∷ A) h = length-plus (scalarMul g r) (vecMul n gs A) (omega (arith, length-scale g r, length-vecMul n gs A (h .1))) ∙ length-scale g r ∙ h .0
 
 -- ---- the scalar product
 pub dot-nil : (xs : List ℤ) → dot xs [] ≡ pos 0
@@ -41,7 +41,7 @@ scaled c x y t = simp ring
 added : (x y z s t : ℤ) → (x +ℤ y) *ℤ z +ℤ (s +ℤ t) ≡ (x *ℤ z +ℤ s) +ℤ (y *ℤ z +ℤ t)
 added x y z s t = simp ring
 
-pub dot-scale : (c : ℤ) (xs ys : List ℤ) → dot (scale c xs) ys ≡ c *ℤ dot xs ys
+pub dot-scale : (c : ℤ) (xs ys : List ℤ) → dot (scalarMul c xs) ys ≡ c *ℤ dot xs ys
 dot-scale c [] ys = sym (*ℤ-zero c)
 dot-scale c (x ∷ xs) [] = sym (*ℤ-zero c)
 dot-scale c (x ∷ xs) (y ∷ ys) = ap (λ t. c *ℤ x *ℤ y +ℤ t) (dot-scale c xs ys) ∙ scaled c x y (dot xs ys)
@@ -94,7 +94,7 @@ pub dot-mulVec : (n : ℕ) (g : List ℤ) (A : List (List ℤ)) (x : List ℤ) �
 dot-mulVec n [] A x h = sym (dot-zeros n x)
 dot-mulVec n (g ∷ gs) [] x h = sym (dot-zeros n x)
 dot-mulVec n (g ∷ gs) (r ∷ A) x h =
-    rw (dot-plus (scale g r) (vecMul n gs A) x (omega (arith, length-scale g r, length-vecMul n gs A (h .1))), dot-scale g r x, dot-mulVec n gs A x (h .1))
+    rw (dot-plus (scalarMul g r) (vecMul n gs A) x (omega (arith, length-scale g r, length-vecMul n gs A (h .1))), dot-scale g r x, dot-mulVec n gs A x (h .1))
 
 -- ---- bounds
 pub natAbs-dot : (g e : List ℤ) (B : ℕ) → AllAbs B e → natAbs (dot g e) ≤ sumAbs g * B
@@ -125,7 +125,7 @@ all-mono [] l h = tt
 all-mono (x ∷ xs) l h = (omega arith, all-mono xs l (h .1))
 
 -- ---- Σ|x|
-pub sumAbs-scale : (c : ℤ) (xs : List ℤ) → sumAbs (scale c xs) ≡ natAbs c * sumAbs xs
+pub sumAbs-scale : (c : ℤ) (xs : List ℤ) → sumAbs (scalarMul c xs) ≡ natAbs c * sumAbs xs
 sumAbs-scale c [] = omega arith
 sumAbs-scale c (x ∷ xs) = omega (arith, natAbs-*ℤ c x, sumAbs-scale c xs)
 
@@ -164,7 +164,7 @@ getD-mulVec [] x i = refl
 getD-mulVec (r ∷ A) x zero = refl
 getD-mulVec (r ∷ A) x (suc i) = getD-mulVec A x i
 
-pub getD-scale : (c : ℤ) (xs : List ℤ) (i : ℕ) → getD (scale c xs) i (pos 0) ≡ c *ℤ getD xs i (pos 0)
+pub getD-scale : (c : ℤ) (xs : List ℤ) (i : ℕ) → getD (scalarMul c xs) i (pos 0) ≡ c *ℤ getD xs i (pos 0)
 getD-scale c [] i = sym (*ℤ-zero c)
 getD-scale c (x ∷ xs) zero = refl
 getD-scale c (x ∷ xs) (suc i) = getD-scale c xs i

@@ -8,7 +8,7 @@ use native.Mathlib.Omega.{arith}
 use borrow.Author.Tests.{ltb-true, ltb-false, eqb-true, eqb-false}
 use lib.Dec.{T, leb, leb→le, ltb, eqb}
 use lib.ListN.{length, getD, List·getD-eq-default}
-use Rattle.integers.specs.Tests.{every, below}
+use Rattle.integers.specs.Tests.{every, everyBelow}
 
 pub and-left : (a b : Bool) → T (a && b) → T a
 and-left true b t = tt
@@ -36,10 +36,10 @@ every-le m xs t k = by (ltb k (length xs)) refl
     by true e = leb→le _ m (every-at (λ k x. leb x m) xs t k (ltb-true _ _ e))
     by false e = rw (List·getD-eq-default xs 0 (ltb-false k (length xs) e)) (omega arith)
 
-pub below-at : (n : ℕ) (f : ℕ → Bool) → T (below n f) → (i : ℕ) → i < n → T (f i)
+pub below-at : (n : ℕ) (f : ℕ → Bool) → T (everyBelow n f) → (i : ℕ) → i < n → T (f i)
 below-at zero f t i h = absurd (omega arith)
-below-at (suc n) f t i h = by (below-at n f (and-right (f n) (below n f) t) i) (eqb i n) refl
+below-at (suc n) f t i h = by (below-at n f (and-right (f n) (everyBelow n f) t) i) (eqb i n) refl
   where
     by : (i < n → T (f i)) → (b : Bool) → eqb i n ≡ b → T (f i)
-    by before true e = rw (eqb-true i n e) (and-left (f n) (below n f) t)
+    by before true e = rw (eqb-true i n e) (and-left (f n) (everyBelow n f) t)
     by before false e = before (omega (arith, eqb-false i n e))

@@ -9,6 +9,6 @@ every f i [] = true
 every f i (x ∷ xs) = f i x && every f (suc i) xs
 
 -- f passes at each number below n
-abbrev pub below : ℕ → (ℕ → Bool) → Bool
-below zero f = true
-below (suc n) f = f n && below n f
+abbrev pub everyBelow : ℕ → (ℕ → Bool) → Bool
+everyBelow zero f = true
+everyBelow (suc n) f = f n && everyBelow n f

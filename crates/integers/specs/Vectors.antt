@@ -11,9 +11,9 @@ dot [] ys = pos 0
 dot (x ∷ xs) [] = pos 0
 dot (x ∷ xs) (y ∷ ys) = x *ℤ y +ℤ dot xs ys
 
-abbrev pub scale : ℤ → List ℤ → List ℤ
-scale c [] = []
-scale c (x ∷ xs) = (c *ℤ x) ∷ scale c xs
+abbrev pub scalarMul : ℤ → List ℤ → List ℤ
+scalarMul c [] = []
+scalarMul c (x ∷ xs) = (c *ℤ x) ∷ scalarMul c xs
 
 abbrev pub plus : List ℤ → List ℤ → List ℤ
 plus [] ys = []
@@ -33,7 +33,7 @@ mulVec A x = map (λ r. dot r x) A
 abbrev pub vecMul : ℕ → List ℤ → List (List ℤ) → List ℤ
 vecMul n [] A = replicate n (pos 0)
 vecMul n (g ∷ gs) [] = replicate n (pos 0)
-vecMul n (g ∷ gs) (r ∷ A) = plus (scale g r) (vecMul n gs A)
+vecMul n (g ∷ gs) (r ∷ A) = plus (scalarMul g r) (vecMul n gs A)
 
 -- each row has n entries
 abbrev pub Rows : ℕ → List (List ℤ) → Type 0

@@ -27,7 +27,7 @@ use Rattle.runs.proofs.RecordLaws.{width-le}
 use Rattle.runs.proofs.Refusals.{Same, admitted-few, same-taken, same-taken-back}
 use Rattle.c_record.specs.Record.{runLength, isRecord, packed, unpacked}
 use Rattle.c_record.specs.Ready.{Packable}
-use Rattle.c_record.specs.Calls.{Given, kept, handed, lappedStart, lappedTake, lappedBackTake}
+use Rattle.c_record.specs.Calls.{PackedResult, numbersAfter, handedToC, lappedStart, lappedTake, lappedBackTake}
 use Rattle.c_record.proofs.RecordLaws.{has-room, no-record, packed-unpacked, held-put}
 use Rattle.c_record.proofs.AnswerLaws.{kept-refused, kept-worked}
 
@@ -51,16 +51,16 @@ module _ (numbers : List ℤ) (top : ℕ) (s : sound top (unpacked numbers) ≡ 
       record { narrow = omega (arith, width-le (unpacked numbers .width) wide); few = omega (arith, few); room = has-room numbers (sound-record _ refl) }
 
 -- ---- one question after the other
-record Works (numbers : List ℤ) (given : Gate.Given) : Type 0 where
+record Works (numbers : List ℤ) (given : Gate.CallResult) : Type 0 where
   packable : given .0 .0 ≡ 0 → Packable (given .1) numbers
 
 module _ {numbers : List ℤ} (n : ℕ) where
-  asked : (answer : Bool) (run : Run) (out : List ℤ) (next : Gate.Given) → (answer ≡ true → Works numbers next) → Works numbers (ask (suc n) answer run out next)
+  asked : (answer : Bool) (run : Run) (out : List ℤ) (next : Gate.CallResult) → (answer ≡ true → Works numbers next) → Works numbers (ask (suc n) answer run out next)
   unfolding ask
   asked true run out next h = h refl
   asked false run out next h = record { packable = λ e. absurd (omega (arith, e)) }
 
-  asked-each : (found : Found) (run : Run) (out : List ℤ) (next : Gate.Given) → Works numbers next → Works numbers (askEach (suc n) found run out next)
+  asked-each : (found : Found) (run : Run) (out : List ℤ) (next : Gate.CallResult) → Works numbers next → Works numbers (askEach (suc n) found run out next)
   unfolding askEach
   asked-each (At place) run out next h = record { packable = λ e. absurd (omega (arith, e)) }
   asked-each Nothing run out next h = h
@@ -84,16 +84,16 @@ module _ (numbers : List ℤ) where
   back-finish-works = asked _ _ _ _ _ (λ s. asked _ _ _ _ _ (λ _. asked _ _ _ _ _ (λ _. asked-each _ _ _ _ _ (closes frameLimit (omega arith) s _))))
 
 -- ---- what is handed back of a call on the record that the numbers are
-module _ (numbers : List ℤ) (call : Run → Gate.Given) (run after : Run) (answer : ℕ × ℕ) (out : List ℤ) (is : run ≡ unpacked numbers) (e : (answer, after, out) ≡ call run) where
+module _ (numbers : List ℤ) (call : Run → Gate.CallResult) (run after : Run) (answer : ℕ × ℕ) (out : List ℤ) (is : run ≡ unpacked numbers) (e : (answer, after, out) ≡ call run) where
   given-is : (answer, after, out) ≡ call (unpacked numbers)
   given-is = e ∙ ap call is
 
   packs : Works numbers (call (unpacked numbers)) → answer .0 ≡ 0 → Packable after numbers
-  packs w = subst (λ (g : Gate.Given). g .0 .0 ≡ 0 → Packable (g .1) numbers) (sym given-is) (w .packable)
+  packs w = subst (λ (g : Gate.CallResult). g .0 .0 ≡ 0 → Packable (g .1) numbers) (sym given-is) (w .packable)
 
-  pub handed-is : (a : ℕ × ℕ) (stays : List ℤ) → a ≡ answer → stays ≡ kept (answer .0) after numbers → (a, stays, out) ≡ handed numbers (call (unpacked numbers))
-  unfolding handed
-  handed-is a stays p q = ap₂ (λ (x : ℕ × ℕ) (y : List ℤ). (x, y, out)) p q ∙ ap (handed numbers) given-is
+  pub handed-is : (a : ℕ × ℕ) (stays : List ℤ) → a ≡ answer → stays ≡ numbersAfter (answer .0) after numbers → (a, stays, out) ≡ handedToC numbers (call (unpacked numbers))
+  unfolding handedToC
+  handed-is a stays p q = ap₂ (λ (x : ℕ × ℕ) (y : List ℤ). (x, y, out)) p q ∙ ap (handedToC numbers) given-is
 
 module _ (numbers : List ℤ) (run after : Run) (answer : ℕ × ℕ) (is : run ≡ unpacked numbers) where
   pub finish-packs : (out now : List ℤ) → (answer, after, now) ≡ ended run out → answer .0 ≡ 0 → Packable after numbers
@@ -103,7 +103,7 @@ module _ (numbers : List ℤ) (run after : Run) (answer : ℕ × ℕ) (is : run 
   back-finish-packs e = packs numbers endedBack run after answer [] is e (back-finish-works numbers)
 
 -- ---- a block forward or a frame back
-abbrev either : Bool → Run → List ℤ → List ℤ → Gate.Given
+abbrev either : Bool → Run → List ℤ → List ℤ → Gate.CallResult
 either back = cond back takenBack taken
 
 same-either : (back : Bool) (run : Run) (given out : List ℤ) → Same run (either back run given out)
@@ -115,14 +115,14 @@ unfolding taken takenBack
 few-either true run given out e = admitted-few frameLimit run given out _ e
 few-either false run given out e = let n = admitted-few blockLimit run given out _ e in omega arith
 
-handed-either : (back : Bool) (numbers given out : List ℤ) → handed numbers (either back (unpacked numbers) given out) ≡ cond back lappedBackTake lappedTake numbers given out
+handed-either : (back : Bool) (numbers given out : List ℤ) → handedToC numbers (either back (unpacked numbers) given out) ≡ cond back lappedBackTake lappedTake numbers given out
 unfolding lappedTake lappedBackTake
 handed-either true numbers given out = refl
 handed-either false numbers given out = refl
 
 -- numbers that are no record
 module _ (numbers given out : List ℤ) (n : isRecord numbers ≡ false) where
-  refused : (top : ℕ) (next : Gate.Given) → (told Record, unpacked numbers, out) ≡ admitted top (unpacked numbers) given out next
+  refused : (top : ℕ) (next : Gate.CallResult) → (told Record, unpacked numbers, out) ≡ admitted top (unpacked numbers) given out next
   unfolding admitted
   refused top next = record-refused top (unpacked numbers) out _ (by (sound top (unpacked numbers)) refl)
     where
@@ -168,17 +168,17 @@ module _ (numbers : List ℤ) (r : isRecord numbers ≡ true) (run : Run) (is : 
 
   module _ (back : Bool) (given out now : List ℤ) (e : (answer, after, now) ≡ either back run given out) where
     pub few-taken : answer .0 ≡ 0 → run .count < frameLimit
-    few-taken z = few-either back run given out (ap (λ (g : Gate.Given). g .0 .0) (sym e) ∙ z)
+    few-taken z = few-either back run given out (ap (λ (g : Gate.CallResult). g .0 .0) (sym e) ∙ z)
 
-    kept-is : left ≡ kept (answer .0) after numbers
+    kept-is : left ≡ numbersAfter (answer .0) after numbers
     kept-is = by (eqb (answer .0) 0) refl
       where
-        by : (b : Bool) → eqb (answer .0) 0 ≡ b → left ≡ kept (answer .0) after numbers
+        by : (b : Bool) → eqb (answer .0) 0 ≡ b → left ≡ numbersAfter (answer .0) after numbers
         by true z = stored ∙ kept-worked numbers _ _ (eqb-true _ 0 z)
         by false z =
             let n = eqb-false (answer .0) 0 z in
-            let same = same-either back run given out .same (λ d. n (ap (λ (g : Gate.Given). g .0 .0) e ∙ d)) in
-            stored ∙ ap packed (ap (λ (g : Gate.Given). g .1) e ∙ same) ∙ packed-run ∙ kept-refused numbers _ _ n
+            let same = same-either back run given out .same (λ d. n (ap (λ (g : Gate.CallResult). g .0 .0) e ∙ d)) in
+            stored ∙ ap packed (ap (λ (g : Gate.CallResult). g .1) e ∙ same) ∙ packed-run ∙ kept-refused numbers _ _ n
 
     pub called : (a : ℕ × ℕ) (stays : List ℤ) → a ≡ answer → stays ≡ left → (a, stays, now) ≡ cond back lappedBackTake lappedTake numbers given out
     called a stays p q = handed-is numbers (λ (r : Run). either back r given out) run after answer now is e a stays p (q ∙ kept-is) ∙ handed-either back numbers given out

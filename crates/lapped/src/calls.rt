@@ -48,7 +48,13 @@ fn take_held(back: bool, head: Head, held: &mut [i64], given: &[i32], out: &mut 
     in_place::take(width, count, finished, held, given, out)
 }
 
-fn take(back: bool, run: &mut [i64], given: &[i32], out: &mut [i32], place: &mut usize) -> u32
+fn take_either_way(
+    back: bool,
+    run: &mut [i64],
+    given: &[i32],
+    out: &mut [i32],
+    place: &mut usize,
+) -> u32
     ensures { λ r. ⌜ ((r, now (place .exit)), now (run .exit), now (out .exit)) ≡ cond back lappedBackTake lappedTake (now (run .entry)) (now (given .entry)) (now (out .entry)) ⌝ }
 {
     if !record::is_record(run) {
@@ -70,7 +76,7 @@ pub extern "C" fn lapped_take(
 ) -> u32
     ensures { λ r. ⌜ ((r, now (place .exit)), now (run .exit), now (frame .exit)) ≡ lappedTake (now (run .entry)) (now (block .entry)) (now (frame .entry)) ⌝ }
 {
-    take(false, run, block, frame, place)
+    take_either_way(false, run, block, frame, place)
 }
 
 // Finish: the frame of the last block's held half.
@@ -92,7 +98,7 @@ pub extern "C" fn lapped_back_take(
 ) -> u32
     ensures { λ r. ⌜ ((r, now (place .exit)), now (run .exit), now (block .exit)) ≡ lappedBackTake (now (run .entry)) (now (frame .entry)) (now (block .entry)) ⌝ }
 {
-    take(true, run, frame, block, place)
+    take_either_way(true, run, frame, block, place)
 }
 
 // Finish back: the run is closed.

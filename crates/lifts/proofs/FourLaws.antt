@@ -17,7 +17,7 @@ use Rattle.slices.specs.declared.fours.Four.{Four}
 use Rattle.slices.specs.Own.Fours.{listed, stored}
 use Rattle.slices.proofs.FourLaws.{stored-out, listed-within}
 use Rattle.slices.specs.Own.Moves.{moved}
-use Rattle.lifts.specs.Own.Moves.{movedFour, products}
+use Rattle.lifts.specs.Own.Moves.{movedFour, roundedProducts}
 use Rattle.lifts.proofs.NumLaws.{call-is}
 
 -- F n j z is what takes the place of z at j, in a list of n numbers
@@ -137,13 +137,13 @@ module _ (undo : Bool) (place : ℕ → ℕ → ℕ) (c x : List ℤ) {d₀ : Li
   product-is : {u v : ℤ} (p j : ℕ) → u ≡ at c (place (length d) j) → v ≡ at x p → p ≡ length d - 1 - j → round 28 (u *ℤ v) ≡ productAt place c x (length d) j
   product-is p j q r s = ap₂ (λ u v. round 28 (u *ℤ v)) q (r ∙ ap (at x) s)
 
-  pub products-next : {d′ : List ℤ} → d′ ≡ stored d i (movedFour undo d i (products f g)) → Turns (λ n j z. moved undo z (productAt place c x n j)) d₀ (i + 4) d′
+  pub products-next : {d′ : List ℤ} → d′ ≡ stored d i (movedFour undo d i (roundedProducts f g)) → Turns (λ n j z. moved undo z (productAt place c x n j)) d₀ (i + 4) d′
   unfolding tab
   products-next same =
       let n = turns-left h e l in
       let zero : i + 0 ≡ i = omega arith in
       subst (Turns _ d₀ (i + 4)) (sym same)
-      (turns-four h e l (movedFour undo d i (products f g))
+      (turns-four h e l (movedFour undo d i (roundedProducts f g))
       (ap (moved undo (at d i)) (product-is (length d - 4 - i + 3) i (ap (λ t. at t 0) a ∙ ap (λ j. at c (place (length d) j)) zero) (ap (λ t. at t 3) b) (omega (arith, n))))
       (ap (moved undo (at d (i + 1))) (product-is (length d - 4 - i + 2) (i + 1) (ap (λ t. at t 1) a) (ap (λ t. at t 2) b) (omega (arith, n))))
       (ap (moved undo (at d (i + 2))) (product-is (length d - 4 - i + 1) (i + 2) (ap (λ t. at t 2) a) (ap (λ t. at t 1) b) (omega (arith, n))))

@@ -22,7 +22,7 @@ fn move_four(undo: bool, y: &mut [i64], i: usize, amounts: Four)
     requires { ⌜ Within (2 ^ 61) (listed amounts) ⌝ }
     ensures { λ _. ⌜ now (y .exit) ≡ stored (now (y .entry)) i (movedFour undo (now (y .entry)) i amounts) ⌝ }
 {
-    let made = fours::joined(undo, fours::taken(y, i), amounts);
+    let made = fours::sum_or_difference(undo, fours::four_at(y, i), amounts);
     fours::put(y, i, made);
 }
 
@@ -34,7 +34,7 @@ fn first_at(back: &[i64], flips: &[i64], y: &[i64], top: &[i64], i: usize) -> i6
     requires { ⌜ Within (2 ^ 60) (now top) ⌝ }
     ensures { λ r. ⌜ (r ≡ at (now (top .entry)) i +ℤ round 30 (rowAt (now (back .entry)) (now (flips .entry)) (now (y .entry)) i)) × (natAbs r ≤ 2 ^ 61) ⌝ }
 {
-    top[i] + integers::rounded(order::row(back, flips, y, i), 30)
+    top[i] + integers::rounded(order::row_at(back, flips, y, i), 30)
 }
 
 // Stage 1: adds top and the rounded sums to bottom, or subtracts them when undoing.
@@ -78,9 +78,9 @@ fn second_at(undo: bool, back: &[i64], flips: &[i64], y: &[i64], top: &[i64], i:
     requires { ⌜ Order (length (now y)) (now back) (now flips) ⌝ }
     requires { ⌜ Scaled (now back) (now flips) (now y) ⌝ }
     requires { ⌜ natAbs (at (now top) i) ≤ 2 ^ 60 ⌝ }
-    ensures { λ r. ⌜ r ≡ Moves.second undo i (at (now (top .entry)) i) (round 31 (rowAt (now (back .entry)) (now (flips .entry)) (now (y .entry)) i)) ⌝ }
+    ensures { λ r. ⌜ r ≡ Moves.stage2At undo i (at (now (top .entry)) i) (round 31 (rowAt (now (back .entry)) (now (flips .entry)) (now (y .entry)) i)) ⌝ }
 {
-    let amount = integers::rounded(order::row(back, flips, y, i), 31);
+    let amount = integers::rounded(order::row_at(back, flips, y, i), 31);
     if undo {
         return flipped(i, top[i] - amount);
     }
@@ -93,7 +93,7 @@ pub fn second(undo: bool, back: &[i64], flips: &[i64], y: &[i64], top: &mut [i64
     requires { ⌜ Order (length (now y)) (now back) (now flips) ⌝ }
     requires { ⌜ Scaled (now back) (now flips) (now y) ⌝ }
     requires { ⌜ Within (2 ^ 60) (now top) ⌝ }
-    ensures { λ _. ⌜ now (top .exit) ≡ places (length (now (top .entry))) (λ i. Moves.second undo i (at (now (top .entry)) i) (round 31 (rowAt (now (back .entry)) (now (flips .entry)) (now (y .entry)) i))) ⌝ }
+    ensures { λ _. ⌜ now (top .exit) ≡ places (length (now (top .entry))) (λ i. Moves.stage2At undo i (at (now (top .entry)) i) (round 31 (rowAt (now (back .entry)) (now (flips .entry)) (now (y .entry)) i))) ⌝ }
 {
     let mut i = 0;
     while i < top.len() {
@@ -133,12 +133,12 @@ fn third_at(
     requires { ⌜ Thirds (now z) (now back) (now flips) (now y) ⌝ }
     requires { ⌜ Within (2 ^ 28) (now tangents) ⌝ }
     requires { ⌜ Within 6000000 (now top) ⌝ }
-    ensures { λ r. ⌜ (r ≡ round 34 (Moves.third (secantOut (length (now (y .entry))) (at (now (z .entry))) i) (rowAt (now (back .entry)) (now (flips .entry)) (now (y .entry)) i) (at (now (tangents .entry)) j *ℤ at (now (top .entry)) j))) × (natAbs r ≤ 2 ^ 61) ⌝ }
+    ensures { λ r. ⌜ (r ≡ round 34 (Moves.stage3Amount (secantOut (length (now (y .entry))) (at (now (z .entry))) i) (rowAt (now (back .entry)) (now (flips .entry)) (now (y .entry)) i) (at (now (tangents .entry)) j *ℤ at (now (top .entry)) j))) × (natAbs r ≤ 2 ^ 61) ⌝ }
 {
     let sum = third_amount(
         16,
         order::secant_row(z, i),
-        order::row(back, flips, y, i),
+        order::row_at(back, flips, y, i),
         tangents[j] * top[j],
     );
     integers::rounded(sum, 34)
@@ -161,7 +161,7 @@ pub fn third(
     requires { ⌜ Within (2 ^ 28) (now tangents) ⌝ }
     requires { ⌜ Within 6000000 (now top) ⌝ }
     requires { ⌜ Within (2 ^ 60) (now bottom) ⌝ }
-    ensures { λ _. ⌜ now (bottom .exit) ≡ places (length (now (bottom .entry))) (λ i. moved undo (at (now (bottom .entry)) i) (round 34 (Moves.third (secantOut (length (now (bottom .entry))) (at (now (z .entry))) i) (rowAt (now (back .entry)) (now (flips .entry)) (now (y .entry)) i) (at (now (tangents .entry)) (length (now (bottom .entry)) - 1 - i) *ℤ at (now (top .entry)) (length (now (bottom .entry)) - 1 - i))))) ⌝ }
+    ensures { λ _. ⌜ now (bottom .exit) ≡ places (length (now (bottom .entry))) (λ i. moved undo (at (now (bottom .entry)) i) (round 34 (Moves.stage3Amount (secantOut (length (now (bottom .entry))) (at (now (z .entry))) i) (rowAt (now (back .entry)) (now (flips .entry)) (now (y .entry)) i) (at (now (tangents .entry)) (length (now (bottom .entry)) - 1 - i) *ℤ at (now (top .entry)) (length (now (bottom .entry)) - 1 - i))))) ⌝ }
 {
     let mut i = 0;
     while i < bottom.len() {
@@ -178,7 +178,7 @@ pub fn third(
 }
 
 // A rounded product.
-fn product(c: i64, x: i64) -> i64
+fn rounded_product(c: i64, x: i64) -> i64
     requires { ⌜ (natAbs c ≤ 2 ^ 28) × (natAbs x ≤ 2 ^ 34) ⌝ }
     ensures { λ r. ⌜ (r ≡ round 28 (c *ℤ x)) × (natAbs r ≤ 2 ^ 61) ⌝ }
 {
@@ -191,13 +191,13 @@ fn move_by_products(undo: bool, c: Four, x: Four, y: &mut [i64], i: usize)
     requires { ⌜ ((j : ℕ) → natAbs (at (now y) (i + j)) ≤ 2 ^ 60) ⌝ }
     requires { ⌜ Within (2 ^ 28) (listed c) ⌝ }
     requires { ⌜ Within (2 ^ 34) (listed x) ⌝ }
-    ensures { λ _. ⌜ now (y .exit) ≡ stored (now (y .entry)) i (movedFour undo (now (y .entry)) i (Moves.products c x)) ⌝ }
+    ensures { λ _. ⌜ now (y .exit) ≡ stored (now (y .entry)) i (movedFour undo (now (y .entry)) i (Moves.roundedProducts c x)) ⌝ }
 {
     let amounts = Four {
-        a: product(c.a, x.d),
-        b: product(c.b, x.c),
-        c: product(c.c, x.b),
-        d: product(c.d, x.a),
+        a: rounded_product(c.a, x.d),
+        b: rounded_product(c.b, x.c),
+        c: rounded_product(c.c, x.b),
+        d: rounded_product(c.d, x.a),
     };
     move_four(undo, y, i, amounts);
 }
@@ -214,7 +214,7 @@ pub fn fourth(undo: bool, c: &[i64], x: &[i64], y: &mut [i64])
     let mut i = 0;
     while i < y.len() {
         let far = y.len() - 4 - i;
-        move_by_products(undo, fours::taken(c, i), fours::taken(x, far), y, i);
+        move_by_products(undo, fours::four_at(c, i), fours::four_at(x, far), y, i);
         i += 4;
     }
 }
@@ -231,8 +231,8 @@ pub fn fifth(undo: bool, c: &[i64], x: &[i64], y: &mut [i64])
     let mut i = 0;
     while i < y.len() {
         let far = y.len() - 4 - i;
-        let factors = fours::turned(fours::taken(c, far));
-        move_by_products(undo, factors, fours::taken(x, far), y, i);
+        let factors = fours::reversed(fours::four_at(c, far));
+        move_by_products(undo, factors, fours::four_at(x, far), y, i);
         i += 4;
     }
 }

@@ -10,7 +10,7 @@ use lib.ListN.{length, take, drop}
 use lib.Seq.{slice, slice-empty, length-take-le}
 use Rattle.text_runs.specs.Line.{lineLimit}
 use Rattle.feeding.specs.Program.{Program, handed}
-use Rattle.feeding.specs.Feed.{Reader, handedOn, fed, restFed, ended}
+use Rattle.feeding.specs.Feed.{Reader, handedOn, fed, restFed, readerEnded}
 use Rattle.feeding.proofs.FeedLaws.{fed-over, fed-twice}
 use Rattle.pieces.specs.declared.line.Gathered.{Gathered}
 use Rattle.pieces.specs.Own.Gathers.{Gathers}
@@ -154,7 +154,7 @@ module _ (P : Program) {L : Limits P} {line out : List ℕ} {p : Place P} where
 
 pub ends : (P : Program) {L : Limits P} {line out out₁ out′ : List ℕ} {p m r : Place P} {given : P .State × List ℕ} {next : ℕ} → Rests P L line out p m out₁
     → Gives P L given out₁ (m .waiting) next r out′ → given ≡ P .end (m .state) → p .waiting + L .most + L .most ≤ length out → Ends P line out p r out′
-unfolding readerOf ended
+unfolding readerOf readerEnded
 ends P {out₁ = out₁} {out′ = out′} {m = m} {r = r} {given = given} h g e room = record {
   is = ap (λ (s : P .State). (s, take (r .waiting) out′)) (g .state)
       ∙ ap (λ (t : List ℕ). (given .0, t)) (g .put .is)

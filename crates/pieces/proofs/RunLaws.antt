@@ -9,17 +9,17 @@ use lib.ListN.{length, take, length-take}
 use lib.Seq.{slice, length-slice, take-take}
 use Rattle.text_runs.specs.Line.{lineLimit}
 use Rattle.feeding.specs.Program.{Program}
-use Rattle.feeding.specs.Feed.{Reader, begun, fed, ended}
+use Rattle.feeding.specs.Feed.{Reader, readerBegun, fed, readerEnded}
 use Rattle.feeding.specs.Budget.{Bounded, accepts}
 use Rattle.feeding.specs.Own.Behind.{behind}
 use Rattle.feeding.proofs.FeedLaws.{fed-twice, fed-fits}
 use Rattle.feeding.proofs.BudgetLaws.{counted, over-at-none}
 use Rattle.feeding.proofs.BehindLaws.{printed-behind, ended-behind}
 use Rattle.feeding.proofs.Cuts.{all-printed}
-use Rattle.pieces.specs.declared.reading.Filled.{Filled}
+use Rattle.pieces.specs.declared.reading.PieceRead.{PieceRead}
 use Rattle.pieces.specs.Own.Refills.{Refills}
 use Rattle.pieces.specs.Piece.{Limits, Place, reader, readerOf, Took, Ends}
-use Rattle.pieces.specs.Run.{Came, Ran, Whole}
+use Rattle.pieces.specs.Run.{Came, Ran, RanToTheEnd}
 use Rattle.pieces.proofs.SliceLaws.{le-or-lt, take-slice}
 
 -- the place is another
@@ -35,20 +35,20 @@ unfolding behind
 fresh P s had printed = ap (reader P s had) (append-nil printed)
 
 pub ran-first : (P : Program) {s s′ : P .State} (buffer line : List ℕ) → s′ ≡ s → Ran P s (take 0 buffer) line (record { state = s′; had = 0; waiting = 0; at = 0 })
-unfolding begun fed
+unfolding readerBegun fed
 ran-first P buffer line e = record { before = []; written = []; is = ap (λ (x : P .State). reader P x [] []) e }
 
 -- ---- the piece goes on, or another comes behind it
-module _ (P : Program) {s : P .State} {buffer line : List ℕ} {count : ℕ} {p : Place P} (ran : Ran P s (take count buffer) line p) {f : Filled} {buffer′ : List ℕ}
+module _ (P : Program) {s : P .State} {buffer line : List ℕ} {count : ℕ} {p : Place P} (ran : Ran P s (take count buffer) line p) {f : PieceRead} {buffer′ : List ℕ}
     (h : Refills buffer count (p .at) f buffer′) where
   ran-stays : p .at < count → Ran P s (take (f .count) buffer′) line (onAt P p (f .at))
   ran-stays l = let t = h .stays l in record {
     before = ran .before;
     written = ran .written;
     is = ran .is
-        ∙ ap (λ (n : ℕ). fed P (begun P s) (ran .before ++ take n (take count buffer))) (sym (t .2))
-        ∙ ap (λ (n : ℕ). fed P (begun P s) (ran .before ++ take (f .at) (take n buffer))) (sym (t .1))
-        ∙ ap (λ (b : List ℕ). fed P (begun P s) (ran .before ++ take (f .at) (take (f .count) b))) (sym (t .0));
+        ∙ ap (λ (n : ℕ). fed P (readerBegun P s) (ran .before ++ take n (take count buffer))) (sym (t .2))
+        ∙ ap (λ (n : ℕ). fed P (readerBegun P s) (ran .before ++ take (f .at) (take n buffer))) (sym (t .1))
+        ∙ ap (λ (b : List ℕ). fed P (readerBegun P s) (ran .before ++ take (f .at) (take (f .count) b))) (sym (t .0));
   }
 
   ran-next : count ≤ p .at → Ran P s (take (f .count) buffer′) line (onAt P p (f .at))
@@ -56,8 +56,8 @@ module _ (P : Program) {s : P .State} {buffer line : List ℕ} {count : ℕ} {p 
     before = ran .before ++ take (p .at) (take count buffer);
     written = ran .written;
     is = ran .is
-        ∙ ap (fed P (begun P s)) (sym (append-nil (ran .before ++ take (p .at) (take count buffer))))
-        ∙ ap (λ (n : ℕ). fed P (begun P s) ((ran .before ++ take (p .at) (take count buffer)) ++ take n (take (f .count) buffer′))) (sym (h .next l));
+        ∙ ap (fed P (readerBegun P s)) (sym (append-nil (ran .before ++ take (p .at) (take count buffer))))
+        ∙ ap (λ (n : ℕ). fed P (readerBegun P s) ((ran .before ++ take (p .at) (take count buffer)) ++ take n (take (f .count) buffer′))) (sym (h .next l));
   }
 
   pub ran-refilled : Ran P s (take (f .count) buffer′) line (onAt P p (f .at))
@@ -76,22 +76,22 @@ ran-took P {s = s} {piece} {line} {out} {line′} {out′} {p} {r} ran none t =
       is = ap (behind P (ran .written)) (t .is ∙ ap (λ (n : ℕ). fed P (reader P (p .state) h (take n out)) part) none)
           ∙ sym (printed-behind P (ran .written) (reader P (p .state) h []) part)
           ∙ ap (λ (x : Reader P). fed P x part) (fresh P (p .state) h (ran .written) ∙ ran .is)
-          ∙ sym (fed-twice P (begun P s) (ran .before ++ take (p .at) piece) part)
-          ∙ ap (fed P (begun P s)) (append-assoc (ran .before) (take (p .at) piece) part ∙ ap (λ (l : List ℕ). ran .before ++ l) (take-slice piece (p .at) (r .at) (t .goes)));
+          ∙ sym (fed-twice P (readerBegun P s) (ran .before ++ take (p .at) piece) part)
+          ∙ ap (fed P (readerBegun P s)) (append-assoc (ran .before) (take (p .at) piece) part ∙ ap (λ (l : List ℕ). ran .before ++ l) (take-slice piece (p .at) (r .at) (t .goes)));
     }
 
 pub ran-came : (P : Program) {s : P .State} {piece line : List ℕ} {p : Place P} → Ran P s piece line p → Came P s line p
 ran-came P {piece = piece} {p = p} ran = record { read = ran .before ++ take (p .at) piece; written = ran .written; is = ran .is }
 
 -- ---- the end
-pub whole : (P : Program) {s : P .State} {line out out′ : List ℕ} {p r : Place P} → Came P s line p → p .waiting ≡ 0 → Ends P line out p r out′ → Whole P s r out′
+pub whole : (P : Program) {s : P .State} {line out out′ : List ℕ} {p r : Place P} → Came P s line p → p .waiting ≡ 0 → Ends P line out p r out′ → RanToTheEnd P s r out′
 unfolding readerOf
 whole P {s = s} {line} {out} {out′} {p} {r} came none e =
     let h : List ℕ = take (p .had) line in
-    let all : (r .state, came .written ++ take (r .waiting) out′) ≡ ended P (fed P (begun P s) (came .read)) =
-    ap (λ (x : P .State × List ℕ). (x .0, came .written ++ x .1)) (e .is ∙ ap (λ (n : ℕ). ended P (reader P (p .state) h (take n out))) none)
+    let all : (r .state, came .written ++ take (r .waiting) out′) ≡ readerEnded P (fed P (readerBegun P s) (came .read)) =
+    ap (λ (x : P .State × List ℕ). (x .0, came .written ++ x .1)) (e .is ∙ ap (λ (n : ℕ). readerEnded P (reader P (p .state) h (take n out))) none)
     ∙ sym (ended-behind P (came .written) (reader P (p .state) h []))
-    ∙ ap (ended P) (fresh P (p .state) h (came .written) ∙ came .is)
+    ∙ ap (readerEnded P) (fresh P (p .state) h (came .written) ∙ came .is)
     in
     record {
       read = came .read;

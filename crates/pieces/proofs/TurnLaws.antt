@@ -9,7 +9,7 @@ use lib.Seq.{length-take-le}
 use Rattle.text_runs.specs.Line.{lineLimit}
 use Rattle.feeding.specs.Program.{Program}
 use Rattle.feeding.specs.Budget.{Bounded, accepts}
-use Rattle.pieces.specs.declared.reading.Filled.{Filled}
+use Rattle.pieces.specs.declared.reading.PieceRead.{PieceRead}
 use Rattle.pieces.specs.Own.Refills.{Refills}
 use Rattle.pieces.specs.Piece.{Limits, Place, reader, Buffers, Took}
 use Rattle.pieces.specs.Run.{Came, Ran}
@@ -49,7 +49,7 @@ module _ (P : Program) {L : Limits P} {s : P .State} {buffer line out : List ℕ
   pub turns-came : lost ≡ false → Came P s line p
   turns-came e = ran-came P (k .ran e)
 
-  module _ {f : Filled} {buffer′ : List ℕ} (h : Refills buffer count (p .at) f buffer′) (same : length buffer′ ≡ length buffer) where
+  module _ {f : PieceRead} {buffer′ : List ℕ} (h : Refills buffer count (p .at) f buffer′) (same : length buffer′ ≡ length buffer) where
     piece-long : length (take (f .count) buffer′) ≡ f .count
     piece-long = length-take-le (f .count) buffer′ (omega (arith, h .fits))
 

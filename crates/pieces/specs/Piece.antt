@@ -8,7 +8,7 @@ use lib.Seq.{slice}
 use Rattle.text_runs.specs.Line.{lineLimit}
 use Rattle.decimal.specs.Own.Put.{Put}
 use Rattle.feeding.specs.Program.{Program, handed}
-use Rattle.feeding.specs.Feed.{Reader, handedOn, fed, restFed, ended}
+use Rattle.feeding.specs.Feed.{Reader, handedOn, fed, restFed, readerEnded}
 
 -- What the code of a program needs besides: the bytes that it prints for a line at most, and limits that its states keep.
 pub record Limits (P : Program) : Type 1 where
@@ -74,5 +74,5 @@ pub record Rests (P : Program) (L : Limits P) (line out : List ℕ) (p r : Place
 
 -- And the end is told: the state afterwards, and all that is printed.
 pub record Ends (P : Program) (line out : List ℕ) (p r : Place P) (out′ : List ℕ) : Type 0 where
-  pub is : (r .state, take (r .waiting) out′) ≡ ended P (readerOf P p line out)
+  pub is : (r .state, take (r .waiting) out′) ≡ readerEnded P (readerOf P p line out)
   pub room : r .waiting ≤ length out

@@ -10,7 +10,7 @@ ghost use Rattle.pieces.specs.Own.Refills.{filledBy, Refills};
 const MOST_TRIES: usize = 1000;
 
 // A piece in the first `count` bytes of a buffer, and where to go on in it. With no byte in it the input has ended, or a read has failed.
-pub struct Filled {
+pub struct PieceRead {
     pub count: usize,
     pub at: usize,
     pub failed: bool,
@@ -37,12 +37,12 @@ fn read(input: i32, buffer: &mut [u8]) -> isize {
 }
 
 // What a read answered: a failed one is no end of the input.
-fn filled_by(got: isize, buffer: &[u8]) -> Filled
+fn filled_by(got: isize, buffer: &[u8]) -> PieceRead
     ensures { λ r. ⌜ r ≡ filledBy got (length (now (buffer .entry))) ⌝ }
 {
     let count = io::count(got, buffer);
     let failed = got < 0;
-    Filled {
+    PieceRead {
         count: count,
         at: 0,
         failed: failed,
@@ -50,12 +50,12 @@ fn filled_by(got: isize, buffer: &[u8]) -> Filled
 }
 
 // Goes on in a piece, or reads the next one where it is used up. A read that fails is told on standard error, with its reason.
-pub fn refill(input: i32, buffer: &mut [u8], count: usize, at: usize) -> Filled
+pub fn refill(input: i32, buffer: &mut [u8], count: usize, at: usize) -> PieceRead
     requires { ⌜ (at ≤ count) × (count ≤ length (now buffer)) ⌝ }
     ensures { λ r. ⌜ Refills (now (buffer .entry)) count at r (now (buffer .exit)) ⌝ }
 {
     if at < count {
-        return Filled {
+        return PieceRead {
             count: count,
             at: at,
             failed: false,
@@ -70,7 +70,7 @@ pub fn refill(input: i32, buffer: &mut [u8], count: usize, at: usize) -> Filled
 }
 
 // Whether a program reads on: there was a byte, nothing was lost, and it is not over.
-pub fn goes_on(count: usize, lost: bool, over: bool) -> bool
+pub fn reads_on(count: usize, lost: bool, over: bool) -> bool
     ensures { λ r. ⌜ (r ≡ true → (0 < count) × (lost ≡ false) × (over ≡ false)) ⌝ }
     ensures { λ r. ⌜ (r ≡ false → (lost ≡ true) ⊎ (count ≡ 0) ⊎ (over ≡ true)) ⌝ }
 {

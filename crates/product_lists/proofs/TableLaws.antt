@@ -19,7 +19,7 @@ use Rattle.slices.specs.Own.Fours.{listed, stored}
 use Rattle.products.specs.Own.Products.{Lists, Laid, Power, downL, wide, tables, nine}
 use Rattle.products.specs.Own.Rooms.{Small, Written, AllWritten, AllSpread}
 use Rattle.products.specs.Own.Whole.{LeafLists}
-use Rattle.product_lists.specs.Own.Tables.{middles, Tabled, Halved}
+use Rattle.product_lists.specs.Own.Tables.{middles, Tabled, TablesHalved}
 use Rattle.slices.proofs.FourLaws.{next-four, length-stored}
 use Rattle.products.proofs.RoomLaws.{written-none, written-next, next-one, all-written-next}
 use Rattle.products.proofs.LevelLaws.{wide-top, wide-leaf, wide-times, differing-size}
@@ -166,7 +166,7 @@ tables-small {m} p B L w f l v i h =
     let four : 4 * (2 ^ l * B) ≤ wide m l * (2 ^ l * B) = mul-le-mul-right (2 ^ l * B) (wide-some p l h) in
     omega (arith, tables-within m B L w l v i, e, four)
 
-pub halved-top : (m : ℕ) (r : List ℤ) → Tabled m r → Halved m r m 1 r
+pub halved-top : (m : ℕ) (r : List ℤ) → Tabled m r → TablesHalved m r m 1 r
 unfolding tables top-level
 halved-top m r h = record {
   here = top-level (h .power);
@@ -174,7 +174,7 @@ halved-top m r h = record {
   laid = record { long = omega (arith, h .long, rw (wide-top (h .power)) at (level-room (h .power) 0 (omega arith))); laid = λ v i l k. let e : v * (m + m) + i ≡ i = omega (arith, ap (λ w. w * (m + m)) (let z : v ≡ 0 = omega arith in z)) in ap (at r) e ∙ sym (getD-take (m + m) r i (pos 0) k) };
 }
 
-module _ {m n k : ℕ} {r₀ r : List ℤ} (d : Halved m r₀ n k r) (g : Tabled m r₀) (more : 4 < n) where
+module _ {m n k : ℕ} {r₀ r : List ℤ} (d : TablesHalved m r₀ n k r) (g : Tabled m r₀) (more : 4 < n) where
   four-times : n + n ≡ n / 2 + n / 2 + (n / 2 + n / 2)
   four-times = omega (arith, half (d .here) more)
 
@@ -187,7 +187,7 @@ module _ {m n k : ℕ} {r₀ r : List ℤ} (d : Halved m r₀ n k r) (g : Tabled
   pub halve-small : Small 0 (k * (n / 2 + n / 2 + (n / 2 + n / 2))) r
   halve-small = record { small = λ p b l. let e : k * (n + n) ≡ k * (n / 2 + n / 2 + (n / 2 + n / 2)) = ap (λ x. k * x) four-times in omega (arith, laid-small (2 ^ 60) (d .laid) (omega arith) (λ v i. tables-small (d .here .power) (g .most) (take (m + m) r₀) (g .within) (g .fits) (d .here .level) v i (d .here .inside)) p (omega arith)) }
 
-  pub halved-next : (r′ : List ℤ) → length r′ ≡ length r → ((L : Lists) → Laid (n / 2 + n / 2 + (n / 2 + n / 2)) k L r → Laid (n / 2 + n / 2) (3 * k) (downL (n / 2) k L) r′) → Halved m r₀ (n / 2) (k * 3) r′
+  pub halved-next : (r′ : List ℤ) → length r′ ≡ length r → ((L : Lists) → Laid (n / 2 + n / 2 + (n / 2 + n / 2)) k L r → Laid (n / 2 + n / 2) (3 * k) (downL (n / 2) k L) r′) → TablesHalved m r₀ (n / 2) (k * 3) r′
   unfolding tables next-level
   halved-next r′ same f =
       let L = tables m (take (m + m) r₀) (d .here .level) in
@@ -197,7 +197,7 @@ module _ {m n k : ℕ} {r₀ r : List ℤ} (d : Halved m r₀ n k r) (g : Tabled
         laid = record { long = omega (arith, t .long); laid = λ v i b c. t .laid v i (omega arith) c ∙ ap₂ (λ x y. downL x y L v i) (half-is (d .here) more) (d .here .count) };
       }
 
-pub halved-end : {m n k : ℕ} {r₀ r : List ℤ} → Halved m r₀ n k r → n ≤ 4 → (p : Power m) → (k ≡ 3 ^ p .levels) × Laid 8 k (tables m (take (m + m) r₀) (p .levels)) r
+pub halved-end : {m n k : ℕ} {r₀ r : List ℤ} → TablesHalved m r₀ n k r → n ≤ 4 → (p : Power m) → (k ≡ 3 ^ p .levels) × Laid 8 k (tables m (take (m + m) r₀) (p .levels)) r
 halved-end {m} {n} {k} {r₀} {r} d h p =
     let L = take (m + m) r₀ in
     let e = last-level (d .here) h p in

@@ -1,2 +1,2 @@
-// What a product takes of its table: the leaf lists, made once.
+// What a Hankel product takes of its table: the leaf lists, made once.
 pub mod lists;

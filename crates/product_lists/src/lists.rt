@@ -22,7 +22,7 @@ fn copy_list(room: &mut [i64], from: usize, to: usize, h: usize)
 {
     let mut i = 0;
     while i < h {
-        let x = fours::taken(room, from + i);
+        let x = fours::four_at(room, from + i);
         fours::put(room, to + i, x);
         i += 4;
     }
@@ -131,8 +131,8 @@ fn nines(lists: &[i64], out: &mut [i64], k: usize)
 {
     let mut v = 0;
     while v < k {
-        let x = fours::taken(lists, v * 8);
-        let y = fours::taken(lists, v * 8 + 4);
+        let x = fours::four_at(lists, v * 8);
+        let y = fours::four_at(lists, v * 8 + 4);
         put_nine(out, v * 9, nine_of(x, y));
         v += 1;
     }

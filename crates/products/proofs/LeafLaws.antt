@@ -16,7 +16,7 @@ use Rattle.integers.proofs.PlaceLaws.{within-places, at-places, places-ext, pla
 use Rattle.slices.specs.declared.fours.Four.{Four}
 use Rattle.products.specs.declared.leaf.Nine.{Nine}
 use Rattle.slices.specs.Own.Fours.{listed, stored}
-use Rattle.products.specs.Own.Products.{Lists, Laid, product, products, Sized, nine}
+use Rattle.products.specs.Own.Products.{Lists, Laid, product, products, BothWithin, nine}
 use Rattle.products.specs.Own.Leaf.{listedNine, Fit, Leaf, Leaves, Leafed}
 use Rattle.slices.proofs.FourLaws.{length-stored, stored-out, stored-is}
 use Rattle.products.proofs.RoomLaws.{next-one}
@@ -87,7 +87,7 @@ two-fit l m n x y hl hm hn hx hy p q r =
       middle = omega (arith, natAbs-*ℤ-le n (x +ℤ y) hn s);
     }
 
-module _ {P : ℕ} {g a : ℕ → ℤ} (s : Sized P g a) (f : 4 * P < 2 ^ 62) where
+module _ {P : ℕ} {g a : ℕ → ℤ} (s : BothWithin P g a) (f : 4 * P < 2 ^ 62) where
   numbers-small : 4 * s .most < 2 ^ 62
   numbers-small = let l : 1 * s .most ≤ s .most-list * s .most = mul-le-mul-right (s .most) (s .some) in omega (arith, l, s .both, f)
 
@@ -119,7 +119,7 @@ module _ {P : ℕ} {g a : ℕ → ℤ} (s : Sized P g a) (f : 4 * P < 2 ^ 62) wh
   fit-product i = omega (arith, product-size 4 i s, f)
 
 -- numbers of which only four count
-pub sized-four : {P : ℕ} {g a : ℕ → ℤ} (x : List ℤ) → x ≡ places 4 a → Sized P g a → Sized P g (at x)
+pub sized-four : {P : ℕ} {g a : ℕ → ℤ} (x : List ℤ) → x ≡ places 4 a → BothWithin P g a → BothWithin P g (at x)
 sized-four {a = a} x e s = record {
   most-list = s .most-list;
   most = s .most;

@@ -13,7 +13,7 @@ use Rattle.integers.proofs.Order.{natAbs-+ℤ-le, natAbs-*ℤ-le, natAbs--ℤ}
 use Rattle.integers.proofs.PlaceLaws.{sum-ext}
 use Rattle.integers.proofs.Permutations.{sum-plus}
 use Rattle.integers.proofs.Differences.{dif, zs}
-use Rattle.products.specs.Own.Products.{Lists, product, products, down, downL, up, wide, numbers, tables, raised, Power, Sized, Sizes}
+use Rattle.products.specs.Own.Products.{Lists, product, products, down, downL, up, wide, numbers, tables, raised, Power, BothWithin, ProductFits}
 
 -- a sum in two parts
 pub sum-split : (m n : ℕ) (f : ℕ → ℤ) → sum (m + n) f ≡ sum m f +ℤ sum n (λ j. f (m + j))
@@ -154,11 +154,11 @@ pub differing-size : (x y : ℤ) {n : ℕ} → natAbs x ≤ n → natAbs y ≤ n
 differing-size x y l r = omega (arith, natAbs--ℤ x y)
 
 -- the lists of a level below, v of them
-pub sized-down : (h k : ℕ) (L a : Lists) {P : ℕ} → ((v : ℕ) → Sized P (L v) (a v)) → (v : ℕ) → Sized (P * 2) (downL h k L v) (down h k a v)
+pub sized-down : (h k : ℕ) (L a : Lists) {P : ℕ} → ((v : ℕ) → BothWithin P (L v) (a v)) → (v : ℕ) → BothWithin (P * 2) (downL h k L v) (down h k a v)
 unfolding down downL
 sized-down h k L a {P} s v = by (ltb v (2 * k)) refl
   where
-    by : (t : Bool) → ltb v (2 * k) ≡ t → Sized (P * 2) (downL h k L v) (down h k a v)
+    by : (t : Bool) → ltb v (2 * k) ≡ t → BothWithin (P * 2) (downL h k L v) (down h k a v)
     by true e = let r = s (v / 2) in record {
       most-list = 2 * r .most-list;
       most = r .most;
@@ -181,14 +181,14 @@ unfolding sum
 sum-size zero f s = omega arith
 sum-size (suc n) f {X} s = omega (arith, natAbs-+ℤ-le (sum n f) (f n) (sum-size n f s) (s n))
 
-pub product-size : (n : ℕ) {L a : ℕ → ℤ} (i : ℕ) {P : ℕ} → Sized P L a → natAbs (product n L a i) ≤ n * P
+pub product-size : (n : ℕ) {L a : ℕ → ℤ} (i : ℕ) {P : ℕ} → BothWithin P L a → natAbs (product n L a i) ≤ n * P
 unfolding product
 product-size n {L} {a} i {P} s =
     sum-size n _ (λ j. let l : natAbs (L (i + j) *ℤ a j) ≤ s .most-list * s .most = natAbs-*ℤ-le (L (i + j)) (a j) (s .list-size (i + j)) (s .size j) in omega (arith, l, s .both))
 
 -- the limits of a table and a list so small that every number on the way is below 2^62
-module _ {m : ℕ} (p : Power m) {L a : List ℤ} (z : Sizes m L a) where
-  pub level-sized : (l v : ℕ) → Sized (z .most-list * z .most * 2 ^ l) (tables m L l v) (numbers m a l v)
+module _ {m : ℕ} (p : Power m) {L a : List ℤ} (z : ProductFits m L a) where
+  pub level-sized : (l v : ℕ) → BothWithin (z .most-list * z .most * 2 ^ l) (tables m L l v) (numbers m a l v)
   unfolding tables numbers
   level-sized zero v = record { most-list = z .most-list; most = z .most; some = z .some; list-size = z .list-within .size; size = z .within .size; both = omega arith }
   level-sized (suc l) v =

@@ -10,7 +10,7 @@ use lib.Dec.{ltb}
 use lib.Pow.{pow-pos, pow-lt}
 use lib.IntN.{ℤ, natAbs}
 use Rattle.integers.specs.Places.{at}
-use Rattle.products.specs.Own.Products.{Lists, Laid, Power, Sizes, wide, numbers}
+use Rattle.products.specs.Own.Products.{Lists, Laid, Power, ProductFits, wide, numbers}
 use Rattle.products.specs.Own.Whole.{Level}
 use Rattle.products.proofs.LevelLaws.{wide-is, wide-next, wide-leaf, level-sized, level-fits}
 
@@ -69,7 +69,7 @@ laid-small {n} {k} {a} {r} X d z s p l =
     let e : p / n * n + p % n ≡ p = omega (arith, div-add-mod p n) in
     subst (λ q. natAbs (at r q) ≤ X) e (subst (λ t. natAbs t ≤ X) (sym (d .laid (p / n) (p % n) (div-lt-iff-lt-mul z .1 l) (mod-lt p z))) (s (p / n) (p % n)))
 
-module _ {m : ℕ} (p : Power m) {L a : List ℤ} (z : Sizes m L a) where
+module _ {m : ℕ} (p : Power m) {L a : List ℤ} (z : ProductFits m L a) where
   pub numbers-small : (l v i : ℕ) → l ≤ p .levels → natAbs (numbers m a l v i) ≤ 2 ^ 62 - 1
   numbers-small l v i h =
       let s = level-sized p z l v in

@@ -10,10 +10,10 @@ use lib.ListN.{length, take}
 use lib.Seq.{length-take-le, getD-take}
 use Rattle.integers.specs.Places.{at, places}
 use Rattle.integers.proofs.PlaceLaws.{by-places}
-use Rattle.products.specs.Own.Products.{Lists, Laid, Power, Sizes, product, products, down, up, wide, tables, numbers, nine}
+use Rattle.products.specs.Own.Products.{Lists, Laid, Power, ProductFits, product, products, down, up, wide, tables, numbers, nine}
 use Rattle.products.specs.Own.Rooms.{Small}
 use Rattle.products.specs.Own.Leaf.{Leaves}
-use Rattle.products.specs.Own.Whole.{LeafLists, Roomy, Given, Multiplied, Rising, Descended, Ascended}
+use Rattle.products.specs.Own.Whole.{LeafLists, Roomy, ProductInput, Multiplied, Rising, Descended, Ascended}
 use Rattle.products.proofs.LevelLaws.{wide-times, wide-next, wide-top, wide-leaf, level-up, level-sized, level-fits, products-small}
 use Rattle.products.proofs.LevelRooms.{power-same, three-pos, level-room, wide-fours, wide-some, laid-small, numbers-small, top-level, half-is, half, next-level, next-room, next-count, last-level}
 
@@ -33,7 +33,7 @@ module _ {m n k : ℕ} {r₀ r : List ℤ} (d : Descended m r₀ n k r) (more : 
   pub count-fits : {L : List ℤ} → Roomy m L r₀ → k * 3 ≤ length r
   count-fits g = omega (arith, next-count (d .here) more, descend-room g)
 
-  pub descend-small : {L : List ℤ} → Sizes m L (take m r₀) → Small 0 (k * (n / 2 + n / 2)) r
+  pub descend-small : {L : List ℤ} → ProductFits m L (take m r₀) → Small 0 (k * (n / 2 + n / 2)) r
   descend-small z = record { small = λ p b l. laid-small (2 ^ 62 - 1) (d .laid) (omega arith) (λ v i. numbers-small (d .here .power) z (d .here .level) v i (d .here .inside)) p (let e : k * n ≡ k * (n / 2 + n / 2) = ap (λ x. k * x) (half (d .here) more) in omega arith) }
 
   pub descended-next : (r′ : List ℤ) → length r′ ≡ length r → ((a : Lists) → Laid (n / 2 + n / 2) k a r → Laid (n / 2) (3 * k) (down (n / 2) k a) r′) → Descended m r₀ (n / 2) (k * 3) r′
@@ -163,7 +163,7 @@ laid-one m L a r d =
     (λ i l. getD-take m r i (pos 0) l ∙ ap (at r) (let e : i ≡ 0 * m + i = omega arith in e) ∙ d .laid 0 i (omega arith) l)
 
 -- ---- what the steps of the whole are given
-module _ {m : ℕ} {lists r : List ℤ} (g : Given m lists r) where
+module _ {m : ℕ} {lists r : List ℤ} (g : ProductInput m lists r) where
   pub given-roomy : Roomy m [] r
   given-roomy = let z = g .roomy .sizes in record {
     power = g .roomy .power;

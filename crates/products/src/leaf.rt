@@ -32,8 +32,8 @@ fn nine_at(x: &[i64], p: usize) -> Nine
     requires { ⌜ p + 9 ≤ length (now x) ⌝ }
     ensures { λ r. ⌜ listedNine r ≡ places 9 (λ j. at (now (x .entry)) (p + j)) ⌝ }
 {
-    let low = fours::taken(x, p);
-    let high = fours::taken(x, p + 4);
+    let low = fours::four_at(x, p);
+    let high = fours::four_at(x, p + 4);
     Nine {
         a: low.a,
         b: low.b,
@@ -82,7 +82,7 @@ pub fn leaves(lists: &[i64], room: &mut [i64], k: usize)
 {
     let mut v = 0;
     while v < k {
-        let x = fours::taken(room, v * 4);
+        let x = fours::four_at(room, v * 4);
         fours::put(room, v * 4, leaf(nine_at(lists, v * 9), x));
         v += 1;
     }

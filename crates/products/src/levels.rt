@@ -17,8 +17,8 @@ fn append_list(room: &mut [i64], from: usize, to: usize, h: usize)
 {
     let mut i = 0;
     while i < h {
-        let x = fours::taken(room, from + i);
-        let y = fours::taken(room, from + h + i);
+        let x = fours::four_at(room, from + i);
+        let y = fours::four_at(room, from + h + i);
         fours::put(room, to + i, fours::plus(x, y));
         i += 4;
     }
@@ -50,11 +50,11 @@ fn spread_list(less: bool, room: &mut [i64], to: usize, from: usize, h: usize)
 {
     let mut i = 0;
     while i < h {
-        let z = fours::taken(room, from + i);
-        let x = fours::taken(room, to + i);
-        let y = fours::taken(room, to + h + i);
-        fours::put(room, to + i, fours::joined(less, x, z));
-        fours::put(room, to + h + i, fours::joined(less, y, z));
+        let z = fours::four_at(room, from + i);
+        let x = fours::four_at(room, to + i);
+        let y = fours::four_at(room, to + h + i);
+        fours::put(room, to + i, fours::sum_or_difference(less, x, z));
+        fours::put(room, to + h + i, fours::sum_or_difference(less, y, z));
         i += 4;
     }
 }

@@ -1,4 +1,4 @@
-// The product of a list of 2m numbers with one of m, in one room for all levels.
+// The Hankel product of a list of 2m numbers with one of m, in one room for all levels.
 ghost use mathlib.Core.Path.{_≡_};
 ghost use mathlib.Core.List.{List, []};
 ghost use Prim.Native.Nat.{_^_};
@@ -6,7 +6,7 @@ ghost use lib.IntN.{ℤ};
 ghost use lib.ListN.{take};
 ghost use Rattle.integers.specs.Places.{places, at};
 ghost use Rattle.products.specs.Own.Products.{Power, Laid, products, numbers};
-ghost use Rattle.products.specs.Own.Whole.{Roomy, Given, LeafLists, Multiplied, Rising};
+ghost use Rattle.products.specs.Own.Whole.{Roomy, ProductInput, LeafLists, Multiplied, Rising};
 use crate::leaf;
 use crate::levels;
 
@@ -41,7 +41,7 @@ fn ascend(room: &mut [i64], m: usize, leaves: usize)
 
 // The first m numbers of the room become their product with the table L, of which `lists` has the leaf lists.
 pub fn product(lists: &[i64], room: &mut [i64], m: usize)
-    requires { ⌜ Given m (now lists) (now room) ⌝ }
+    requires { ⌜ ProductInput m (now lists) (now room) ⌝ }
     ensures { λ _. ⌜ ((L : List ℤ) → LeafLists m L (now (lists .entry)) → take m (now (room .exit)) ≡ places m (Rattle.products.specs.Own.Products.product m (at L) (at (take m (now (room .entry)))))) ⌝ }
 {
     let k = descend(room, m);

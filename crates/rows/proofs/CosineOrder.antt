@@ -13,15 +13,15 @@ use Rattle.integers.proofs.Order.{natAbs-*ℤ-le}
 use Rattle.integers.proofs.Ring.{negℤ-*ℤ, *ℤ-negℤ}
 use Rattle.integers.proofs.PlaceLaws.{length-places, at-places, within-places}
 use Rattle.tables.specs.Widths.{byWidth, halfWidth}
-use Rattle.tables.specs.Angles.{halfTurn, reflected, minus, signed}
+use Rattle.tables.specs.Angles.{halfTurn, reflected, belowZero, signed}
 use Rattle.tables.specs.Numbers.{sines, cosineOf}
 use Rattle.tables.proofs.ByWidth.{at-each, half-width-le}
 use Rattle.tables.proofs.Sizes.{cosine-size}
 use Rattle.tables.proofs.Quadrants.{signed-size}
 use Rattle.steps.specs.Steps.{cosine, alternate}
 use Rattle.steps.proofs.Lengths.{width-half}
-use Rattle.products.specs.Own.Products.{product, Sizes}
-use Rattle.products.specs.Own.Whole.{LeafLists, Given}
+use Rattle.products.specs.Own.Products.{product, ProductFits}
+use Rattle.products.specs.Own.Whole.{LeafLists, ProductInput}
 use Rattle.width_tables.specs.Orders.{angleAt, placeIn, signIn, placesOut, placeOut}
 use Rattle.width_tables.specs.Filled.{cosineList, productRoom}
 use Rattle.rows.specs.Orders.{Order, rowAt}
@@ -38,7 +38,7 @@ abbrev cosines : ℕ → ℕ → ℕ → ℤ
 cosines N m j = cosine N m (placeIn N j)
 
 matrices : (N : ℕ) → matrix (halfWidth N) (turned N) ≡ matrix (halfWidth N) (cosines N)
-unfolding tab cosine cosineOf sines halfWidth byWidth halfTurn reflected minus signed angleAt placeIn signIn placesOut placeOut
+unfolding tab cosine cosineOf sines halfWidth byWidth halfTurn reflected belowZero signed angleAt placeIn signIn placesOut placeOut
 matrices = at-each (λ N M. matrix M (turned N) ≡ matrix M (cosines N)) 4 16 64 0 refl refl refl (λ N x y z. refl)
 
 cosine-turned : (N : ℕ) → 0 < halfWidth N → Turned (halfWidth N) (placeIn N) (placeOut N) (signIn N) (cosine N) (cosineList N)
@@ -58,8 +58,8 @@ signFor b N j = cond b (alternate (placeIn N j) (signIn N j)) (signIn N j)
 
 sign-size : (b : Bool) (N j : ℕ) → natAbs (signFor b N j) ≤ 1
 unfolding alternate signIn
-sign-size true N j = rw (signed-size (eqb (placeIn N j % 2) 1) (signIn N j), signed-size (minus 256 (angleAt N j)) (pos 1)) (omega arith)
-sign-size false N j = rw (signed-size (minus 256 (angleAt N j)) (pos 1)) (omega arith)
+sign-size true N j = rw (signed-size (eqb (placeIn N j % 2) 1) (signIn N j), signed-size (belowZero 256 (angleAt N j)) (pos 1)) (omega arith)
+sign-size false N j = rw (signed-size (belowZero 256 (angleAt N j)) (pos 1)) (omega arith)
 
 signed-over : (b : Bool) (s x : ℤ) → signed b s *ℤ x ≡ s *ℤ signed b x
 unfolding signed
@@ -102,7 +102,7 @@ module _ (b : Bool) (N : ℕ) {ps ss : List ℤ} (p : ps ≡ places (halfWidth N
   module _ (m : ℕ) (wide : 0 < halfWidth N) (half : m ≡ halfWidth N) {lists x new : List ℤ} (rest : List ℤ)
       (q : LeafLists m (cosineList N) lists) (xl : length x ≡ halfWidth N) (w : Within 268000000 x) (is : new ≡ places m (rowAt ps ss x))
       (room : productRoom N ≤ length (new ++ rest)) where
-    sizes : Sizes m (cosineList N) new
+    sizes : ProductFits m (cosineList N) new
     unfolding cosineList
     sizes = record {
       most-list = 2 ^ 28;
@@ -122,7 +122,7 @@ module _ (b : Bool) (N : ℕ) {ps ss : List ℤ} (p : ps ≡ places (halfWidth N
         ∙ ap₂ (λ z i. z *ℤ at x i) (ap (λ l. at l j) s ∙ at-places (halfWidth N) _ j h) (above-at j h)
         ∙ sign-over b N x xl j h
 
-    pub cosine-given : Given m lists (new ++ rest)
+    pub cosine-given : ProductInput m lists (new ++ rest)
     cosine-given = given N m half rest q sizes long room
 
     pub cosine-rows : (y : List ℤ) → ((L : List ℤ) → LeafLists m L lists → take m y ≡ places m (product m (at L) (at (take m (new ++ rest))))) → CosineRows N (cond b (alternated x) x) y

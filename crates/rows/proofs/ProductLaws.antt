@@ -12,8 +12,8 @@ use Rattle.integers.specs.Places.{places, at}
 use Rattle.integers.proofs.PlaceLaws.{at-places}
 use Rattle.tables.specs.Widths.{byWidth, halfWidth}
 use Rattle.tables.proofs.ByWidth.{at-each}
-use Rattle.products.specs.Own.Products.{product, Power, Sizes}
-use Rattle.products.specs.Own.Whole.{LeafLists, Given}
+use Rattle.products.specs.Own.Products.{product, Power, ProductFits}
+use Rattle.products.specs.Own.Whole.{LeafLists, ProductInput}
 use Rattle.products.proofs.LevelLaws.{product-size}
 use Rattle.products.proofs.LevelRooms.{power-same}
 use Rattle.width_tables.specs.Filled.{productRoom}
@@ -29,16 +29,16 @@ room-le =
     (λ m e p. omega (arith, room-at 0 e p)) (λ m e p. omega (arith, room-at 2 e p)) (λ m e p. omega (arith, room-at 4 e p))
     (λ N x y z m e p. absurd (omega (arith, e, p .is, pow-pos (p .levels))))
 
-module _ (N m : ℕ) (half : m ≡ halfWidth N) {L lists new : List ℤ} (rest : List ℤ) (q : LeafLists m L lists) (s : Sizes m L new)
+module _ (N m : ℕ) (half : m ≡ halfWidth N) {L lists new : List ℤ} (rest : List ℤ) (q : LeafLists m L lists) (s : ProductFits m L new)
     (long : length new ≡ m) (room : productRoom N ≤ length (new ++ rest)) where
   front : take m (new ++ rest) ≡ new
   front = take-at new rest m long
 
-  pub given : Given m lists (new ++ rest)
+  pub given : ProductInput m lists (new ++ rest)
   given = record {
     table = L;
     leaves = q;
-    roomy = record { power = q .power; sizes = subst (Sizes m L) (sym front) s; long = omega (arith, room-le N m half (q .power), room) };
+    roomy = record { power = q .power; sizes = subst (ProductFits m L) (sym front) s; long = omega (arith, room-le N m half (q .power), room) };
   }
 
   module _ (y : List ℤ) (e : (L : List ℤ) → LeafLists m L lists → take m y ≡ places m (product m (at L) (at (take m (new ++ rest))))) where

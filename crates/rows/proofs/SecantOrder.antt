@@ -10,21 +10,21 @@ use lib.Dec.{T, eqb, ltb, lit≤}
 use lib.IntN.{ℤ, pos, negℤ, natAbs, _*ℤ_, *ℤ-comm}
 use lib.ListN.{length, getD, take}
 use Rattle.integers.specs.Places.{tab, places, at, Within}
-use Rattle.integers.specs.Tests.{below}
+use Rattle.integers.specs.Tests.{everyBelow}
 use Rattle.integers.proofs.Order.{natAbs-negℤ, natAbs-*ℤ}
 use Rattle.integers.proofs.Tested.{every-le}
 use Rattle.integers.proofs.Ring.{*ℤ-assoc, negℤ-*ℤ, one-*ℤ}
 use Rattle.integers.proofs.PlaceLaws.{length-places, at-places, within-places, sum-ext}
 use Rattle.tables.specs.Widths.{byWidth, halfWidth, scale}
-use Rattle.tables.specs.Angles.{halfTurn, reflected, minus, signed}
+use Rattle.tables.specs.Angles.{halfTurn, reflected, belowZero, signed}
 use Rattle.tables.specs.Numbers.{secants, secants8, secants32, secants128, secantOf}
 use Rattle.tables.proofs.ByWidth.{at-each, half-width-le}
 use Rattle.tables.proofs.Quadrants.{signed-size}
 use Rattle.steps.specs.Steps.{secant, oddOf}
 use Rattle.steps.proofs.Lengths.{width-half}
 use Rattle.width_tables.specs.Filled.{secantList, productRoom}
-use Rattle.products.specs.Own.Products.{product, Sizes}
-use Rattle.products.specs.Own.Whole.{LeafLists, Given}
+use Rattle.products.specs.Own.Products.{product, ProductFits}
+use Rattle.products.specs.Own.Whole.{LeafLists, ProductInput}
 use Rattle.rows.specs.Orders.{secantIn, secantOut}
 use Rattle.rows.specs.Sums.{secantSums, SecantRows}
 use Rattle.integers.proofs.Permutations.{back, back-at}
@@ -41,13 +41,13 @@ out M m = cond (eqb (m % 2) 0) (m / 2) (M - 1 - m / 2)
 sign : ℕ → ℕ → ℤ
 sign M j = cond (ltb (2 * j) M) (pos 1) (negℤ (pos 1))
 
-all-in : (N : ℕ) → T (below (halfWidth N) (back (place (halfWidth N)) (out (halfWidth N)) (halfWidth N)))
+all-in : (N : ℕ) → T (everyBelow (halfWidth N) (back (place (halfWidth N)) (out (halfWidth N)) (halfWidth N)))
 unfolding halfWidth byWidth place out
-all-in = at-each (λ N M. T (below M (back (place M) (out M) M))) 4 16 64 0 tt tt tt (λ N x y z. tt)
+all-in = at-each (λ N M. T (everyBelow M (back (place M) (out M) M))) 4 16 64 0 tt tt tt (λ N x y z. tt)
 
-all-out : (N : ℕ) → T (below (halfWidth N) (back (out (halfWidth N)) (place (halfWidth N)) (halfWidth N)))
+all-out : (N : ℕ) → T (everyBelow (halfWidth N) (back (out (halfWidth N)) (place (halfWidth N)) (halfWidth N)))
 unfolding halfWidth byWidth place out
-all-out = at-each (λ N M. T (below M (back (out M) (place M) M))) 4 16 64 0 tt tt tt (λ N x y z. tt)
+all-out = at-each (λ N M. T (everyBelow M (back (out M) (place M) M))) 4 16 64 0 tt tt tt (λ N x y z. tt)
 
 -- ---- the matrix
 abbrev turned : ℕ → ℕ → ℕ → ℕ → ℤ
@@ -57,7 +57,7 @@ abbrev secantsIn : ℕ → ℕ → ℕ → ℕ → ℤ
 secantsIn N M m j = secant N m (place M j)
 
 matrices : (N : ℕ) → matrix (halfWidth N) (turned N (halfWidth N)) ≡ matrix (halfWidth N) (secantsIn N (halfWidth N))
-unfolding tab secant oddOf secantOf secants secants8 secants32 secants128 halfWidth byWidth halfTurn reflected minus signed place out sign
+unfolding tab secant oddOf secantOf secants secants8 secants32 secants128 halfWidth byWidth halfTurn reflected belowZero signed place out sign
 matrices = at-each (λ N M. matrix M (turned N M) ≡ matrix M (secantsIn N M)) 4 16 64 0 refl refl refl (λ N x y z. refl)
 
 scale-first : (c s t r : ℤ) → s *ℤ ((c *ℤ t) *ℤ r) ≡ c *ℤ (s *ℤ (t *ℤ r))
@@ -91,7 +91,7 @@ scaled-size : (N : ℕ) (r : ℤ) → natAbs (pos (scale N * scale N) *ℤ secan
 unfolding secantOf
 scaled-size N r =
     let k = reflected (halfWidth N) (natAbs r) in
-    rw (natAbs-*ℤ (pos (scale N * scale N)) (secantOf N r), signed-size (minus (halfWidth N) (natAbs r)) _) (by (eqb (k % 2) 1) (k / 2))
+    rw (natAbs-*ℤ (pos (scale N * scale N)) (secantOf N r), signed-size (belowZero (halfWidth N) (natAbs r)) _) (by (eqb (k % 2) 1) (k / 2))
   where
     by : (b : Bool) (i : ℕ) → scale N * scale N * cond b (getD (secants N) i 0) 0 ≤ 11300000000
     by true i = table-le N i
@@ -129,7 +129,7 @@ taken-size M B {x} w j = by (ltb (2 * j) M)
 module _ (N m : ℕ) (wide : 0 < halfWidth N) (half : m ≡ halfWidth N) {lists x new : List ℤ} (rest : List ℤ)
     (q : LeafLists m (secantList N) lists) (w : Within 6000000 x) (is : new ≡ places m (secantIn (halfWidth N) (at x)))
     (room : productRoom N ≤ length (new ++ rest)) where
-  sizes : Sizes m (secantList N) new
+  sizes : ProductFits m (secantList N) new
   unfolding secantList
   sizes = record {
     most-list = 11300000000;
@@ -143,7 +143,7 @@ module _ (N m : ℕ) (wide : 0 < halfWidth N) (half : m ≡ halfWidth N) {lists 
   long : length new ≡ m
   long = ap length is ∙ length-places m _
 
-  pub secant-given : Given m lists (new ++ rest)
+  pub secant-given : ProductInput m lists (new ++ rest)
   secant-given = given N m half rest q sizes long room
 
   pub secant-rows : (y : List ℤ) → ((L : List ℤ) → LeafLists m L lists → take m y ≡ places m (product m (at L) (at (take m (new ++ rest))))) → SecantRows N x y

@@ -10,7 +10,7 @@ use slices::fours;
 use slices::fours::Four;
 
 // The number at a place of an order, with its sign.
-pub fn row(places: &[i64], signs: &[i64], x: &[i64], m: usize) -> i64
+pub fn row_at(places: &[i64], signs: &[i64], x: &[i64], m: usize) -> i64
     requires { ⌜ m < length (now x) ⌝ }
     requires { ⌜ Order (length (now x)) (now places) (now signs) ⌝ }
     requires { ⌜ natAbs (rowAt (now places) (now signs) (now x) m) ≤ 2 ^ 62 ⌝ }
@@ -21,7 +21,7 @@ pub fn row(places: &[i64], signs: &[i64], x: &[i64], m: usize) -> i64
 }
 
 // All numbers in their order.
-pub fn gather(places: &[i64], signs: &[i64], x: &[i64], out: &mut [i64])
+pub fn in_order(places: &[i64], signs: &[i64], x: &[i64], out: &mut [i64])
     requires { ⌜ (length (now out) ≡ length (now x)) × (length (now x) % 4 ≡ 0) ⌝ }
     requires { ⌜ Order (length (now x)) (now places) (now signs) ⌝ }
     requires { ⌜ ((m : ℕ) → m < length (now x) → natAbs (rowAt (now places) (now signs) (now x) m) ≤ 2 ^ 62) ⌝ }
@@ -30,10 +30,10 @@ pub fn gather(places: &[i64], signs: &[i64], x: &[i64], out: &mut [i64])
     let mut k = 0;
     while k < out.len() {
         let made = Four {
-            a: row(places, signs, x, k),
-            b: row(places, signs, x, k + 1),
-            c: row(places, signs, x, k + 2),
-            d: row(places, signs, x, k + 3),
+            a: row_at(places, signs, x, k),
+            b: row_at(places, signs, x, k + 1),
+            c: row_at(places, signs, x, k + 2),
+            d: row_at(places, signs, x, k + 3),
         };
         fours::put(out, k, made);
         k += 4;

@@ -35,7 +35,7 @@ pub fn cosine_sums(alternated: bool, width: usize, t: &[i64], x: &[i64], room: &
     let plain = 3 * half;
     let signs = signs_at(alternated, half);
     let end = signs + half;
-    order::gather(&t[width..plain], &t[signs..end], x, &mut room[..half]);
+    order::in_order(&t[width..plain], &t[signs..end], x, &mut room[..half]);
     whole::product(&t[from..middle], room, half);
 }
 

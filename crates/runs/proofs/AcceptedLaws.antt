@@ -19,7 +19,7 @@ use Rattle.runs.specs.Answers.{beyond}
 use Rattle.distance.specs.Statement.{IsWidth, Block}
 use Rattle.runs.specs.declared.record.Run.{Run}
 use Rattle.runs.specs.Record.{frameLimit, zeros, opened}
-use Rattle.runs.specs.Gate.{Given, ask, every, inside, admitted}
+use Rattle.runs.specs.Gate.{CallResult, ask, allYes, inside, admitted}
 use Rattle.runs.proofs.Searches.{all-inside}
 use Rattle.runs.proofs.RecordLaws.{all-take, zeros-are}
 use Rattle.runs.proofs.CallLaws.{Decided, granted, asked, every-answer}
@@ -27,7 +27,7 @@ use Rattle.runs.specs.Back.{undoneIn, takenBack, endedBack}
 use Rattle.runs.proofs.BackLaws.{ReachedBack, back-sound, back-first, back-next, taken-undone, lowHalf, highHalf, first-undone, later-undone, ended-decided, nothing-anywhere}
 
 -- what gives an answer 0 was answered yes
-answered-yes : {yes : Bool} {run : Run} {out : List ℤ} {good given : Given} → Decided yes run out good given → given .0 .0 ≡ 0 → yes ≡ true
+answered-yes : {yes : Bool} {run : Run} {out : List ℤ} {good given : CallResult} → Decided yes run out good given → given .0 .0 ≡ 0 → yes ≡ true
 answered-yes {yes = true} d e = refl
 answered-yes {yes = false} {given} d e = absurd (eqb-false (given .0 .0) 0 (d .when-no refl .numbered) e)
 
@@ -38,8 +38,8 @@ pub record Admitted (N b : ℕ) (c out : List ℤ) : Type 0 where
   pub room : length out ≡ N
 
 module _ (N b : ℕ) (low : List ℤ) (r : ReachedBack N b low) (c out : List ℤ) where
-  taken-asked : Decided (every (ltb b frameLimit ∷ eqb (length c) N ∷ eqb (length out) N ∷ [])) (opened N b low) out (undoneIn (opened N b low) c out) (takenBack (opened N b low) c out)
-  unfolding takenBack admitted ask opened every
+  taken-asked : Decided (allYes (ltb b frameLimit ∷ eqb (length c) N ∷ eqb (length out) N ∷ [])) (opened N b low) out (undoneIn (opened N b low) c out) (takenBack (opened N b low) c out)
+  unfolding takenBack admitted ask opened allYes
   taken-asked = rw (back-sound N b low r) (asked 3 (ltb b frameLimit) (asked 5 (eqb (length c) N) (asked 6 (eqb (length out) N) (granted _ refl))))
 
   pub taken-admitted : takenBack (opened N b low) c out .0 .0 ≡ 0 → Admitted N b c out
@@ -118,8 +118,8 @@ pub undone-next : (N b : ℕ) (low : List ℤ) → ReachedBack N b low → (c ou
 undone-next N zero low r c out h e =
     let d = first-undone N low c out in
     let yes = answered-yes d e in
-    (ap (λ (g : Given). g .1) (d .when-yes yes), back-next N 0 low r (lowHalf N c) h (low-long N (r .wide) c) (low-within N c (every-answer _ yes 1)))
+    (ap (λ (g : CallResult). g .1) (d .when-yes yes), back-next N 0 low r (lowHalf N c) h (low-long N (r .wide) c) (low-within N c (every-answer _ yes 1)))
 undone-next N (suc b) low r c out h e =
     let d = later-undone N b low c out (r .long) in
     let yes = answered-yes d e in
-    (ap (λ (g : Given). g .1) (d .when-yes yes), back-next N (suc b) low r (lowHalf N c) h (low-long N (r .wide) c) (low-within N c (every-answer _ yes 1)))
+    (ap (λ (g : CallResult). g .1) (d .when-yes yes), back-next N (suc b) low r (lowHalf N c) h (low-long N (r .wide) c) (low-within N c (every-answer _ yes 1)))

@@ -12,14 +12,14 @@ use Rattle.runs.specs.declared.answer.Answer.the-variants.{Done, OutputL
 use Rattle.runs.specs.declared.answer.Found.{Found}
 use Rattle.runs.specs.declared.answer.Found.the-variants.{At, Nothing}
 use Rattle.runs.specs.Answers.{told, firstBeyond}
-use Rattle.runs.specs.Alone.{Given, refusedAt, shaped, stagesAsked, unstagesAsked}
+use Rattle.runs.specs.Alone.{StagesResult, refusedAt, shaped, stagesAsked, unstagesAsked}
 
 -- ---- what a question about every number decides
-refused : (n i : ℕ) (f : Found) (out : List ℤ) (next : Given) → f ≡ At i → ((n, i), out) ≡ refusedAt n f out next
+refused : (n i : ℕ) (f : Found) (out : List ℤ) (next : StagesResult) → f ≡ At i → ((n, i), out) ≡ refusedAt n f out next
 unfolding refusedAt
 refused n i f out next e = sym (ap (λ g. refusedAt n g out next) e)
 
-passed : (n : ℕ) (f : Found) (out : List ℤ) (next : Given) → f ≡ Nothing → next ≡ refusedAt n f out next
+passed : (n : ℕ) (f : Found) (out : List ℤ) (next : StagesResult) → f ≡ Nothing → next ≡ refusedAt n f out next
 unfolding refusedAt
 passed n f out next e = sym (ap (λ g. refusedAt n g out next) e)
 
@@ -46,7 +46,7 @@ module _ (N : ℕ) (values out : List ℤ) where
     unstages-done d = passed 10 _ out _ d ∙ passed 9 _ out _ e
 
 -- ---- question 7, where 1 and 6 are passed
-module _ (N : ℕ) (given out : List ℤ) (next : Given) (w : halfWidth N ≡ 0 → ⊥) (g : length given ≡ N) where
+module _ (N : ℕ) (given out : List ℤ) (next : StagesResult) (w : halfWidth N ≡ 0 → ⊥) (g : length given ≡ N) where
   pub output-refused : (length out ≡ N → ⊥) → (told OutputLength, out) ≡ shaped N given out next
   unfolding told shaped
   output-refused e = rw (ne-eqb _ _ w, eq-eqb _ _ g, ne-eqb _ _ e)

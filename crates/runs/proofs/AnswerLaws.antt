@@ -16,7 +16,7 @@ use Rattle.runs.specs.Answers.{beyond}
 use Rattle.runs.specs.declared.answer.Found.{Found}
 use Rattle.runs.specs.declared.answer.Found.the-variants.{At, Nothing}
 use Rattle.runs.specs.declared.record.Run.{Run}
-use Rattle.runs.specs.Gate.{Given, ask, askEach, sound, admitted}
+use Rattle.runs.specs.Gate.{CallResult, ask, askEach, sound, admitted}
 use Rattle.runs.proofs.CallLaws.{every-answer}
 use Rattle.runs.proofs.Searches.{placeFound, found-place}
 use Rattle.runs.proofs.RecordLaws.{width-le}
@@ -24,10 +24,10 @@ use Rattle.runs.specs.Back.{blockOn, firstUpper, firstFrame, laterFrame,
 use Rattle.runs.proofs.BackLaws.{length-block}
 
 -- ---- the same answer and the same record
-pub record Alike (g h : Given) : Type 0 where
+pub record Alike (g h : CallResult) : Type 0 where
   pub same : (g .0, g .1, h .2) ≡ h
 
-module _ {g h : Given} (n : ℕ) (run : Run) (o p : List ℤ) where
+module _ {g h : CallResult} (n : ℕ) (run : Run) (o p : List ℤ) where
   alike-asked : (answer : Bool) → Alike g h → Alike (ask n answer run o g) (ask n answer run p h)
   unfolding ask
   alike-asked true a = a
@@ -38,7 +38,7 @@ module _ {g h : Given} (n : ℕ) (run : Run) (o p : List ℤ) where
   alike-each (At place) a = record { same = refl }
   alike-each Nothing a = a
 
-alike-either : {g h i k : Given} (b : Bool) → Alike g h → Alike i k → Alike (cond b g i) (cond b h k)
+alike-either : {g h i k : CallResult} (b : Bool) → Alike g h → Alike i k → Alike (cond b g i) (cond b h k)
 alike-either true a c = a
 alike-either false a c = c
 
@@ -55,7 +55,7 @@ module _ (run : Run) (frame o p : List ℤ) where
   taken-alike l = rw l (alike-asked 2 run o p _ (alike-asked 3 run o p _ (alike-asked 4 run o p _ (alike-asked 6 run o p _ (alike-asked 7 run o p _ undone-alike)))))
 
 -- ---- places
-module _ (K : ℕ) (next : Given) (n : ℕ) (run : Run) (out : List ℤ) where
+module _ (K : ℕ) (next : CallResult) (n : ℕ) (run : Run) (out : List ℤ) where
   place-asked : (answer : Bool) → (answer ≡ true → next .0 .1 ≤ K) → ask n answer run out next .0 .1 ≤ K
   unfolding ask
   place-asked true h = h refl
@@ -66,7 +66,7 @@ module _ (K : ℕ) (next : Given) (n : ℕ) (run : Run) (out : List ℤ) where
   place-each (At place) h k = h
   place-each Nothing h k = k
 
-place-either : (K : ℕ) (g h : Given) (b : Bool) → g .0 .1 ≤ K → h .0 .1 ≤ K → cond b g h .0 .1 ≤ K
+place-either : (K : ℕ) (g h : CallResult) (b : Bool) → g .0 .1 ≤ K → h .0 .1 ≤ K → cond b g h .0 .1 ≤ K
 place-either K g h true k l = k
 place-either K g h false k l = l
 

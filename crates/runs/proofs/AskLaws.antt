@@ -13,8 +13,8 @@ use Rattle.runs.specs.declared.answer.Answer.{Answer}
 use Rattle.runs.specs.declared.answer.Answer.the-variants.{Done, Width, Record, Closed, Full, InputLength, OutputLength}
 use Rattle.runs.specs.declared.record.Run.{Run}
 use Rattle.runs.specs.declared.record.Outcome.{Outcome}
-use Rattle.runs.specs.Record.{blockLimit, zeros, outcomeOf, filled, opened, closed}
-use Rattle.runs.specs.Gate.{Given, ask, admitted, sound}
+use Rattle.runs.specs.Record.{blockLimit, zeros, outcomeOf, zeroPadded, opened, closed}
+use Rattle.runs.specs.Gate.{CallResult, ask, admitted, sound}
 use Rattle.runs.specs.Forward.{started, frameOn, ended}
 use Rattle.runs.proofs.CallLaws.{every-answer}
 
@@ -23,7 +23,7 @@ module _ {o : Outcome} {run : Run} {answer : Answer} (e : o ≡ outcomeOf run an
   pub handed : (g : (ℕ × ℕ) × Run) → (told answer, run) ≡ g → (told (o .answer), o .run) ≡ g
   handed g d = subst (λ (x : Outcome). (told (x .answer), x .run) ≡ g) (sym e) d
 
-  pub handed-with : (out : List ℤ) (g : Given) → (told answer, run, out) ≡ g → (told (o .answer), o .run, out) ≡ g
+  pub handed-with : (out : List ℤ) (g : CallResult) → (told answer, run, out) ≡ g → (told (o .answer), o .run, out) ≡ g
   handed-with out g d = subst (λ (x : Outcome). (told (x .answer), x .run, out) ≡ g) (sym e) d
 
 -- ---- a fresh start
@@ -32,7 +32,7 @@ module _ (N : ℕ) (held : List ℤ) (h : held ≡ zeros 64) where
   fresh n = record { width = n; count = 0; held = held; finished = false }
 
   fresh-is : (n : ℕ) → fresh n ≡ opened n 0 []
-  unfolding opened filled
+  unfolding opened zeroPadded
   fresh-is n = ap (λ xs. record { width = n; count = 0; held = xs; finished = false }) h
 
   pub start-refused : halfWidth N ≡ 0 → (told Width, fresh 0) ≡ started N
@@ -44,7 +44,7 @@ module _ (N : ℕ) (held : List ℤ) (h : held ≡ zeros 64) where
   start-done e = rw (ne-eqb _ _ e) (ap (λ r. ((0, 0), r)) (fresh-is N))
 
 -- ---- questions 2 and 3, to a block, a frame or a finish
-module _ (top : ℕ) (run : Run) (out : List ℤ) (next : Given) where
+module _ (top : ℕ) (run : Run) (out : List ℤ) (next : CallResult) where
   pub record-refused : sound top run ≡ false → (told Record, run, out) ≡ ask 2 (sound top run) run out next
   unfolding told ask
   record-refused e = rw e
@@ -54,7 +54,7 @@ module _ (top : ℕ) (run : Run) (out : List ℤ) (next : Given) where
   closed-refused s e = rw (s, e)
 
 -- ---- questions 4, 6 and 7 to a block or a frame
-module _ (top : ℕ) (run : Run) (given out : List ℤ) (next : Given) (s : sound top run ≡ true) (o : run .finished ≡ false) where
+module _ (top : ℕ) (run : Run) (given out : List ℤ) (next : CallResult) (s : sound top run ≡ true) (o : run .finished ≡ false) where
   pub full-refused : run .count ≡ top → (told Full, run, out) ≡ admitted top run given out next
   unfolding told admitted ask
   full-refused e = rw (s, o, le-ltb (run .count) top (omega (arith, e)))

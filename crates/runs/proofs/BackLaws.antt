@@ -18,15 +18,15 @@ use Rattle.steps.proofs.Lengths.{length-lower, length-held, length-unfolded, wi
 use Rattle.steps.proofs.Undo.{unstages-stages, unfolded-fold}
 use Rattle.steps.proofs.Rotation.{lower-gate, held-gate}
 use Rattle.steps.proofs.ZeroBlock.{lower-zeros, held-zeros}
-use Rattle.runs.specs.Answers.{first, beyond, firstBeyond}
+use Rattle.runs.specs.Answers.{firstWhere, beyond, firstBeyond}
 use Rattle.runs.specs.declared.answer.Found.the-variants.{At}
 use Rattle.distance.specs.Statement.{IsWidth, Block, coefficient}
 use Rattle.distance.proofs.ZeroBlock.{zero-block}
-use Rattle.distance_runs.proofs.Theorems.{frame-size}
+use Rattle.distance_theorems.proofs.Theorems.{frame-size}
 use Rattle.runs.specs.declared.record.Run.{Run}
 use Rattle.runs.specs.Record.{frameLimit, zeros, opened, closed}
 use Rattle.runs.specs.Forward.{started}
-use Rattle.runs.specs.Gate.{Given, ask, every, sound, inside, nothing, admitted}
+use Rattle.runs.specs.Gate.{CallResult, ask, allYes, sound, inside, nothing, admitted}
 use Rattle.runs.proofs.Searches.{inside-all}
 use Rattle.runs.proofs.RecordLaws.{length-frame, take-filled, open-sound}
 use Rattle.runs.proofs.CallLaws.{Decided, granted, asked-each}
@@ -78,7 +78,7 @@ highHalf N frame = drop (halfWidth N) (unstages N frame)
 
 abbrev pub firstPasses : ℕ → List ℤ → Bool
 firstPasses N frame =
-    every
+    allYes
     (inside (pos coefficientLimit) frame
     ∷ inside (pos foldedLimit) (unstages N frame)
     ∷ nothing (firstBeyond (pos 0) (highHalf N frame) (halfWidth N))
@@ -86,7 +86,7 @@ firstPasses N frame =
 
 abbrev pub laterPasses : ℕ → List ℤ → List ℤ → Bool
 laterPasses N low frame =
-    every
+    allYes
     (inside (pos coefficientLimit) frame
     ∷ inside (pos foldedLimit) (unstages N frame)
     ∷ inside (pos readingLimit) (unfolded N low (highHalf N frame))
@@ -94,26 +94,26 @@ laterPasses N low frame =
 
 pub first-undone : (N : ℕ) (low frame out : List ℤ)
     → Decided (firstPasses N frame) (opened N 0 low) out ((0, 0), opened N 1 (lowHalf N frame), out) (undoneIn (opened N 0 low) frame out)
-unfolding undoneIn unfoldedIn firstFrame firstUpper framed opened every inside
+unfolding undoneIn unfoldedIn firstFrame firstUpper framed opened allYes inside
 first-undone N low frame out = asked-each 8 _ (asked-each 9 _ (asked-each 10 _ (granted _ refl)))
 
 pub later-undone : (N b : ℕ) (low frame out : List ℤ) → length low ≡ halfWidth N
     → Decided (laterPasses N low frame) (opened N (suc b) low) out ((0, 0), opened N (suc (suc b)) (lowHalf N frame), unfolded N low (highHalf N frame)) (undoneIn (opened N (suc b) low) frame out)
-unfolding undoneIn unfoldedIn laterFrame blockOn framed opened every inside
+unfolding undoneIn unfoldedIn laterFrame blockOn framed opened allYes inside
 later-undone N b low frame out l = rw (take-filled (halfWidth N) low l, eqb·suc-zero b) (asked-each 8 _ (asked-each 9 _ (asked-each 11 _ (granted _ refl))))
 
 pub ended-decided : (N b : ℕ) (low : List ℤ) → ReachedBack N (suc b) low
-    → Decided (every (inside (pos 0) low ∷ [])) (opened N (suc b) low) [] ((0, 0), closed (opened N (suc b) low), []) (endedBack (opened N (suc b) low))
-unfolding endedBack firstHeld ask opened every inside
+    → Decided (allYes (inside (pos 0) low ∷ [])) (opened N (suc b) low) [] ((0, 0), closed (opened N (suc b) low), []) (endedBack (opened N (suc b) low))
+unfolding endedBack firstHeld ask opened allYes inside
 ended-decided N b low r = rw (back-sound N (suc b) low r, take-filled (halfWidth N) low (r .long), lt-ltb 0 (suc b) (omega arith)) (asked-each 10 _ (granted _ refl))
 
 -- where a search begins to count does not tell whether it finds anything
-pub nothing-anywhere : (test : ℤ → Bool) (xs : List ℤ) (j k : ℕ) → nothing (first test xs j) ≡ nothing (first test xs k)
-unfolding first nothing
+pub nothing-anywhere : (test : ℤ → Bool) (xs : List ℤ) (j k : ℕ) → nothing (firstWhere test xs j) ≡ nothing (firstWhere test xs k)
+unfolding firstWhere nothing
 nothing-anywhere test [] j k = refl
 nothing-anywhere test (x ∷ xs) j k = by (test x) (nothing-anywhere test xs (suc j) (suc k))
   where
-    by : (b : Bool) → nothing (first test xs (suc j)) ≡ nothing (first test xs (suc k)) → nothing (cond b (At j) (first test xs (suc j))) ≡ nothing (cond b (At k) (first test xs (suc k)))
+    by : (b : Bool) → nothing (firstWhere test xs (suc j)) ≡ nothing (firstWhere test xs (suc k)) → nothing (cond b (At j) (firstWhere test xs (suc j))) ≡ nothing (cond b (At k) (firstWhere test xs (suc k)))
     by true e = refl
     by false e = e
 
@@ -143,7 +143,7 @@ module _ (N : ℕ) (w : IsWidth N) (p x : List ℤ) (hp : Block N readingLimit p
   folded-inside = rw frame-undone (inside-all foldedLimit (lower N x ++ held N p) (all-append foldedLimit (lower N x) (held N p) (lower-gate N x (hx .within)) (held-gate N p (hp .within))))
 
   later-passes : laterPasses N (lower N p) of-both ≡ true
-  unfolding every
+  unfolding allYes
   later-passes = rw (frame-inside, folded-inside, high-is, unfolded-fold N (width-half N w) p (hp .long), inside-all readingLimit p (hp .within))
 
   pub back-block : (b : ℕ) → ReachedBack N b (lower N p) → b < frameLimit → ReachedBack N (suc b) (lower N x)
@@ -167,7 +167,7 @@ module _ (N : ℕ) (w : IsWidth N) (x : List ℤ) (hx : Block N readingLimit x) 
   upper-zero = nothing-anywhere (beyond (pos 0)) (zeros (halfWidth N)) (halfWidth N) 0 ∙ inside-all 0 (zeros (halfWidth N)) (zero-block (halfWidth N) 0 .within)
 
   first-passes : firstPasses N of-first ≡ true
-  unfolding every
+  unfolding allYes
   first-passes =
       let z = zero-block N readingLimit in
       rw (frame-inside N w (zeros N) x z hx, folded-inside N w (zeros N) x z hx, high-is N w (zeros N) x z hx, held-zeros N N, upper-zero)
@@ -184,5 +184,5 @@ module _ (N : ℕ) (w : IsWidth N) (x : List ℤ) (hx : Block N readingLimit x) 
 
 -- and behind the last frame, which a block of zeros makes, the finish works
 pub ended-works : (N b : ℕ) → ReachedBack N (suc b) (lower N (zeros N)) → endedBack (opened N (suc b) (lower N (zeros N))) .0 ≡ (0, 0)
-unfolding every
-ended-works N b r = ap (λ (g : Given). g .0) (ended-decided N b (lower N (zeros N)) r .when-yes (rw (lower-zeros N N, inside-all 0 (zeros (halfWidth N)) (zero-block (halfWidth N) 0 .within))))
+unfolding allYes
+ended-works N b r = ap (λ (g : CallResult). g .0) (ended-decided N b (lower N (zeros N)) r .when-yes (rw (lower-zeros N N, inside-all 0 (zeros (halfWidth N)) (zero-block (halfWidth N) 0 .within))))

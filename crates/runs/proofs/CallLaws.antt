@@ -16,20 +16,20 @@ use Rattle.runs.specs.declared.answer.Found.the-variants.{At, Nothing}
 use Rattle.distance.specs.Statement.{Block}
 use Rattle.runs.specs.declared.record.Run.{Run}
 use Rattle.runs.specs.Record.{blockLimit, zeros, opened, advanced, closed}
-use Rattle.runs.specs.Gate.{Given, ask, askEach, nothing, every, firstDead, firstOut, admitted}
+use Rattle.runs.specs.Gate.{CallResult, ask, askEach, nothing, allYes, firstDead, firstOut, admitted}
 use Rattle.runs.specs.Forward.{frameOn, takenIn, taken, ended}
 use Rattle.runs.specs.Calls.{Call, block, finish, outputOf, give, accepted}
 use Rattle.runs.proofs.Searches.{all-inside}
 use Rattle.runs.proofs.RecordLaws.{take-filled, Reached, opened-sound, closed-sound}
 
 -- a refusal has a number, and leaves the record and the output as they were
-pub record Refused (run : Run) (out : List ℤ) (given : Given) : Type 0 where
+pub record Refused (run : Run) (out : List ℤ) (given : CallResult) : Type 0 where
   pub numbered : eqb (given .0 .0) 0 ≡ false
   pub same-record : given .1 ≡ run
   pub same-output : given .2 ≡ out
 
 -- what is answered yes gives what is good, and anything else is refused
-pub record Decided (yes : Bool) (run : Run) (out : List ℤ) (good given : Given) : Type 0 where
+pub record Decided (yes : Bool) (run : Run) (out : List ℤ) (good given : CallResult) : Type 0 where
   pub when-yes : yes ≡ true → given ≡ good
   pub when-no : yes ≡ false → Refused run out given
 
@@ -37,14 +37,14 @@ pub record Decided (yes : Bool) (run : Run) (out : List ℤ) (good given : Given
 refused : (n place : ℕ) (run : Run) (out : List ℤ) → Refused run out ((suc n, place), run, out)
 refused n place run out = record { numbered = eqb·suc-zero n; same-record = refl; same-output = refl }
 
-module _ {run : Run} {out : List ℤ} {good : Given} where
-  pub granted : (next : Given) → next ≡ good → Decided true run out good next
+module _ {run : Run} {out : List ℤ} {good : CallResult} where
+  pub granted : (next : CallResult) → next ≡ good → Decided true run out good next
   granted next e = record { when-yes = λ _. e; when-no = λ f. absurd (true≢false f) }
 
   denied : (n place : ℕ) → Decided false run out good ((suc n, place), run, out)
   denied n place = record { when-yes = λ e. absurd (false≢true e); when-no = λ _. refused n place run out }
 
-  module _ {rest : Bool} {next : Given} (n : ℕ) where
+  module _ {rest : Bool} {next : CallResult} (n : ℕ) where
     pub asked : (answer : Bool) → Decided rest run out good next → Decided (answer && rest) run out good (ask (suc n) answer run out next)
     unfolding ask
     asked true d = d
@@ -56,11 +56,11 @@ module _ {run : Run} {out : List ℤ} {good : Given} where
     asked-each Nothing d = d
 
 -- ---- what an accepted block is
-pub every-answer : (answers : List Bool) → every answers ≡ true → (i : ℕ) → getD answers i true ≡ true
-unfolding every
+pub every-answer : (answers : List Bool) → allYes answers ≡ true → (i : ℕ) → getD answers i true ≡ true
+unfolding allYes
 every-answer [] e i = refl
-every-answer (a ∷ answers) e zero = and-eq-true-iff a (every answers) .0 e .0
-every-answer (a ∷ answers) e (suc i) = every-answer answers (and-eq-true-iff a (every answers) .0 e .1) i
+every-answer (a ∷ answers) e zero = and-eq-true-iff a (allYes answers) .0 e .0
+every-answer (a ∷ answers) e (suc i) = every-answer answers (and-eq-true-iff a (allYes answers) .0 e .1) i
 
 module _ (N b : ℕ) (over : Bool) (xs out : List ℤ) (e : accepted N b over (block xs out) ≡ true) where
   pub accepted-below : b < blockLimit
@@ -82,7 +82,7 @@ module _ (N b : ℕ) (previous : List ℤ) (r : Reached N b previous) where
 
   pub taken-decided : (xs out : List ℤ)
       → Decided (accepted N b false (block xs out)) run out ((0, 0), opened N (suc b) (held N xs), frame N (held N previous) xs) (taken run xs out)
-  unfolding accepted every taken admitted takenIn ask opened advanced
+  unfolding accepted allYes taken admitted takenIn ask opened advanced
   taken-decided xs out =
       rw (opened-sound N b previous r)
       (asked 3 (ltb b blockLimit)
@@ -92,7 +92,7 @@ module _ (N b : ℕ) (previous : List ℤ) (r : Reached N b previous) where
 
   pub ended-decided : (out : List ℤ)
       → Decided (accepted N b false (finish out)) run out ((0, 0), closed run, frame N (held N previous) (zeros N)) (ended run out)
-  unfolding accepted every ended ask opened
+  unfolding accepted allYes ended ask opened
   ended-decided out = rw (opened-sound N b previous r) (asked 6 (eqb (length out) N) (granted _ (ap (λ f. ((0, 0), closed run, f)) (frame-on (zeros N)))))
 
   pub closed-refused : (c : Call) → Refused (closed run) (outputOf c) (give (closed run) c)

@@ -19,7 +19,7 @@ use Rattle.distance.specs.Statement.{IsWidth, Block, DistanceAt, coefficient, N
 use Rattle.distance.proofs.ZeroBlock.{zero-block}
 use Rattle.runs.specs.declared.record.Run.{Run}
 use Rattle.runs.specs.Record.{zeros, opened, closed}
-use Rattle.runs.specs.Gate.{every}
+use Rattle.runs.specs.Gate.{allYes}
 use Rattle.runs.specs.Forward.{started}
 use Rattle.runs.specs.Calls.{Call, block, finish, outputOf, give, Made, made, works, workings, framesGiven, accepted, countAfter, overAfter, acceptedAll, kept, working, blocksOf, blockAt, blockBefore, frameAt}
 use Rattle.runs.specs.Lists.{madeFrom, blocksTaken, AllUntouched}
@@ -67,14 +67,14 @@ frames-from N blocks (suc n) i = rw (getD-drop i blocks 0 (zeros N), drop-drop 1
 
 -- ---- after a finish that worked no call works
 pub nothing-kept : (N b : ℕ) (calls : List Call) → kept (acceptedAll N b true calls) calls ≡ []
-unfolding kept acceptedAll accepted every countAfter overAfter
+unfolding kept acceptedAll accepted allYes countAfter overAfter
 nothing-kept N b [] = refl
 nothing-kept N b (block xs out ∷ calls) = nothing-kept N b calls
 nothing-kept N b (finish out ∷ calls) = nothing-kept N b calls
 
 closed-told : (N b : ℕ) (previous : List ℤ) → Reached N b previous → (calls : List Call)
     → Told (made (closed (opened N b (held N previous))) calls) (acceptedAll N b true calls) []
-unfolding acceptedAll accepted every countAfter overAfter
+unfolding acceptedAll accepted allYes countAfter overAfter
 closed-told N b previous r [] = told-none (closed (opened N b (held N previous)))
 closed-told N b previous r (block xs out ∷ calls) = told-no _ _ calls (closed-refused N b previous r (block xs out)) (closed-told N b previous r calls)
 closed-told N b previous r (finish out ∷ calls) = told-no _ _ calls (closed-refused N b previous r (finish out)) (closed-told N b previous r calls)

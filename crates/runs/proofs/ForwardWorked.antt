@@ -13,7 +13,7 @@ use Rattle.tables.specs.Widths.{halfWidth}
 use Rattle.steps.specs.Limits.{readingLimit}
 use Rattle.distance.specs.Statement.{IsWidth}
 use Rattle.runs.specs.Record.{blockLimit}
-use Rattle.runs.specs.Whole.{firstRefusal, oneByOne, wholeForward, blocksIn}
+use Rattle.runs.specs.Whole.{firstRefusal, forwardOneByOne, wholeForward, blocksIn}
 use Rattle.runs.specs.Return.{Readings, framesOf}
 use Rattle.runs.proofs.WholeLaws.{whole-blocks, callsMade, by-refusal, blocks-taken, whole-run}
 use Rattle.runs.proofs.Parts.{joined-parts, blocks-within}
@@ -22,7 +22,7 @@ use Rattle.runs.proofs.WholeReturn.{lengths-asked}
 module _ (N : ℕ) (w : IsWidth N) (readings out : List ℤ) (worked : wholeForward N readings out .0 ≡ (0, 0)) where
   asked : ((eqb (length readings % N) 0 && leb (length readings / N) blockLimit) ≡ true) × (eqb (length out) (length readings + N) ≡ true)
   unfolding wholeForward
-  asked = lengths-asked _ _ out (oneByOne N readings out) (rw (ne-eqb (halfWidth N) 0 (λ z. omega arith)) at worked)
+  asked = lengths-asked _ _ out (forwardOneByOne N readings out) (rw (ne-eqb (halfWidth N) 0 (λ z. omega arith)) at worked)
 
   no-remainder : length readings % N ≡ 0
   no-remainder = eqb-true _ _ (and-eq-true-iff _ _ .0 (asked .0) .0)

@@ -14,7 +14,7 @@ use Rattle.tables.specs.Widths.{byWidth}
 use Rattle.tables.proofs.ByWidth.{run-width}
 use Rattle.distance.specs.Exact.{rootM}
 use Rattle.distance.specs.Statement.{IsWidth, promised, shown}
-use Rattle.distance_runs.proofs.Theorems.{promised-distance, shown-distance}
+use Rattle.distance_theorems.proofs.Theorems.{promised-distance, shown-distance}
 use Rattle.runs.specs.Calls.{Call, block, finish, isFinish, framesGiven, accepted, countAfter, overAfter, acceptedAll, overAll, kept, working, blocksOf, frameAt}
 use Rattle.runs.specs.Lists.{madeFrom, blocksTaken, finished, EveryListOfCalls, FiveRootsAndTwo, EveryListNearer}
 use Rattle.runs.proofs.EveryList.{nothing-kept, fresh-told, list-near}

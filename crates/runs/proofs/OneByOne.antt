@@ -14,13 +14,13 @@ use Rattle.runs.specs.declared.answer.Found.{Found}
 use Rattle.runs.specs.declared.answer.Found.the-variants.{At, Nothing}
 use Rattle.runs.specs.declared.record.Run.{Run}
 use Rattle.runs.specs.Record.{zeros, opened}
-use Rattle.runs.specs.Gate.{Given, ask, askEach, admitted}
+use Rattle.runs.specs.Gate.{CallResult, ask, askEach, admitted}
 use Rattle.runs.specs.Forward.{started}
 use Rattle.runs.specs.Back.{firstFrame, unfoldedIn, undoneIn, takenBack, endedBack}
 use Rattle.runs.specs.WholeBack.{answerFrom, outputsFrom, allOutputs, firstAnswer}
 
 -- ---- one call, and those behind it
-module _ {left : ℕ} {given : Given} (N b : ℕ) (run : Run) (frames out : List ℤ) (l : left ≡ suc b) (e : takenBack run (take N frames) (take N out) ≡ given) where
+module _ {left : ℕ} {given : CallResult} (N b : ℕ) (run : Run) (frames out : List ℤ) (l : left ≡ suc b) (e : takenBack run (take N frames) (take N out) ≡ given) where
   pub answer-here : (before : ℕ) → (given .0 .0 ≡ 0 → ⊥) → placed N before (given .0) ≡ answerFrom N before run left frames out
   unfolding answerFrom
   answer-here before n = rw (l, e, ne-eqb _ _ n)
@@ -47,7 +47,7 @@ unfolding answerFrom
 answer-end N before left run frames out e = rw e
 
 -- ---- the first frame leaves its output as it was
-module _ (run : Run) (out : List ℤ) (next : Given) (e : next .2 ≡ out) where
+module _ (run : Run) (out : List ℤ) (next : CallResult) (e : next .2 ≡ out) where
   ask-kept : (n : ℕ) (answer : Bool) → ask n answer run out next .2 ≡ out
   unfolding ask
   ask-kept n true = e
@@ -73,7 +73,7 @@ started-count N = by (eqb (halfWidth N) 0)
 
 -- ---- from a fresh start, with zeros for the output of the first frame
 module _ (N b : ℕ) (frames out : List ℤ) (l : length frames / N ≡ suc b) where
-  abbrev first : Given
+  abbrev first : CallResult
   first = takenBack (started N .1) (take N frames) (zeros N)
 
   given : takenBack (started N .1) (take N frames) (take N (zeros N ++ out)) ≡ first

@@ -22,8 +22,8 @@ use Rattle.steps.proofs.ZeroBlock.{held-zeros}
 use Rattle.distance.specs.Statement.{IsWidth, Block}
 use Rattle.distance.proofs.ZeroBlock.{zero-block}
 use Rattle.runs.specs.declared.record.Run.{Run}
-use Rattle.runs.specs.Record.{blockLimit, zeros, filled, opened, closed}
-use Rattle.runs.specs.Gate.{every, sound}
+use Rattle.runs.specs.Record.{blockLimit, zeros, zeroPadded, opened, closed}
+use Rattle.runs.specs.Gate.{allYes, sound}
 use Rattle.runs.proofs.Searches.{inside-all}
 
 -- ---- a width, and a frame of it
@@ -39,21 +39,21 @@ length-frame N previous block wide = length-stages N (lower N block ++ previous)
 
 -- ---- held values, with zeros up to 64
 module _ (n : ℕ) (xs : List ℤ) (l : length xs ≡ n) where
-  pub take-filled : take n (filled xs) ≡ xs
-  unfolding filled
+  pub take-filled : take n (zeroPadded xs) ≡ xs
+  unfolding zeroPadded
   take-filled = take-at xs _ n l
 
-  pub drop-filled : drop n (filled xs) ≡ zeros (64 - n)
-  unfolding filled
+  pub drop-filled : drop n (zeroPadded xs) ≡ zeros (64 - n)
+  unfolding zeroPadded
   drop-filled = rw (drop-at xs _ n l, l)
 
-filled-zeros : (n : ℕ) → n ≤ 64 → filled (zeros n) ≡ zeros 64
-unfolding filled
+filled-zeros : (n : ℕ) → n ≤ 64 → zeroPadded (zeros n) ≡ zeros 64
+unfolding zeroPadded
 filled-zeros n h =
     let e : n + (64 - n) ≡ 64 = omega arith in
     rw (length-replicate n (pos 0), replicate-append-replicate, e)
 
-filled-held-zeros : (N : ℕ) → filled (held N (zeros N)) ≡ zeros 64
+filled-held-zeros : (N : ℕ) → zeroPadded (held N (zeros N)) ≡ zeros 64
 filled-held-zeros N = rw held-zeros (filled-zeros (halfWidth N) (half-width-le N))
 
 -- before the first block the held values are zeros, as those of a block of zeros are
@@ -69,8 +69,8 @@ zeros-are (x ∷ xs) h = ap₂ (λ (y : ℤ) (ys : List ℤ). y ∷ ys) (natAbs-
 all-zeros : (l n : ℕ) → AllAbs l (zeros n)
 all-zeros l n = zero-block n l .within
 
-all-filled : (l : ℕ) (xs : List ℤ) → AllAbs l xs → AllAbs l (filled xs)
-unfolding filled
+all-filled : (l : ℕ) (xs : List ℤ) → AllAbs l xs → AllAbs l (zeroPadded xs)
+unfolding zeroPadded
 all-filled l xs h = all-append l xs (zeros (64 - length xs)) h (all-zeros l (64 - length xs))
 
 pub all-take : (l n : ℕ) (xs : List ℤ) → AllAbs l xs → AllAbs l (take n xs)
@@ -89,7 +89,7 @@ unless false b h = refl
 
 pub sound-run : (top : ℕ) (run : Run) → 0 < halfWidth (run .width) → run .count ≤ top → AllAbs foldedLimit (run .held) → AllAbs 0 (drop (halfWidth (run .width)) (run .held))
     → ((eqb (run .count) 0 || run .finished) ≡ true → AllAbs 0 (run .held)) → sound top run ≡ true
-unfolding sound every
+unfolding sound allYes
 sound-run top run w c h d z = rw (lt-ltb _ _ w, le-leb _ _ c, inside-all foldedLimit (run .held) h, inside-all 0 (drop (halfWidth (run .width)) (run .held)) d, unless _ _ (λ e. inside-all _ _ (z e)))
 
 -- an open run that holds half a width of values

@@ -12,7 +12,7 @@ use Rattle.runs.specs.declared.answer.Found.{Found}
 use Rattle.runs.specs.declared.answer.Found.the-variants.{At, Nothing}
 use Rattle.runs.specs.declared.record.Run.{Run}
 use Rattle.runs.specs.Record.{nextCount}
-use Rattle.runs.specs.Gate.{Given, ask, askEach, sound, admitted}
+use Rattle.runs.specs.Gate.{CallResult, ask, askEach, sound, admitted}
 use Rattle.runs.specs.Forward.{takenIn, taken}
 use Rattle.runs.specs.Back.{firstFrame, laterFrame, unfoldedIn, undoneIn, takenBack}
 
@@ -25,24 +25,24 @@ module _ (number count : ℕ) where
   unfolding nextCount
   count-raised e = rw (eq-eqb number 0 e) (omega arith)
 
-pub admitted-few : (top : ℕ) (run : Run) (given out : List ℤ) (next : Given) → admitted top run given out next .0 .0 ≡ 0 → run .count < top
+pub admitted-few : (top : ℕ) (run : Run) (given out : List ℤ) (next : CallResult) → admitted top run given out next .0 .0 ≡ 0 → run .count < top
 unfolding admitted ask
 admitted-few top run given out next = by (sound top run) (not (run .finished)) (ltb (run .count) top) refl _
   where
-    by : (s o b : Bool) → ltb (run .count) top ≡ b → (rest : Given) → ask 2 s run out (ask 3 o run out (ask 4 b run out rest)) .0 .0 ≡ 0 → run .count < top
+    by : (s o b : Bool) → ltb (run .count) top ≡ b → (rest : CallResult) → ask 2 s run out (ask 3 o run out (ask 4 b run out rest)) .0 .0 ≡ 0 → run .count < top
     by true true true h rest e = ltb-true _ _ h
     by true true false h rest e = absurd (omega (arith, e))
     by true false b h rest e = absurd (omega (arith, e))
     by false o b h rest e = absurd (omega (arith, e))
 
 -- ---- the record after a refusal, question by question
-pub record Same (run : Run) (given : Given) : Type 0 where
+pub record Same (run : Run) (given : CallResult) : Type 0 where
   pub same : (given .0 .0 ≡ 0 → ⊥) → given .1 ≡ run
 
 pub same-done : {run after : Run} {out : List ℤ} → Same run ((0, 0), after, out)
 same-done = record { same = λ h. absurd (h refl) }
 
-module _ {run : Run} {next : Given} (n : ℕ) (out : List ℤ) where
+module _ {run : Run} {next : CallResult} (n : ℕ) (out : List ℤ) where
   same-asked : (answer : Bool) → Same run next → Same run (ask n answer run out next)
   unfolding ask
   same-asked true h = h
@@ -53,7 +53,7 @@ module _ {run : Run} {next : Given} (n : ℕ) (out : List ℤ) where
   same-each (At place) h = record { same = λ _. refl }
   same-each Nothing h = h
 
-pub same-admitted : (top : ℕ) (run : Run) (given out : List ℤ) (next : Given) → Same run next → Same run (admitted top run given out next)
+pub same-admitted : (top : ℕ) (run : Run) (given out : List ℤ) (next : CallResult) → Same run next → Same run (admitted top run given out next)
 unfolding admitted
 same-admitted top run given out next h = same-asked 2 out _ (same-asked 3 out _ (same-asked 4 out _ (same-asked 6 out _ (same-asked 7 out _ h))))
 

@@ -12,7 +12,7 @@ use lib.ListN.{length}
 use Rattle.integers.specs.Places.{at, Within}
 use Rattle.integers.specs.Vectors.{AllAbs}
 use Rattle.integers.proofs.Products.{all-getD}
-use Rattle.runs.specs.Answers.{first, beyond, firstBeyond}
+use Rattle.runs.specs.Answers.{firstWhere, beyond, firstBeyond}
 use Rattle.runs.specs.declared.answer.Found.{Found}
 use Rattle.runs.specs.declared.answer.Found.the-variants.{At, Nothing}
 use Rattle.runs.specs.Gate.{nothing, inside}
@@ -22,8 +22,8 @@ abbrev pub All : (ℤ → Type 0) → List ℤ → Type 0
 All P [] = Unit {0}
 All P (x ∷ xs) = P x × All P xs
 
-pub none-found : (test : ℤ → Bool) (xs : List ℤ) (k : ℕ) → All (λ x. test x ≡ false) xs → first test xs k ≡ Nothing
-unfolding first
+pub none-found : (test : ℤ → Bool) (xs : List ℤ) (k : ℕ) → All (λ x. test x ≡ false) xs → firstWhere test xs k ≡ Nothing
+unfolding firstWhere
 none-found test [] k h = refl
 none-found test (x ∷ xs) k h = rw (h .0) (none-found test xs (suc k) (h .1))
 
@@ -47,7 +47,7 @@ unfound true k f e = absurd (subst T (ap found e) tt)
 unfound false k f e = (refl, e)
 
 none-beyond : (l : ℕ) (s : List ℤ) (k : ℕ) → firstBeyond (pos l) s k ≡ Nothing → (i : ℕ) → natAbs (at s i) ≤ l
-unfolding first beyond
+unfolding firstWhere beyond
 none-beyond l [] k e i = omega arith
 none-beyond l (x ∷ s) k e zero = ltb-false l (natAbs x) (unfound (beyond (pos l) x) k (firstBeyond (pos l) s (suc k)) e .0)
 none-beyond l (x ∷ s) k e (suc i) = none-beyond l s (suc k) (unfound (beyond (pos l) x) k (firstBeyond (pos l) s (suc k)) e .1) i
@@ -71,12 +71,12 @@ unfoldable pub placeFound : Found → ℕ
 placeFound (At place) = place
 placeFound Nothing = 0
 
-pub found-place : (test : ℤ → Bool) (xs : List ℤ) (k : ℕ) → placeFound (first test xs k) ≤ k + length xs
-unfolding first placeFound
+pub found-place : (test : ℤ → Bool) (xs : List ℤ) (k : ℕ) → placeFound (firstWhere test xs k) ≤ k + length xs
+unfolding firstWhere placeFound
 found-place test [] k = omega arith
 found-place test (x ∷ xs) k = by (test x) (found-place test xs (suc k))
   where
-    by : (b : Bool) → placeFound (first test xs (suc k)) ≤ suc k + length xs → placeFound (cond b (At k) (first test xs (suc k))) ≤ k + suc (length xs)
+    by : (b : Bool) → placeFound (firstWhere test xs (suc k)) ≤ suc k + length xs → placeFound (cond b (At k) (firstWhere test xs (suc k))) ≤ k + suc (length xs)
     by true h = omega arith
     by false h = omega arith
 

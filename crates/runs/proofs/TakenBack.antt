@@ -13,7 +13,7 @@ use Rattle.tables.specs.Widths.{halfWidth}
 use Rattle.distance.specs.Statement.{IsWidth}
 use Rattle.runs.specs.Answers.{told}
 use Rattle.runs.specs.Record.{blockLimit, frameLimit, zeros, opened}
-use Rattle.runs.specs.Gate.{Given}
+use Rattle.runs.specs.Gate.{CallResult}
 use Rattle.runs.specs.Forward.{started}
 use Rattle.runs.specs.Calls.{blockAt}
 use Rattle.runs.specs.CallsReturn.{answersBack, outputsBack, AllTaken}
@@ -79,7 +79,7 @@ module _ (N : ℕ) (w : IsWidth N) where
   unfolding told opened
   empty-refused e =
       let r = end-empty-refused (opened N 0 fresh) (back-sound N 0 fresh (back-first N w)) refl refl in
-      let z : _≡_ {A = ℕ} 5 0 = ap (λ (g : Given). g .0 .0) r ∙ e in
+      let z : _≡_ {A = ℕ} 5 0 = ap (λ (g : CallResult). g .0 .0) r ∙ e in
       omega arith
 
   by-first : (c out : List ℤ) (frames outs : List (List ℤ)) → length outs ≡ length frames

@@ -16,7 +16,7 @@ use Rattle.runs.specs.declared.record.Run.{Run}
 use Rattle.runs.specs.Record.{frameLimit, zeros}
 use Rattle.runs.specs.Forward.{started}
 use Rattle.runs.specs.Back.{takenBack, endedBack}
-use Rattle.runs.specs.WholeBack.{answerFrom, allOutputs, firstAnswer, oneByOne, wholeBack}
+use Rattle.runs.specs.WholeBack.{answerFrom, allOutputs, firstAnswer, backOneByOne, wholeBack}
 use Rattle.runs.proofs.AnswerLaws.{taken-alike}
 
 -- ---- an answer whose number is 0 names no place
@@ -53,12 +53,12 @@ first-alike N frames o p l = answer-alike N (length frames / N) 0 (started N .1)
 
 -- ---- what the calls one by one give
 module _ {answer : ℕ × ℕ} (N : ℕ) (frames out : List ℤ) (e : answer ≡ firstAnswer N frames out) where
-  pub ones-refused : (answer .0 ≡ 0 → ⊥) → (answer, out) ≡ oneByOne N frames out
-  unfolding oneByOne
+  pub ones-refused : (answer .0 ≡ 0 → ⊥) → (answer, out) ≡ backOneByOne N frames out
+  unfolding backOneByOne
   ones-refused n = rw (← e, ne-eqb _ _ n)
 
-  pub ones-done : (w : List ℤ) → answer .0 ≡ 0 → w ≡ drop N (allOutputs N frames out) → (answer, w) ≡ oneByOne N frames out
-  unfolding oneByOne
+  pub ones-done : (w : List ℤ) → answer .0 ≡ 0 → w ≡ drop N (allOutputs N frames out) → (answer, w) ≡ backOneByOne N frames out
+  unfolding backOneByOne
   ones-done w z d = rw (← e, eq-eqb _ _ z, d)
 
 -- ---- the gate
@@ -68,7 +68,7 @@ module _ (N : ℕ) (frames out : List ℤ) (w : halfWidth N ≡ 0 → ⊥) (e : 
   whole-output-refused m = rw (ne-eqb _ _ w, eq-eqb _ _ e, le-leb _ _ few, lt-ltb _ _ some, ne-eqb _ _ m)
 
   module _ (room : length out + N ≡ length frames) where
-    pub lengths-passed : oneByOne N frames out ≡ wholeBack N frames out
+    pub lengths-passed : backOneByOne N frames out ≡ wholeBack N frames out
     unfolding wholeBack
     lengths-passed = rw (ne-eqb _ _ w, eq-eqb _ _ e, le-leb _ _ few, lt-ltb _ _ some, eq-eqb _ _ room)
 
@@ -80,7 +80,7 @@ abbrev Either : List ℤ → (ℕ × ℕ) × List ℤ → Type 0
 Either out given = (given .0 ≡ (0, 0)) ⊎ ((0 < given .0 .0) × (given .1 ≡ out))
 
 pub whole-either : (N : ℕ) (frames out : List ℤ) → Either out (wholeBack N frames out)
-unfolding wholeBack oneByOne
+unfolding wholeBack backOneByOne
 whole-either N frames out =
     by (eqb (halfWidth N) 0) (eqb (length frames % N) 0 && leb (length frames / N) frameLimit && ltb 0 (length frames)) (eqb (length out + N) (length frames))
     (eqb (firstAnswer N frames out .0) 0) refl

@@ -17,12 +17,12 @@ use Rattle.tables.specs.Widths.{halfWidth}
 use Rattle.runs.specs.Answers.{told, placed}
 use Rattle.runs.specs.declared.answer.Answer.the-variants.{OutputLength}
 use Rattle.distance.specs.Statement.{IsWidth, promised}
-use Rattle.distance_runs.proofs.Theorems.{promised-distance}
+use Rattle.distance_theorems.proofs.Theorems.{promised-distance}
 use Rattle.runs.specs.declared.record.Run.{Run}
 use Rattle.runs.specs.Record.{blockLimit}
 use Rattle.runs.specs.Forward.{started}
 use Rattle.runs.specs.Calls.{Call, Made, made, works, workings, framesGiven, kept, working, blocksOf, frameAt}
-use Rattle.runs.specs.Whole.{callsOf, firstRefusal, outputs, oneByOne, wholeForward, partsOf, blocksIn, joined, WholeRun}
+use Rattle.runs.specs.Whole.{callsOf, firstRefusal, outputs, forwardOneByOne, wholeForward, partsOf, blocksIn, joined, WholeRun}
 use Rattle.runs.specs.Lists.{madeFrom, blocksTaken}
 use Rattle.runs.proofs.RecordLaws.{length-frame}
 use Rattle.runs.proofs.EveryList.{fresh-told, list-near, AllBlocks, blocks-kept}
@@ -148,10 +148,10 @@ module _ (N : ℕ) (readings out : List ℤ) (w : halfWidth N ≡ 0 → ⊥) (e 
   whole-output-refused m = rw (ne-eqb _ _ w, eq-eqb _ _ e, le-leb _ _ few, ne-eqb _ _ m)
 
   module _ (room : length out ≡ length readings + N) where
-    lengths-passed : oneByOne N readings out ≡ wholeForward N readings out
+    lengths-passed : forwardOneByOne N readings out ≡ wholeForward N readings out
     unfolding wholeForward
     lengths-passed = rw (ne-eqb _ _ w, eq-eqb _ _ e, le-leb _ _ few, eq-eqb _ _ room)
 
     pub by-refusal : (answer : ℕ × ℕ) → firstRefusal N 0 (callsMade N readings out) ≡ answer → (answer, cond (eqb (answer .0) 0) (outputs (callsMade N readings out)) out) ≡ wholeForward N readings out
-    unfolding oneByOne
+    unfolding forwardOneByOne
     by-refusal answer d = rw (← lengths-passed, d)

@@ -23,7 +23,7 @@ use Rattle.runs.specs.CallsReturn.{answersBack, outputsBack, AllTaken}
 use Rattle.runs.proofs.EveryList.{AllBlocks}
 use Rattle.runs.proofs.RecordLaws.{width-pos}
 use Rattle.runs.proofs.WholeLaws.{frames-long, whole-blocks, some-blocks}
-use Rattle.runs.specs.WholeBack.{allOutputs, firstAnswer, oneByOne, wholeBack}
+use Rattle.runs.specs.WholeBack.{allOutputs, firstAnswer, backOneByOne, wholeBack}
 use Rattle.runs.proofs.WholeBackLaws.{first-zero, lengths-passed, whole-done}
 use Rattle.runs.proofs.MadeFrames.{allFrames, all-frames}
 use Rattle.runs.proofs.Parts.{length-joined, parts-joined, length-parts, rows-parts, joined-parts}
@@ -108,7 +108,7 @@ module _ (N : ℕ) (w : IsWidth N) (frames out : List ℤ) (yes : wholeBack N fr
       let e = eqb (length frames % N) 0 in
       let f = leb (length frames / N) frameLimit in
       let g = ltb 0 (length frames) in
-      let p = lengths-asked (e && f && g) (eqb (length out + N) (length frames)) out (oneByOne N frames out) (rw (ne-eqb (halfWidth N) 0 (λ z. omega arith)) at yes) in
+      let p = lengths-asked (e && f && g) (eqb (length out + N) (length frames)) out (backOneByOne N frames out) (rw (ne-eqb (halfWidth N) 0 (λ z. omega arith)) at yes) in
       let q = and-eq-true-iff (e && f) g .0 (p .0) in
       let r = and-eq-true-iff e f .0 (q .0) in
       record { even = eqb-true _ _ (r .0); few = leb-true _ _ (r .1); some = ltb-true _ _ (q .1); room = eqb-true _ _ (p .1) }
@@ -145,7 +145,7 @@ module _ (N : ℕ) (w : IsWidth N) (frames out : List ℤ) (right : LengthsRight
       by-parts (length frames / N - 1) (rw d at whole)
 
 pub accepted-whole : (N : ℕ) → IsWidth N → (frames out : List ℤ) → wholeBack N frames out .0 ≡ (0, 0) → MadeOf N frames out
-unfolding oneByOne
+unfolding backOneByOne
 accepted-whole N w frames out e =
     let right = lengths-right N w frames out e in
     let same = lengths-passed N frames out (λ z. omega arith) (right .even) (right .few) (right .some) (right .room) in

@@ -32,13 +32,13 @@ placed N before answer =
     (answer .0, cond (ltb (answer .0) 8) 0 (cond (eqb (answer .0) 12) (before - N + answer .1) (before + answer .1)))
 
 -- the first number of a list that a test names, where the list's first stands at k
-unfoldable pub first : (ℤ → Bool) → List ℤ → ℕ → Found
-first test [] k = Nothing
-first test (x ∷ xs) k = cond (test x) (At k) (first test xs (suc k))
+unfoldable pub firstWhere : (ℤ → Bool) → List ℤ → ℕ → Found
+firstWhere test [] k = Nothing
+firstWhere test (x ∷ xs) k = cond (test x) (At k) (firstWhere test xs (suc k))
 
 -- the first that is beyond ±limit
 unfoldable pub beyond : ℤ → ℤ → Bool
 beyond limit x = ltb (natAbs limit) (natAbs x)
 
 abbrev pub firstBeyond : ℤ → List ℤ → ℕ → Found
-firstBeyond limit = first (beyond limit)
+firstBeyond limit = firstWhere (beyond limit)

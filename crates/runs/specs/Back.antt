@@ -12,7 +12,7 @@ use Rattle.runs.specs.Answers.{firstBeyond}
 use Rattle.runs.specs.declared.answer.Found.{Found}
 use Rattle.runs.specs.declared.record.Run.{Run}
 use Rattle.runs.specs.Record.{frameLimit, opened, closed}
-use Rattle.runs.specs.Gate.{Given, ask, askEach, admitted, sound, firstOut}
+use Rattle.runs.specs.Gate.{CallResult, ask, askEach, admitted, sound, firstOut}
 
 -- a run that has taken one frame more, and holds the lower half of its folded values
 unfoldable pub framed : Run → List ℤ → Run
@@ -26,31 +26,31 @@ blockOn run folded = unfolded (run .width) (take (halfWidth (run .width)) (run .
 unfoldable pub firstUpper : Run → List ℤ → Found
 firstUpper run folded = firstBeyond (pos 0) (drop (halfWidth (run .width)) folded) (halfWidth (run .width))
 
-unfoldable pub firstFrame : Run → List ℤ → List ℤ → Given
+unfoldable pub firstFrame : Run → List ℤ → List ℤ → CallResult
 firstFrame run folded out = askEach 11 (firstUpper run folded) run out ((0, 0), framed run folded, out)
 
 -- A later frame gives the block before it, whose readings must be in range (12).
-unfoldable pub laterFrame : Run → List ℤ → List ℤ → Given
+unfoldable pub laterFrame : Run → List ℤ → List ℤ → CallResult
 laterFrame run folded out = askEach 12 (firstOut (blockOn run folded) 0) run out ((0, 0), framed run folded, blockOn run folded)
 
-unfoldable pub unfoldedIn : Run → List ℤ → List ℤ → Given
+unfoldable pub unfoldedIn : Run → List ℤ → List ℤ → CallResult
 unfoldedIn run folded out = cond (eqb (run .count) 0) (firstFrame run folded out) (laterFrame run folded out)
 
 -- 9, the stages undone, 10
-unfoldable pub undoneIn : Run → List ℤ → List ℤ → Given
+unfoldable pub undoneIn : Run → List ℤ → List ℤ → CallResult
 undoneIn run frame out =
     askEach 9 (firstBeyond (pos coefficientLimit) frame 0) run out
     (askEach 10 (firstBeyond (pos foldedLimit) (unstages (run .width) frame) 0) run out (unfoldedIn run (unstages (run .width) frame) out))
 
 -- take a frame
-unfoldable pub takenBack : Run → List ℤ → List ℤ → Given
+unfoldable pub takenBack : Run → List ℤ → List ℤ → CallResult
 takenBack run frame out = admitted frameLimit run frame out (undoneIn run frame out)
 
 -- finish back: 5, a frame has been taken; 11, the held lower half is zero. No output is lent.
 unfoldable pub firstHeld : Run → Found
 firstHeld run = firstBeyond (pos 0) (take (halfWidth (run .width)) (run .held)) 0
 
-unfoldable pub endedBack : Run → Given
+unfoldable pub endedBack : Run → CallResult
 endedBack run =
     ask 2 (sound frameLimit run) run []
     (ask 3 (not (run .finished)) run []

@@ -8,7 +8,7 @@ use lib.ListN.{length, getD}
 use Rattle.steps.specs.Steps.{held, frame}
 use Rattle.runs.specs.declared.record.Run.{Run}
 use Rattle.runs.specs.Record.{blockLimit, zeros}
-use Rattle.runs.specs.Gate.{Given, nothing, every, firstDead, firstOut}
+use Rattle.runs.specs.Gate.{CallResult, nothing, allYes, firstDead, firstOut}
 use Rattle.runs.specs.Forward.{taken, ended}
 
 -- a block handed in or a finish asked for, each with an output of its own
@@ -25,7 +25,7 @@ isFinish (block readings out) = false
 isFinish (finish out) = true
 
 -- ---- what the calls give
-unfoldable pub give : Run → Call → Given
+unfoldable pub give : Run → Call → CallResult
 give run (block readings out) = taken run readings out
 give run (finish out) = ended run out
 
@@ -33,7 +33,7 @@ give run (finish out) = ended run out
 pub record Made : Type 0 where
   pub call : Call
   pub before : Run
-  pub given : Given
+  pub given : CallResult
 
 unfoldable pub made : Run → List Call → List Made
 made run [] = []
@@ -57,7 +57,7 @@ framesGiven (m ∷ ms) = cond (works m) (m .given .2 ∷ framesGiven ms) (frames
 -- finish is accepted where none has worked and its output has the right length.
 unfoldable pub accepted : ℕ → ℕ → Bool → Call → Bool
 accepted N b over (block readings out) =
-    every
+    allYes
     (not over
     ∷ ltb b blockLimit
     ∷ eqb (length readings) N
@@ -65,7 +65,7 @@ accepted N b over (block readings out) =
     ∷ nothing (firstDead readings 0)
     ∷ nothing (firstOut readings 0)
     ∷ [])
-accepted N b over (finish out) = every (not over ∷ eqb (length out) N ∷ [])
+accepted N b over (finish out) = allYes (not over ∷ eqb (length out) N ∷ [])
 
 -- the count and whether it is over, after a call
 unfoldable pub countAfter : ℕ → ℕ → Bool → Call → ℕ

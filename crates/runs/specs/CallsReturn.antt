@@ -17,7 +17,7 @@ use Rattle.runs.specs.Forward.{started}
 use Rattle.runs.specs.Calls.{Call, framesGiven, blockAt, frameAt}
 use Rattle.runs.specs.Lists.{madeFrom, blocksTaken, finished}
 use Rattle.runs.specs.Back.{takenBack, endedBack}
-use Rattle.runs.specs.Cases.{sample, output, start, one, two}
+use Rattle.runs.specs.Cases.{sample, sampleOutput, sampleStart, sampleFrame0, sampleFrame1}
 
 -- Frames taken back one by one, each with an output of its own, from a record on, and then the finish: what is given are the answers, the
 -- finish's last, and each output afterwards. They are what `back::take` and `back::finish` promise.
@@ -81,9 +81,9 @@ TakenExactly = (N : ℕ) → RunWidth N → (frames outs : List (List ℤ)) → 
 
 -- ---- the claim at work, at width 8: the sample's two frames, the first of them alone, the second alone, and none. `proofs/AcceptedCalls` computes it.
 pub record BackAtWork : Type 0 where
-  pub frames-made : framesMade 8 (sample ∷ []) ≡ one ∷ two ∷ []
-  pub blocks-given : blocksGiven 8 (one ∷ two ∷ []) (output ∷ output ∷ []) ≡ sample ∷ []
-  pub both : answersBack start (one ∷ two ∷ []) (output ∷ output ∷ []) ≡ (0, 0) ∷ (0, 0) ∷ (0, 0) ∷ []
-  pub first-alone : answersBack start (one ∷ []) (output ∷ []) ≡ (0, 0) ∷ (11, 3) ∷ []
-  pub second-alone : answersBack start (two ∷ []) (output ∷ []) ≡ (11, 4) ∷ (5, 0) ∷ []
-  pub no-frame : answersBack start [] [] ≡ (5, 0) ∷ []
+  pub frames-made : framesMade 8 (sample ∷ []) ≡ sampleFrame0 ∷ sampleFrame1 ∷ []
+  pub blocks-given : blocksGiven 8 (sampleFrame0 ∷ sampleFrame1 ∷ []) (sampleOutput ∷ sampleOutput ∷ []) ≡ sample ∷ []
+  pub both : answersBack sampleStart (sampleFrame0 ∷ sampleFrame1 ∷ []) (sampleOutput ∷ sampleOutput ∷ []) ≡ (0, 0) ∷ (0, 0) ∷ (0, 0) ∷ []
+  pub first-alone : answersBack sampleStart (sampleFrame0 ∷ []) (sampleOutput ∷ []) ≡ (0, 0) ∷ (11, 3) ∷ []
+  pub second-alone : answersBack sampleStart (sampleFrame1 ∷ []) (sampleOutput ∷ []) ≡ (11, 4) ∷ (5, 0) ∷ []
+  pub no-frame : answersBack sampleStart [] [] ≡ (5, 0) ∷ []

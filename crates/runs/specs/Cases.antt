@@ -16,21 +16,21 @@ use Rattle.runs.specs.Forward.{started, taken, ended}
 abbrev pub sample : List ℤ
 sample = pos 100 ∷ zeros 7
 
-abbrev pub output : List ℤ
-output = replicate 8 (pos 1)
+abbrev pub sampleOutput : List ℤ
+sampleOutput = replicate 8 (pos 1)
 
-abbrev pub start : Run
-start = started 8 .1
+abbrev pub sampleStart : Run
+sampleStart = started 8 .1
 
 abbrev minus : ℕ → ℤ
 minus n = negℤ (pos n)
 
 -- the two frames that the block gives
-abbrev pub one : List ℤ
-one = pos 39 ∷ minus 24 ∷ minus 48 ∷ pos 4 ∷ pos 50 ∷ pos 14 ∷ minus 44 ∷ minus 33 ∷ []
+abbrev pub sampleFrame0 : List ℤ
+sampleFrame0 = pos 39 ∷ minus 24 ∷ minus 48 ∷ pos 4 ∷ pos 50 ∷ pos 14 ∷ minus 44 ∷ minus 33 ∷ []
 
-abbrev pub two : List ℤ
-two = minus 3 ∷ pos 4 ∷ pos 2 ∷ minus 5 ∷ pos 0 ∷ pos 5 ∷ minus 3 ∷ minus 3 ∷ []
+abbrev pub sampleFrame1 : List ℤ
+sampleFrame1 = minus 3 ∷ pos 4 ∷ pos 2 ∷ minus 5 ∷ pos 0 ∷ pos 5 ∷ minus 3 ∷ minus 3 ∷ []
 
 unfoldable pub cases : List (List ℤ × List ℤ)
 cases =
@@ -45,9 +45,9 @@ cases =
     -- folded place 3, and what is held for place 4: held place 0
     ∷ (at (lower 8 sample) 3 ∷ at (held 8 sample) 0 ∷ [], pos 100 ∷ minus 10 ∷ [])
     -- the first frame, the second, and the frame of no block
-    ∷ (taken start sample output .2, one)
-    ∷ (ended (taken start sample output .1) output .2, two)
-    ∷ (ended start output .2, zeros 8)
+    ∷ (taken sampleStart sample sampleOutput .2, sampleFrame0)
+    ∷ (ended (taken sampleStart sample sampleOutput .1) sampleOutput .2, sampleFrame1)
+    ∷ (ended sampleStart sampleOutput .2, zeros 8)
     ∷ []
 
 -- in every row the two are the same

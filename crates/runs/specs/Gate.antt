@@ -7,20 +7,20 @@ use lib.IntN.{ℤ, pos, negsuc}
 use lib.ListN.{length, drop}
 use Rattle.tables.specs.Widths.{halfWidth}
 use Rattle.steps.specs.Limits.{readingLimit, foldedLimit}
-use Rattle.runs.specs.Answers.{first, firstBeyond}
+use Rattle.runs.specs.Answers.{firstWhere, firstBeyond}
 use Rattle.runs.specs.declared.answer.Found.{Found}
 use Rattle.runs.specs.declared.answer.Found.the-variants.{At, Nothing}
 use Rattle.runs.specs.declared.record.Run.{Run}
 
 -- what a call gives: the answer's number and place, the record handed back, the output afterwards
-abbrev pub Given : Type 0
-Given = (ℕ × ℕ) × Run × List ℤ
+abbrev pub CallResult : Type 0
+CallResult = (ℕ × ℕ) × Run × List ℤ
 
 -- a question: where it says no, the call gives its number, and the record and the output as they were; else what follows
-unfoldable pub ask : ℕ → Bool → Run → List ℤ → Given → Given
+unfoldable pub ask : ℕ → Bool → Run → List ℤ → CallResult → CallResult
 ask number answer run out next = cond answer next ((number, 0), run, out)
 
-unfoldable pub askEach : ℕ → Found → Run → List ℤ → Given → Given
+unfoldable pub askEach : ℕ → Found → Run → List ℤ → CallResult → CallResult
 askEach number (At place) run out next = ((number, place), run, out)
 askEach number Nothing run out next = next
 
@@ -33,15 +33,15 @@ unfoldable pub inside : ℤ → List ℤ → Bool
 inside limit xs = nothing (firstBeyond limit xs 0)
 
 -- each of a list of questions is answered yes
-unfoldable pub every : List Bool → Bool
-every [] = true
-every (answer ∷ rest) = answer && every rest
+unfoldable pub allYes : List Bool → Bool
+allYes [] = true
+allYes (answer ∷ rest) = answer && allYes rest
 
 -- 2, where `top` is the greatest count: a width, a count that a run can have, held values within ±50,000, zeros at the held places that a
 -- width does not use, and zeros alone where nothing was taken yet or the run is finished
 unfoldable pub sound : ℕ → Run → Bool
 sound top run =
-    every
+    allYes
     (ltb 0 (halfWidth (run .width))
     ∷ leb (run .count) top
     ∷ inside (pos foldedLimit) (run .held)
@@ -55,14 +55,14 @@ dead (pos n) = false
 dead (negsuc n) = eqb n 32767
 
 abbrev pub firstDead : List ℤ → ℕ → Found
-firstDead = first dead
+firstDead = firstWhere dead
 
 -- 9
 abbrev pub firstOut : List ℤ → ℕ → Found
 firstOut = firstBeyond (pos readingLimit)
 
 -- 2, 3, 4, 6 and 7 to a block or frame that is handed in, where `top` is the greatest count; then what follows
-unfoldable pub admitted : ℕ → Run → List ℤ → List ℤ → Given → Given
+unfoldable pub admitted : ℕ → Run → List ℤ → List ℤ → CallResult → CallResult
 admitted top run given out next =
     ask 2 (sound top run) run out
     (ask 3 (not (run .finished)) run out

@@ -13,7 +13,7 @@ use Rattle.distance.specs.Statement.{Near}
 use Rattle.runs.specs.Record.{zeros}
 use Rattle.runs.specs.Forward.{started}
 use Rattle.runs.specs.Calls.{Call, block, finish, outputOf, isFinish, Made, made, works, workings, framesGiven, acceptedAll, overAll, working, blocksOf, blockAt, blockBefore, frameAt}
-use Rattle.runs.specs.Cases.{sample, output, one, two}
+use Rattle.runs.specs.Cases.{sample, sampleOutput, sampleFrame0, sampleFrame1}
 
 -- the calls, made one after the other from a fresh start at width N
 unfoldable pub madeFrom : ℕ → List Call → List Made
@@ -70,11 +70,11 @@ EveryListNearer = (N : ℕ) → RunWidth N → (calls : List Call) → AllNear (
 -- ---- the claim at work, at width 8: a block with a dead mark, the sample's block, a finish and a second one. `proofs/AcceptedCalls`
 -- computes it.
 abbrev pub someCalls : List Call
-someCalls = block (pos 0 ∷ negℤ (pos 32768) ∷ zeros 6) output ∷ block sample output ∷ finish output ∷ finish output ∷ []
+someCalls = block (pos 0 ∷ negℤ (pos 32768) ∷ zeros 6) sampleOutput ∷ block sample sampleOutput ∷ finish sampleOutput ∷ finish sampleOutput ∷ []
 
 pub record AtWork : Type 0 where
   pub answers : map (λ m. m .given .0) (madeFrom 8 someCalls) ≡ (8, 1) ∷ (0, 0) ∷ (0, 0) ∷ (3, 0) ∷ []
   pub which-work : acceptedAll 8 0 false someCalls ≡ false ∷ true ∷ true ∷ false ∷ []
   pub blocks : blocksTaken 8 someCalls ≡ sample ∷ []
   pub over : finished 8 someCalls ≡ true
-  pub frames : framesGiven (madeFrom 8 someCalls) ≡ one ∷ two ∷ []
+  pub frames : framesGiven (madeFrom 8 someCalls) ≡ sampleFrame0 ∷ sampleFrame1 ∷ []

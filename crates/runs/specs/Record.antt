@@ -34,12 +34,12 @@ unfoldable pub nextCount : ℕ → ℕ → ℕ
 nextCount number count = cond (eqb number 0) (suc count) count
 
 -- a list of held values, with zeros up to 64 of them
-unfoldable pub filled : List ℤ → List ℤ
-filled xs = xs ++ zeros (64 - length xs)
+unfoldable pub zeroPadded : List ℤ → List ℤ
+zeroPadded xs = xs ++ zeros (64 - length xs)
 
 -- the record of an open run
 unfoldable pub opened : ℕ → ℕ → List ℤ → Run
-opened N count xs = record { width = N; count = count; held = filled xs; finished = false }
+opened N count xs = record { width = N; count = count; held = zeroPadded xs; finished = false }
 
 -- a run that has taken one block more, and holds that block's
 unfoldable pub advanced : Run → List ℤ → Run

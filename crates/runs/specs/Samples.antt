@@ -9,23 +9,23 @@ use lib.ListN.{replicate}
 use Rattle.integers.specs.Floor.{round, floorDiv}
 use Rattle.integers.specs.Places.{tab, sum}
 use Rattle.tables.specs.Widths.{byWidth, halfWidth}
-use Rattle.tables.specs.Angles.{halfTurn, reflected, minus, signed}
+use Rattle.tables.specs.Angles.{halfTurn, reflected, belowZero, signed}
 use Rattle.tables.specs.Numbers.{sines, halfTangents, halfTangents8, secants, secants8, cosineOf, sineOf, halfTangentOf, secantOf}
 use Rattle.steps.specs.Steps.{rootLog, tangent, sine, cosine, oddOf, secant, alternate, tangentAmount, sineAmount, rotatedA, rotatedB, lower, held, topOf, bottomOf, amount1, amount2, amount3, stage1, stage2, stage3, stage4, stage5, stages, frame, unrotatedA, unrotatedB, unfolded, unstage1, unstage2, unstage3, unstage4, unstage5, interleaved, unstages}
 use Rattle.runs.specs.declared.record.Run.{Run}
-use Rattle.runs.specs.Answers.{placed, first, beyond}
+use Rattle.runs.specs.Answers.{placed, firstWhere, beyond}
 use Rattle.runs.specs.Alone.{refusedAt, shaped, stagesAsked, stagesAlone, unstagesAsked, unstagesAlone}
-use Rattle.runs.specs.Record.{zeros, recordOf, nextCount, filled, opened, advanced, closed}
-use Rattle.runs.specs.Gate.{Given, ask, askEach, nothing, inside, every, sound, dead, admitted}
+use Rattle.runs.specs.Record.{zeros, recordOf, nextCount, zeroPadded, opened, advanced, closed}
+use Rattle.runs.specs.Gate.{CallResult, ask, askEach, nothing, inside, allYes, sound, dead, admitted}
 use Rattle.runs.specs.Forward.{started, frameOn, takenIn, taken, ended}
 use Rattle.runs.specs.Calls.{Call, block, finish, give, made, works, framesGiven, accepted, countAfter, overAfter, acceptedAll, kept, working, blocksOf, blockAt, blockBefore, frameAt}
 use Rattle.runs.specs.Lists.{madeFrom, blocksTaken}
-use Rattle.runs.specs.Whole.{callsOf, firstRefusal, outputs, oneByOne, wholeForward, partsOf, blocksIn, joined}
+use Rattle.runs.specs.Whole.{callsOf, firstRefusal, outputs, forwardOneByOne, wholeForward, partsOf, blocksIn, joined}
 use Rattle.runs.specs.Back.{framed, blockOn, firstUpper, firstFrame, laterFrame, unfoldedIn, undoneIn, takenBack, firstHeld, endedBack}
 use Rattle.runs.specs.WholeBack as Back
 use Rattle.runs.specs.Return.{framesOf}
 use Rattle.runs.specs.CallsReturn.{answersBack, outputsBack}
-use Rattle.runs.specs.Cases.{sample, output, start, one, two}
+use Rattle.runs.specs.Cases.{sample, sampleOutput, sampleStart, sampleFrame0, sampleFrame1}
 
 -- a table of what is computed and what the paper says: in every row the two are the same
 abbrev Said : {A : Type 0} → List (A × A) → Type 0
@@ -63,7 +63,7 @@ start-given : Said {A = (ℕ × ℕ) × Run}
     ((started 9, ((1, 0), recordOf 0 0 (zeros 64) false))
     ∷ (started 128, ((0, 0), recordOf 128 0 (zeros 64) false))
     ∷ [])
-unfolding started opened filled halfWidth byWidth
+unfolding started opened zeroPadded halfWidth byWidth
 start-given = refl
 
 -- one more is counted where a call has worked
@@ -73,18 +73,18 @@ count-given = refl
 
 -- ---- question 2, and 3 and 4 behind it
 records-asked : Said {A = ℕ × ℕ}
-    ((taken (opened 9 0 []) sample output .0, (2, 0))
-    ∷ (taken (opened 8 65537 []) sample output .0, (2, 0))
-    ∷ (taken (opened 8 1 (pos 50001 ∷ [])) sample output .0, (2, 0))
-    ∷ (taken (opened 8 1 (less 50001 ∷ [])) sample output .0, (2, 0))
-    ∷ (taken (opened 8 1 (zeros 4 ++ pos 1 ∷ [])) sample output .0, (2, 0))
-    ∷ (taken (opened 8 0 (pos 1 ∷ [])) sample output .0, (2, 0))
-    ∷ (taken (recordOf 8 1 (pos 1 ∷ zeros 63) true) sample output .0, (2, 0))
-    ∷ (taken (recordOf 8 65536 (zeros 64) true) sample output .0, (3, 0))
-    ∷ (taken (opened 8 65536 []) sample output .0, (4, 0))
-    ∷ (taken (opened 8 1 (pos 50000 ∷ [])) sample output .0, (0, 0))
+    ((taken (opened 9 0 []) sample sampleOutput .0, (2, 0))
+    ∷ (taken (opened 8 65537 []) sample sampleOutput .0, (2, 0))
+    ∷ (taken (opened 8 1 (pos 50001 ∷ [])) sample sampleOutput .0, (2, 0))
+    ∷ (taken (opened 8 1 (less 50001 ∷ [])) sample sampleOutput .0, (2, 0))
+    ∷ (taken (opened 8 1 (zeros 4 ++ pos 1 ∷ [])) sample sampleOutput .0, (2, 0))
+    ∷ (taken (opened 8 0 (pos 1 ∷ [])) sample sampleOutput .0, (2, 0))
+    ∷ (taken (recordOf 8 1 (pos 1 ∷ zeros 63) true) sample sampleOutput .0, (2, 0))
+    ∷ (taken (recordOf 8 65536 (zeros 64) true) sample sampleOutput .0, (3, 0))
+    ∷ (taken (opened 8 65536 []) sample sampleOutput .0, (4, 0))
+    ∷ (taken (opened 8 1 (pos 50000 ∷ [])) sample sampleOutput .0, (0, 0))
     ∷ [])
-unfolding halfWidth byWidth first beyond ask askEach nothing inside every sound admitted filled opened advanced closed started frameOn takenIn taken ended dead
+unfolding halfWidth byWidth firstWhere beyond ask askEach nothing inside allYes sound admitted zeroPadded opened advanced closed started frameOn takenIn taken ended dead
 records-asked = refl
 
 -- ---- a list of calls: 6, 7, 8 and 9, each before the next; a block, and the finish, behind which 3
@@ -101,71 +101,71 @@ abbrev list : List Call
 list =
     block nine (ones 9)
     ∷ block marked (ones 7)
-    ∷ block marked output
-    ∷ block out-of-range output
-    ∷ block sample output
+    ∷ block marked sampleOutput
+    ∷ block out-of-range sampleOutput
+    ∷ block sample sampleOutput
     ∷ finish (ones 7)
-    ∷ block sample output
-    ∷ finish output
-    ∷ block sample output
-    ∷ finish output
+    ∷ block sample sampleOutput
+    ∷ finish sampleOutput
+    ∷ block sample sampleOutput
+    ∷ finish sampleOutput
     ∷ []
 
 list-given : map (λ m. m .given) (madeFrom 8 list)
-    ≡ ((6, 0), start, ones 9)
-    ∷ ((7, 0), start, ones 7)
-    ∷ ((8, 2), start, output)
-    ∷ ((9, 6), start, output)
-    ∷ ((0, 0), forward1, one)
+    ≡ ((6, 0), sampleStart, ones 9)
+    ∷ ((7, 0), sampleStart, ones 7)
+    ∷ ((8, 2), sampleStart, sampleOutput)
+    ∷ ((9, 6), sampleStart, sampleOutput)
+    ∷ ((0, 0), forward1, sampleFrame0)
     ∷ ((7, 0), forward1, ones 7)
     ∷ ((0, 0), recordOf 8 2 (less 10 ∷ zeros 63) false, between)
-    ∷ ((0, 0), recordOf 8 2 (zeros 64) true, two)
-    ∷ ((3, 0), recordOf 8 2 (zeros 64) true, output)
-    ∷ ((3, 0), recordOf 8 2 (zeros 64) true, output)
+    ∷ ((0, 0), recordOf 8 2 (zeros 64) true, sampleFrame1)
+    ∷ ((3, 0), recordOf 8 2 (zeros 64) true, sampleOutput)
+    ∷ ((3, 0), recordOf 8 2 (zeros 64) true, sampleOutput)
     ∷ []
-unfolding madeFrom made give byWidth halfWidth halfTurn reflected minus signed sines halfTangents halfTangents8 secants secants8 cosineOf sineOf halfTangentOf secantOf round floorDiv tab sum rootLog tangent sine cosine oddOf secant alternate tangentAmount sineAmount rotatedA rotatedB lower held topOf bottomOf amount1 amount2 amount3 stage1 stage2 stage3 stage4 stage5 stages frame first beyond ask askEach nothing inside every sound admitted filled opened advanced closed started frameOn takenIn taken ended dead
+unfolding madeFrom made give byWidth halfWidth halfTurn reflected belowZero signed sines halfTangents halfTangents8 secants secants8 cosineOf sineOf halfTangentOf secantOf round floorDiv tab sum rootLog tangent sine cosine oddOf secant alternate tangentAmount sineAmount rotatedA rotatedB lower held topOf bottomOf amount1 amount2 amount3 stage1 stage2 stage3 stage4 stage5 stages frame firstWhere beyond ask askEach nothing inside allYes sound admitted zeroPadded opened advanced closed started frameOn takenIn taken ended dead
 list-given = refl
 
 -- which of them work, told from the calls alone, and the frames of the blocks among those
 list-told : acceptedAll 8 0 false list ≡ false ∷ false ∷ false ∷ false ∷ true ∷ false ∷ true ∷ true ∷ false ∷ false ∷ []
-unfolding acceptedAll accepted countAfter overAfter nothing every first beyond dead
+unfolding acceptedAll accepted countAfter overAfter nothing allYes firstWhere beyond dead
 list-told = refl
 
 -- a refused block is not counted, and behind 65,536 no block is taken
-last-told : acceptedAll 8 65535 false (block marked output ∷ block sample output ∷ block sample output ∷ finish output ∷ []) ≡ false ∷ true ∷ false ∷ true ∷ []
-unfolding acceptedAll accepted countAfter overAfter nothing every first beyond dead
+last-told : acceptedAll 8 65535 false (block marked sampleOutput ∷ block sample sampleOutput ∷ block sample sampleOutput ∷ finish sampleOutput ∷ []) ≡ false ∷ true ∷ false ∷ true ∷ []
+unfolding acceptedAll accepted countAfter overAfter nothing allYes firstWhere beyond dead
 last-told = refl
 
-list-frames : framesGiven (madeFrom 8 list) ++ tab (frameAt 8 (blocksTaken 8 list)) 3 0 ≡ one ∷ between ∷ two ∷ one ∷ between ∷ two ∷ []
-unfolding framesGiven madeFrom made give works blocksTaken working kept blocksOf acceptedAll accepted countAfter overAfter frameAt blockAt blockBefore byWidth halfWidth halfTurn reflected minus signed sines halfTangents halfTangents8 secants secants8 cosineOf sineOf halfTangentOf secantOf round floorDiv tab sum rootLog tangent sine cosine oddOf secant alternate tangentAmount sineAmount rotatedA rotatedB lower held topOf bottomOf amount1 amount2 amount3 stage1 stage2 stage3 stage4 stage5 stages frame first beyond ask askEach nothing inside every sound admitted filled opened advanced closed started frameOn takenIn taken ended dead
+list-frames : framesGiven (madeFrom 8 list) ++ tab (frameAt 8 (blocksTaken 8 list)) 3 0 ≡ sampleFrame0 ∷ between ∷ sampleFrame1 ∷ sampleFrame0 ∷ between ∷ sampleFrame1 ∷ []
+unfolding framesGiven madeFrom made give works blocksTaken working kept blocksOf acceptedAll accepted countAfter overAfter frameAt blockAt blockBefore byWidth halfWidth halfTurn reflected belowZero signed sines halfTangents halfTangents8 secants secants8 cosineOf sineOf halfTangentOf secantOf round floorDiv tab sum rootLog tangent sine cosine oddOf secant alternate tangentAmount sineAmount rotatedA rotatedB lower held topOf bottomOf amount1 amount2 amount3 stage1 stage2 stage3 stage4 stage5 stages frame firstWhere beyond ask askEach nothing inside allYes sound admitted zeroPadded opened advanced closed started frameOn takenIn taken ended dead
 list-frames = refl
 
 -- ---- frames back: 2, 4, 6, 7, 9, 10 and 11; the first frame, 12, the second
-back-given : Said {A = Given}
-    ((takenBack (opened 8 65538 []) one output, ((2, 0), opened 8 65538 [], output))
-    ∷ (takenBack (opened 8 65537 []) one output, ((4, 0), opened 8 65537 [], output))
-    ∷ (takenBack start (zeros 9) (ones 9), ((6, 0), start, ones 9))
-    ∷ (takenBack start large (ones 7), ((7, 0), start, ones 7))
-    ∷ (takenBack start large output, ((9, 2), start, output))
-    ∷ (takenBack start beyondFold output, ((10, 0), start, output))
-    ∷ (takenBack start two output, ((11, 4), start, output))
-    ∷ (takenBack start one output, ((0, 0), back1, output))
-    ∷ (takenBack back1 beyondBlock output, ((12, 5), back1, output))
-    ∷ (takenBack back1 two output, ((0, 0), recordOf 8 2 (zeros 64) false, sample))
+back-given : Said {A = CallResult}
+    ((takenBack (opened 8 65538 []) sampleFrame0 sampleOutput, ((2, 0), opened 8 65538 [], sampleOutput))
+    ∷ (takenBack (opened 8 65537 []) sampleFrame0 sampleOutput, ((4, 0), opened 8 65537 [], sampleOutput))
+    ∷ (takenBack sampleStart (zeros 9) (ones 9), ((6, 0), sampleStart, ones 9))
+    ∷ (takenBack sampleStart large (ones 7), ((7, 0), sampleStart, ones 7))
+    ∷ (takenBack sampleStart large sampleOutput, ((9, 2), sampleStart, sampleOutput))
+    ∷ (takenBack sampleStart beyondFold sampleOutput, ((10, 0), sampleStart, sampleOutput))
+    ∷ (takenBack sampleStart sampleFrame1 sampleOutput, ((11, 4), sampleStart, sampleOutput))
+    ∷ (takenBack sampleStart sampleFrame0 sampleOutput, ((0, 0), back1, sampleOutput))
+    ∷ (takenBack back1 beyondBlock sampleOutput, ((12, 5), back1, sampleOutput))
+    ∷ (takenBack back1 sampleFrame1 sampleOutput, ((0, 0), recordOf 8 2 (zeros 64) false, sample))
     ∷ [])
-unfolding byWidth halfWidth halfTurn reflected minus signed sines halfTangents halfTangents8 secants secants8 cosineOf sineOf halfTangentOf secantOf round floorDiv tab sum rootLog tangent sine cosine oddOf secant alternate tangentAmount sineAmount unrotatedA unrotatedB unfolded amount1 amount2 amount3 unstage1 unstage2 unstage3 unstage4 unstage5 interleaved unstages first beyond ask askEach nothing inside every sound admitted filled opened closed started framed blockOn firstUpper firstFrame laterFrame unfoldedIn undoneIn takenBack firstHeld endedBack
+unfolding byWidth halfWidth halfTurn reflected belowZero signed sines halfTangents halfTangents8 secants secants8 cosineOf sineOf halfTangentOf secantOf round floorDiv tab sum rootLog tangent sine cosine oddOf secant alternate tangentAmount sineAmount unrotatedA unrotatedB unfolded amount1 amount2 amount3 unstage1 unstage2 unstage3 unstage4 unstage5 interleaved unstages firstWhere beyond ask askEach nothing inside allYes sound admitted zeroPadded opened closed started framed blockOn firstUpper firstFrame laterFrame unfoldedIn undoneIn takenBack firstHeld endedBack
 back-given = refl
 
 -- ---- the finish back: 2, 3, 5 and 11
-ends-given : Said {A = Given}
+ends-given : Said {A = CallResult}
     ((endedBack (opened 9 0 []), ((2, 0), opened 9 0 [], []))
     ∷ (endedBack (recordOf 8 0 (zeros 64) true), ((3, 0), recordOf 8 0 (zeros 64) true, []))
-    ∷ (endedBack start, ((5, 0), start, []))
+    ∷ (endedBack sampleStart, ((5, 0), sampleStart, []))
     ∷ (endedBack back1, ((11, 3), back1, []))
     ∷ (endedBack (opened 8 65538 []), ((2, 0), opened 8 65538 [], []))
     ∷ (endedBack (opened 8 65537 []), ((0, 0), recordOf 8 65537 (zeros 64) true, []))
     ∷ [])
-unfolding halfWidth byWidth first beyond ask askEach nothing inside every sound admitted filled opened closed started firstHeld endedBack
+unfolding halfWidth byWidth firstWhere beyond ask askEach nothing inside allYes sound admitted zeroPadded opened closed started firstHeld endedBack
 ends-given = refl
 
 -- ---- places through a run, with 16 numbers before: none, one of this block, one of the block before
@@ -179,10 +179,10 @@ whole-given : Said {A = (ℕ × ℕ) × List ℤ}
     ∷ (wholeForward 8 (zeros 9) (ones 16), ((6, 0), ones 16))
     ∷ (wholeForward 8 sample (ones 15), ((7, 0), ones 15))
     ∷ (wholeForward 8 (sample ++ zeros 3 ++ less 32768 ∷ zeros 4) (ones 24), ((8, 11), ones 24))
-    ∷ (wholeForward 8 [] output, ((0, 0), zeros 8))
-    ∷ (wholeForward 8 sample (ones 16), ((0, 0), one ++ two))
+    ∷ (wholeForward 8 [] sampleOutput, ((0, 0), zeros 8))
+    ∷ (wholeForward 8 sample (ones 16), ((0, 0), sampleFrame0 ++ sampleFrame1))
     ∷ [])
-unfolding wholeForward oneByOne callsOf firstRefusal placed outputs works made give byWidth halfWidth halfTurn reflected minus signed sines halfTangents halfTangents8 secants secants8 cosineOf sineOf halfTangentOf secantOf round floorDiv tab sum rootLog tangent sine cosine oddOf secant alternate tangentAmount sineAmount rotatedA rotatedB lower held topOf bottomOf amount1 amount2 amount3 stage1 stage2 stage3 stage4 stage5 stages frame first beyond ask askEach nothing inside every sound admitted filled opened advanced closed started frameOn takenIn taken ended dead
+unfolding wholeForward forwardOneByOne callsOf firstRefusal placed outputs works made give byWidth halfWidth halfTurn reflected belowZero signed sines halfTangents halfTangents8 secants secants8 cosineOf sineOf halfTangentOf secantOf round floorDiv tab sum rootLog tangent sine cosine oddOf secant alternate tangentAmount sineAmount rotatedA rotatedB lower held topOf bottomOf amount1 amount2 amount3 stage1 stage2 stage3 stage4 stage5 stages frame firstWhere beyond ask askEach nothing inside allYes sound admitted zeroPadded opened advanced closed started frameOn takenIn taken ended dead
 whole-given = refl
 
 -- ---- whole runs back: 1, 6 and 7; places counted through the run, 12 by blocks and the finish with the last frame; one block, and two
@@ -190,24 +190,24 @@ whole-back-given : Said {A = (ℕ × ℕ) × List ℤ}
     ((Back.wholeBack 9 (zeros 9) [], ((1, 0), []))
     ∷ (Back.wholeBack 8 (zeros 9) (ones 1), ((6, 0), ones 1))
     ∷ (Back.wholeBack 8 [] [], ((6, 0), []))
-    ∷ (Back.wholeBack 8 one (ones 1), ((7, 0), ones 1))
-    ∷ (Back.wholeBack 8 (one ++ two) [], ((7, 0), []))
-    ∷ (Back.wholeBack 8 (one ++ two ++ large) (ones 16), ((9, 18), ones 16))
-    ∷ (Back.wholeBack 8 (one ++ two ++ beyondBlock) (ones 16), ((12, 13), ones 16))
-    ∷ (Back.wholeBack 8 (one ++ between) output, ((11, 11), output))
-    ∷ (Back.wholeBack 8 (one ++ two) output, ((0, 0), sample))
-    ∷ (Back.wholeBack 8 (one ++ between ++ two) (ones 16), ((0, 0), sample ++ sample))
+    ∷ (Back.wholeBack 8 sampleFrame0 (ones 1), ((7, 0), ones 1))
+    ∷ (Back.wholeBack 8 (sampleFrame0 ++ sampleFrame1) [], ((7, 0), []))
+    ∷ (Back.wholeBack 8 (sampleFrame0 ++ sampleFrame1 ++ large) (ones 16), ((9, 18), ones 16))
+    ∷ (Back.wholeBack 8 (sampleFrame0 ++ sampleFrame1 ++ beyondBlock) (ones 16), ((12, 13), ones 16))
+    ∷ (Back.wholeBack 8 (sampleFrame0 ++ between) sampleOutput, ((11, 11), sampleOutput))
+    ∷ (Back.wholeBack 8 (sampleFrame0 ++ sampleFrame1) sampleOutput, ((0, 0), sample))
+    ∷ (Back.wholeBack 8 (sampleFrame0 ++ between ++ sampleFrame1) (ones 16), ((0, 0), sample ++ sample))
     ∷ [])
-unfolding Back.wholeBack Back.oneByOne Back.firstAnswer Back.allOutputs Back.answerFrom Back.outputsFrom placed byWidth halfWidth halfTurn reflected minus signed sines halfTangents halfTangents8 secants secants8 cosineOf sineOf halfTangentOf secantOf round floorDiv tab sum rootLog tangent sine cosine oddOf secant alternate tangentAmount sineAmount unrotatedA unrotatedB unfolded amount1 amount2 amount3 unstage1 unstage2 unstage3 unstage4 unstage5 interleaved unstages first beyond ask askEach nothing inside every sound admitted filled opened closed started framed blockOn firstUpper firstFrame laterFrame unfoldedIn undoneIn takenBack firstHeld endedBack
+unfolding Back.wholeBack Back.backOneByOne Back.firstAnswer Back.allOutputs Back.answerFrom Back.outputsFrom placed byWidth halfWidth halfTurn reflected belowZero signed sines halfTangents halfTangents8 secants secants8 cosineOf sineOf halfTangentOf secantOf round floorDiv tab sum rootLog tangent sine cosine oddOf secant alternate tangentAmount sineAmount unrotatedA unrotatedB unfolded amount1 amount2 amount3 unstage1 unstage2 unstage3 unstage4 unstage5 interleaved unstages firstWhere beyond ask askEach nothing inside allYes sound admitted zeroPadded opened closed started framed blockOn firstUpper firstFrame laterFrame unfoldedIn undoneIn takenBack firstHeld endedBack
 whole-back-given = refl
 
 -- ---- there and back: two blocks, their frames, call by call
-return-given : framesOf 8 (sample ++ sample) ∷ outputsBack start (one ∷ between ∷ two ∷ []) (output ∷ output ∷ output ∷ []) ≡ (one ++ between ++ two) ∷ output ∷ sample ∷ sample ∷ []
-unfolding framesOf blocksIn partsOf joined frameAt blockAt blockBefore outputsBack byWidth halfWidth halfTurn reflected minus signed sines halfTangents halfTangents8 secants secants8 cosineOf sineOf halfTangentOf secantOf round floorDiv tab sum rootLog tangent sine cosine oddOf secant alternate tangentAmount sineAmount rotatedA rotatedB lower held topOf bottomOf amount1 amount2 amount3 stage1 stage2 stage3 stage4 stage5 stages frame unrotatedA unrotatedB unfolded unstage1 unstage2 unstage3 unstage4 unstage5 interleaved unstages first beyond ask askEach nothing inside every sound admitted filled opened closed started framed blockOn firstUpper firstFrame laterFrame unfoldedIn undoneIn takenBack firstHeld endedBack
+return-given : framesOf 8 (sample ++ sample) ∷ outputsBack sampleStart (sampleFrame0 ∷ between ∷ sampleFrame1 ∷ []) (sampleOutput ∷ sampleOutput ∷ sampleOutput ∷ []) ≡ (sampleFrame0 ++ between ++ sampleFrame1) ∷ sampleOutput ∷ sample ∷ sample ∷ []
+unfolding framesOf blocksIn partsOf joined frameAt blockAt blockBefore outputsBack byWidth halfWidth halfTurn reflected belowZero signed sines halfTangents halfTangents8 secants secants8 cosineOf sineOf halfTangentOf secantOf round floorDiv tab sum rootLog tangent sine cosine oddOf secant alternate tangentAmount sineAmount rotatedA rotatedB lower held topOf bottomOf amount1 amount2 amount3 stage1 stage2 stage3 stage4 stage5 stages frame unrotatedA unrotatedB unfolded unstage1 unstage2 unstage3 unstage4 unstage5 interleaved unstages firstWhere beyond ask askEach nothing inside allYes sound admitted zeroPadded opened closed started framed blockOn firstUpper firstFrame laterFrame unfoldedIn undoneIn takenBack firstHeld endedBack
 return-given = refl
 
-return-answers : answersBack start (one ∷ between ∷ two ∷ []) (output ∷ output ∷ output ∷ []) ≡ (0, 0) ∷ (0, 0) ∷ (0, 0) ∷ (0, 0) ∷ []
-unfolding answersBack byWidth halfWidth halfTurn reflected minus signed sines halfTangents halfTangents8 secants secants8 cosineOf sineOf halfTangentOf secantOf round floorDiv tab sum rootLog tangent sine cosine oddOf secant alternate tangentAmount sineAmount unrotatedA unrotatedB unfolded amount1 amount2 amount3 unstage1 unstage2 unstage3 unstage4 unstage5 interleaved unstages first beyond ask askEach nothing inside every sound admitted filled opened closed started framed blockOn firstUpper firstFrame laterFrame unfoldedIn undoneIn takenBack firstHeld endedBack
+return-answers : answersBack sampleStart (sampleFrame0 ∷ between ∷ sampleFrame1 ∷ []) (sampleOutput ∷ sampleOutput ∷ sampleOutput ∷ []) ≡ (0, 0) ∷ (0, 0) ∷ (0, 0) ∷ (0, 0) ∷ []
+unfolding answersBack byWidth halfWidth halfTurn reflected belowZero signed sines halfTangents halfTangents8 secants secants8 cosineOf sineOf halfTangentOf secantOf round floorDiv tab sum rootLog tangent sine cosine oddOf secant alternate tangentAmount sineAmount unrotatedA unrotatedB unfolded amount1 amount2 amount3 unstage1 unstage2 unstage3 unstage4 unstage5 interleaved unstages firstWhere beyond ask askEach nothing inside allYes sound admitted zeroPadded opened closed started framed blockOn firstUpper firstFrame laterFrame unfoldedIn undoneIn takenBack firstHeld endedBack
 return-answers = refl
 
 -- ---- the stages alone: 1, 6, 7, 9 and 10, and one frame both ways
@@ -215,12 +215,12 @@ alone-given : Said {A = (ℕ × ℕ) × List ℤ}
     ((stagesAlone 9 (zeros 9) (ones 9), ((1, 0), ones 9))
     ∷ (stagesAlone 8 (zeros 7) (ones 7), ((6, 0), ones 7))
     ∷ (stagesAlone 8 (zeros 8) (ones 7), ((7, 0), ones 7))
-    ∷ (stagesAlone 8 (zeros 2 ++ less 50001 ∷ pos 50001 ∷ zeros 4) output, ((10, 2), output))
-    ∷ (stagesAlone 8 (zeros 3 ++ pos 100 ∷ zeros 4) output, ((0, 0), one))
+    ∷ (stagesAlone 8 (zeros 2 ++ less 50001 ∷ pos 50001 ∷ zeros 4) sampleOutput, ((10, 2), sampleOutput))
+    ∷ (stagesAlone 8 (zeros 3 ++ pos 100 ∷ zeros 4) sampleOutput, ((0, 0), sampleFrame0))
     ∷ (unstagesAlone 9 (zeros 9) (ones 9), ((1, 0), ones 9))
-    ∷ (unstagesAlone 8 large output, ((9, 2), output))
-    ∷ (unstagesAlone 8 beyondFold output, ((10, 0), output))
-    ∷ (unstagesAlone 8 one output, ((0, 0), zeros 3 ++ pos 100 ∷ zeros 4))
+    ∷ (unstagesAlone 8 large sampleOutput, ((9, 2), sampleOutput))
+    ∷ (unstagesAlone 8 beyondFold sampleOutput, ((10, 0), sampleOutput))
+    ∷ (unstagesAlone 8 sampleFrame0 sampleOutput, ((0, 0), zeros 3 ++ pos 100 ∷ zeros 4))
     ∷ [])
-unfolding stagesAlone stagesAsked unstagesAlone unstagesAsked shaped refusedAt first beyond byWidth halfWidth halfTurn reflected minus signed sines halfTangents halfTangents8 secants secants8 cosineOf sineOf halfTangentOf secantOf round floorDiv tab sum rootLog tangent sine cosine oddOf secant alternate tangentAmount sineAmount rotatedA rotatedB lower held topOf bottomOf amount1 amount2 amount3 stage1 stage2 stage3 stage4 stage5 stages frame unrotatedA unrotatedB unfolded unstage1 unstage2 unstage3 unstage4 unstage5 interleaved unstages
+unfolding stagesAlone stagesAsked unstagesAlone unstagesAsked shaped refusedAt firstWhere beyond byWidth halfWidth halfTurn reflected belowZero signed sines halfTangents halfTangents8 secants secants8 cosineOf sineOf halfTangentOf secantOf round floorDiv tab sum rootLog tangent sine cosine oddOf secant alternate tangentAmount sineAmount rotatedA rotatedB lower held topOf bottomOf amount1 amount2 amount3 stage1 stage2 stage3 stage4 stage5 stages frame unrotatedA unrotatedB unfolded unstage1 unstage2 unstage3 unstage4 unstage5 interleaved unstages
 alone-given = refl

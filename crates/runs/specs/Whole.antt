@@ -30,8 +30,8 @@ outputs [] = []
 outputs (m ∷ ms) = m .given .2 ++ outputs ms
 
 -- what the calls one by one give, and nothing written where one is refused
-unfoldable pub oneByOne : ℕ → List ℤ → List ℤ → (ℕ × ℕ) × List ℤ
-oneByOne N readings out =
+unfoldable pub forwardOneByOne : ℕ → List ℤ → List ℤ → (ℕ × ℕ) × List ℤ
+forwardOneByOne N readings out =
     let calls = made (started N .1) (callsOf N (length readings / N) readings out) in
     let answer = firstRefusal N 0 calls in
     (answer, cond (eqb (answer .0) 0) (outputs calls) out)
@@ -41,7 +41,7 @@ unfoldable pub wholeForward : ℕ → List ℤ → List ℤ → (ℕ × ℕ) × 
 wholeForward N readings out =
     cond (eqb (halfWidth N) 0) ((1, 0), out)
     (cond (eqb (length readings % N) 0 && leb (length readings / N) blockLimit)
-    (cond (eqb (length out) (length readings + N)) (oneByOne N readings out) ((7, 0), out))
+    (cond (eqb (length out) (length readings + N)) (forwardOneByOne N readings out) ((7, 0), out))
     ((6, 0), out))
 
 -- ---- what a whole run forward has written where it answers 0: all its frames, each near the exact one

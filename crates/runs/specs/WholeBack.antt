@@ -35,13 +35,13 @@ unfoldable pub firstAnswer : ℕ → List ℤ → List ℤ → ℕ × ℕ
 firstAnswer N frames out = answerFrom N 0 (started N .1) (length frames / N) frames (zeros N ++ out)
 
 -- what the calls one by one give, and nothing written where one is refused
-unfoldable pub oneByOne : ℕ → List ℤ → List ℤ → (ℕ × ℕ) × List ℤ
-oneByOne N frames out = (firstAnswer N frames out, cond (eqb (firstAnswer N frames out .0) 0) (drop N (allOutputs N frames out)) out)
+unfoldable pub backOneByOne : ℕ → List ℤ → List ℤ → (ℕ × ℕ) × List ℤ
+backOneByOne N frames out = (firstAnswer N frames out, cond (eqb (firstAnswer N frames out .0) 0) (drop N (allOutputs N frames out)) out)
 
 -- questions 1, 6 and 7 come before all others: 6, whole frames, at least one and not too many; 7, one block less than frames
 unfoldable pub wholeBack : ℕ → List ℤ → List ℤ → (ℕ × ℕ) × List ℤ
 wholeBack N frames out =
     cond (eqb (halfWidth N) 0) ((1, 0), out)
     (cond (eqb (length frames % N) 0 && leb (length frames / N) frameLimit && ltb 0 (length frames))
-    (cond (eqb (length out + N) (length frames)) (oneByOne N frames out) ((7, 0), out))
+    (cond (eqb (length out + N) (length frames)) (backOneByOne N frames out) ((7, 0), out))
     ((6, 0), out))

@@ -88,5 +88,5 @@ filling-listed {f} {i = i} h x e =
     filling-four h (ap (λ l. at l 0) e ∙ ap f zero) (ap (λ l. at l 1) e) (ap (λ l. at l 2) e) (ap (λ l. at l 3) e)
 
 -- four numbers from place p on, from the last to the first
-pub turned-is : (l : List ℤ) (p : ℕ) (x y : Four) (f : ℕ → ℤ) → listed x ≡ places 4 (λ j. at l (p + j)) → listed y ≡ places 4 (λ j. at (listed x) (3 - j)) → ((j : ℕ) → j < 4 → at l (p + (3 - j)) ≡ f j) → listed y ≡ places 4 f
-turned-is l p x y f e d g = d ∙ places-ext 4 _ _ (λ j k. ap (λ t. at t (3 - j)) e ∙ at-places 4 (λ j. at l (p + j)) (3 - j) (omega arith) ∙ g j k)
+pub reversed-is : (l : List ℤ) (p : ℕ) (x y : Four) (f : ℕ → ℤ) → listed x ≡ places 4 (λ j. at l (p + j)) → listed y ≡ places 4 (λ j. at (listed x) (3 - j)) → ((j : ℕ) → j < 4 → at l (p + (3 - j)) ≡ f j) → listed y ≡ places 4 f
+reversed-is l p x y f e d g = d ∙ places-ext 4 _ _ (λ j k. ap (λ t. at t (3 - j)) e ∙ at-places 4 (λ j. at l (p + j)) (3 - j) (omega arith) ∙ g j k)

@@ -15,7 +15,7 @@ pub struct Four {
 }
 
 // The four numbers from place p on.
-pub fn taken(x: &[i64], p: usize) -> Four
+pub fn four_at(x: &[i64], p: usize) -> Four
     requires { ⌜ p + 4 ≤ length (now x) ⌝ }
     ensures { λ r. ⌜ listed r ≡ places 4 (λ j. at (now (x .entry)) (p + j)) ⌝ }
 {
@@ -28,7 +28,7 @@ pub fn taken(x: &[i64], p: usize) -> Four
 }
 
 // From the last to the first.
-pub fn turned(x: Four) -> Four
+pub fn reversed(x: Four) -> Four
     ensures { λ r. ⌜ listed r ≡ places 4 (λ j. at (listed x) (3 - j)) ⌝ }
 {
     Four {
@@ -80,7 +80,7 @@ pub fn minus(x: Four, y: Four) -> Four
 }
 
 // The sum, or the difference.
-pub fn joined(less: bool, x: Four, y: Four) -> Four
+pub fn sum_or_difference(less: bool, x: Four, y: Four) -> Four
     requires { ⌜ Within (2 ^ 62 - 1) (listed x) ⌝ }
     requires { ⌜ Within (2 ^ 62 - 1) (listed y) ⌝ }
     ensures { λ r. ⌜ listed r ≡ places 4 (λ j. moved less (at (listed x) j) (at (listed y) j)) ⌝ }

@@ -102,7 +102,7 @@ pub fn narrow(x: &[i64], out: &mut [i32])
 {
     let mut i = 0;
     while i < out.len() {
-        put_narrow(out, i, fours::taken(x, i));
+        put_narrow(out, i, fours::four_at(x, i));
         i += 4;
     }
 }

@@ -11,7 +11,7 @@ use lib.ListN.{length, take}
 use lib.Seq.{getD-take}
 use Rattle.integers.specs.Floor.{above}
 use Rattle.integers.specs.Places.{places, at, sum, Within}
-use Rattle.integers.specs.Tests.{below}
+use Rattle.integers.specs.Tests.{everyBelow}
 use Rattle.integers.proofs.Tested.{below-at}
 use Rattle.integers.proofs.Order.{natAbs-*ℤ-le}
 use Rattle.integers.proofs.Ring.{*ℤ-assoc}
@@ -28,9 +28,9 @@ use Rattle.lifts.proofs.MoveLaws.{alternate-size}
 use Rattle.stages.proofs.StageSizes.{cosine-sum-size, secant-sum-size}
 
 -- ---- the order of a width
-out-below : (N : ℕ) → T (below (halfWidth N) (λ m. ltb (placeOut N m) (halfWidth N)))
+out-below : (N : ℕ) → T (everyBelow (halfWidth N) (λ m. ltb (placeOut N m) (halfWidth N)))
 unfolding halfWidth byWidth placesOut placeOut
-out-below = at-each (λ N M. T (below M (λ m. ltb (placeOut N m) M))) 4 16 64 0 tt tt tt (λ N x y z. tt)
+out-below = at-each (λ N M. T (everyBelow M (λ m. ltb (placeOut N m) M))) 4 16 64 0 tt tt tt (λ N x y z. tt)
 
 place-out-below : (N m : ℕ) → m < halfWidth N → placeOut N m < halfWidth N
 place-out-below N m h = ltb→lt _ _ (below-at (halfWidth N) _ (out-below N) m h)

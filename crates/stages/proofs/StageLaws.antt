@@ -17,8 +17,8 @@ use Rattle.tables.proofs.ByWidth.{at-each, no-other}
 use Rattle.steps.specs.Steps.{rootLog, cosine, secant, alternate, amount1, amount2, amount3, tangent, sine, tangentAmount, sineAmount, stage1, stage2, stage3, stage4, stage5, unstage1, unstage2, unstage3, unstage4, unstage5}
 use Rattle.rows.specs.Sums.{cosineSums, secantSums, alternated}
 use Rattle.slices.specs.Own.Moves.{moved}
-use Rattle.lifts.specs.Own.Moves.{flipped, second, amount, third}
-use Rattle.width_tables.specs.Own.Parts.{Halves}
+use Rattle.lifts.specs.Own.Moves.{flipped, stage2At, amount, stage3Amount}
+use Rattle.width_tables.specs.Own.Parts.{TwoHalves}
 
 -- ---- one scale for all widths
 round-first : (N : ℕ) → 0 < halfWidth N → (v : ℤ) → round 30 (pos (scale N) *ℤ v) ≡ round (27 + rootLog N) v
@@ -41,7 +41,7 @@ module _ (S C T : ℤ) where
   times-out : (c r M : ℕ) → negℤ (pos c *ℤ S) -ℤ pos (c * r) *ℤ C +ℤ pos (c * M) *ℤ T ≡ pos c *ℤ plain r M
   times-out c r M = rw (dif S, dif C, dif T) (simp zs (omega arith))
 
-  third-is : (s c r M : ℕ) → s * s ≡ c → 16 * s ≡ c * r → 64 ≡ c * M → third (pos (s * s) *ℤ S) (pos s *ℤ C) T ≡ pos c *ℤ plain r M
+  third-is : (s c r M : ℕ) → s * s ≡ c → 16 * s ≡ c * r → 64 ≡ c * M → stage3Amount (pos (s * s) *ℤ S) (pos s *ℤ C) T ≡ pos c *ℤ plain r M
   unfolding amount
   third-is s c r M e f g =
       ap (λ v. negℤ (pos (s * s) *ℤ S) -ℤ v +ℤ pos 64 *ℤ T) (sym (*ℤ-assoc (pos 16) (pos s) C))
@@ -49,10 +49,10 @@ module _ (S C T : ℤ) where
       ∙ ap (λ d. negℤ (pos c *ℤ S) -ℤ pos (c * r) *ℤ C +ℤ pos d *ℤ T) g
       ∙ times-out c r M
 
-round-third : (N : ℕ) → 0 < halfWidth N → (S C T : ℤ) → round 34 (third (pos (scale N * scale N) *ℤ S) (pos (scale N) *ℤ C) T) ≡ round (28 + 2 * rootLog N) (plain S C T (2 * 2 ^ rootLog N) (halfWidth N))
+round-third : (N : ℕ) → 0 < halfWidth N → (S C T : ℤ) → round 34 (stage3Amount (pos (scale N * scale N) *ℤ S) (pos (scale N) *ℤ C) T) ≡ round (28 + 2 * rootLog N) (plain S C T (2 * 2 ^ rootLog N) (halfWidth N))
 unfolding halfWidth scale rootLog byWidth
 round-third =
-    at-each (λ N l. 0 < halfWidth N → (S C T : ℤ) → round 34 (third (pos (scale N * scale N) *ℤ S) (pos (scale N) *ℤ C) T) ≡ round (28 + 2 * l) (plain S C T (2 * 2 ^ l) (halfWidth N))) 1 2 3 0
+    at-each (λ N l. 0 < halfWidth N → (S C T : ℤ) → round 34 (stage3Amount (pos (scale N * scale N) *ℤ S) (pos (scale N) *ℤ C) T) ≡ round (28 + 2 * l) (plain S C T (2 * 2 ^ l) (halfWidth N))) 1 2 3 0
     (λ z S C T. ap (round 34) (third-is S C T 4 16 4 4 refl refl refl) ∙ round-scaled 30 4 (plain S C T 4 4) (omega arith))
     (λ z S C T. ap (round 34) (third-is S C T 2 4 8 16 refl refl refl) ∙ round-scaled 32 2 (plain S C T 8 16) (omega arith))
     (λ z S C T. ap (round 34) (third-is S C T 1 1 16 64 refl refl refl) ∙ round-scaled 34 0 (plain S C T 16 64) (omega arith))
@@ -72,7 +72,7 @@ respoken : (n : ℕ) (y : List ℤ) (f g : ℕ → ℤ) → length y ≡ n → (
 respoken n y f g l h = ap (λ k. places k f) l ∙ places-ext n f g h
 
 -- ---- the stages, with rows as the lifts read them
-module _ (N : ℕ) (z : 0 < halfWidth N) (top bottom : List ℤ) (h : Halves N top bottom) where
+module _ (N : ℕ) (z : 0 < halfWidth N) (top bottom : List ℤ) (h : TwoHalves N top bottom) where
   abbrev M : ℕ
   M = halfWidth N
 
@@ -100,10 +100,10 @@ module _ (N : ℕ) (z : 0 < halfWidth N) (top bottom : List ℤ) (h : Halves N t
     amount2-is m l = ap (round 31) (r m l ∙ ap (λ v. pos (scale N) *ℤ v) (at-places M _ m l)) ∙ round-second N z _
 
     abbrev lifted2 : Bool → List ℤ
-    lifted2 undo = places (length top) (λ i. second undo i (at top i) (round 31 (row i)))
+    lifted2 undo = places (length top) (λ i. stage2At undo i (at top i) (round 31 (row i)))
 
     same2 : (undo : Bool) → lifted2 undo ≡ cond undo (unstage2 N top bottom) (stage2 N top bottom)
-    unfolding stage2 unstage2 second flipped
+    unfolding stage2 unstage2 stage2At flipped
     same2 true = respoken M top _ _ (h .top-long) (λ m l. ap (λ v. negℤ (alternate m (at top m -ℤ v))) (amount2-is m l))
     same2 false = respoken M top _ _ (h .top-long) (λ m l. ap (λ v. negℤ (alternate m (at top m)) +ℤ v) (amount2-is m l))
 
@@ -118,21 +118,21 @@ module _ (N : ℕ) (z : 0 < halfWidth N) (top bottom : List ℤ) (h : Halves N t
         ap (λ n. at c (n - 1 - m) *ℤ at top (n - 1 - m)) (h .bottom-long)
         ∙ ap (λ v. v *ℤ at top (M - 1 - m)) (ap (λ xs. at xs (M - 1 - m)) t ∙ at-places M _ (M - 1 - m) (omega arith))
 
-    amount3-is : (m : ℕ) → m < M → round 34 (third (sec m) (cos m) (at c (length bottom - 1 - m) *ℤ at top (length bottom - 1 - m))) ≡ amount3 N top m
+    amount3-is : (m : ℕ) → m < M → round 34 (stage3Amount (sec m) (cos m) (at c (length bottom - 1 - m) *ℤ at top (length bottom - 1 - m))) ≡ amount3 N top m
     unfolding amount3 secantSums cosineSums
     amount3-is m l =
         let S = sum M (λ n. secant N m n *ℤ at top n) in
         let C = sum M (λ n. cosine N m n *ℤ at top n) in
         let T = tangent N (M - 1 - m) in
         let x = at top (M - 1 - m) in
-        ap₂ (λ a b. round 34 (third a b (at c (length bottom - 1 - m) *ℤ at top (length bottom - 1 - m))))
+        ap₂ (λ a b. round 34 (stage3Amount a b (at c (length bottom - 1 - m) *ℤ at top (length bottom - 1 - m))))
         (p m l ∙ ap (λ v. pos (scale N * scale N) *ℤ v) (at-places M _ m l)) (q m l ∙ ap (λ v. pos (scale N) *ℤ v) (at-places M _ m l))
-        ∙ ap (λ v. round 34 (third (pos (scale N * scale N) *ℤ S) (pos (scale N) *ℤ C) v)) (tangents-at m l)
+        ∙ ap (λ v. round 34 (stage3Amount (pos (scale N * scale N) *ℤ S) (pos (scale N) *ℤ C) v)) (tangents-at m l)
         ∙ round-third N z S C (negℤ T *ℤ x)
         ∙ ap (round (28 + 2 * rootLog N)) (minus-inside S (pos (2 * 2 ^ rootLog N) *ℤ C) (pos M) T x)
 
     abbrev lifted3 : Bool → List ℤ
-    lifted3 undo = places (length bottom) (λ i. moved undo (at bottom i) (round 34 (third (sec i) (cos i) (at c (length bottom - 1 - i) *ℤ at top (length bottom - 1 - i)))))
+    lifted3 undo = places (length bottom) (λ i. moved undo (at bottom i) (round 34 (stage3Amount (sec i) (cos i) (at c (length bottom - 1 - i) *ℤ at top (length bottom - 1 - i)))))
 
     same3 : (undo : Bool) → lifted3 undo ≡ cond undo (unstage3 N top bottom) (stage3 N top bottom)
     unfolding stage3 unstage3 moved
@@ -143,7 +143,7 @@ module _ (N : ℕ) (z : 0 < halfWidth N) (top bottom : List ℤ) (h : Halves N t
     stage3-is undo e = e ∙ same3 undo
 
 -- ---- lifts that read a list from its end: at place i of n numbers c is read at `place n i`
-module _ (N : ℕ) (top bottom : List ℤ) (h : Halves N top bottom) (c : List ℤ) where
+module _ (N : ℕ) (top bottom : List ℤ) (h : TwoHalves N top bottom) (c : List ℤ) where
   lifted-by : (undo : Bool) (place : ℕ → ℕ → ℕ) (x y : List ℤ) (f : ℕ → ℤ) → ((i : ℕ) → i < halfWidth N → place (halfWidth N) i < halfWidth N) → length y ≡ halfWidth N → c ≡ places (halfWidth N) f
       → places (length y) (λ i. moved undo (at y i) (round 28 (at c (place (length y) i) *ℤ at x (length y - 1 - i))))
       ≡ places (halfWidth N) (λ i. moved undo (at y i) (round 28 (f (place (halfWidth N) i) *ℤ at x (halfWidth N - 1 - i))))

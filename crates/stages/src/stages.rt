@@ -8,7 +8,7 @@ ghost use Rattle.tables.specs.Widths.{halfWidth};
 ghost use Rattle.width_tables.specs.Filled.{Filled, productRoom};
 ghost use Rattle.steps.specs.Limits.{foldedLimit, coefficientLimit};
 ghost use Rattle.steps.specs.Steps.{stage1, stage2, stage3, stage4, stage5, unstage1, unstage2, unstage3, unstage4, unstage5};
-ghost use Rattle.width_tables.specs.Own.Parts.{Halves, Room};
+ghost use Rattle.width_tables.specs.Own.Parts.{TwoHalves, Room};
 ghost use Rattle.stages.specs.Own.Stages.{top4, bottom5, untop2, unbottom1};
 use rows::sums;
 
@@ -16,7 +16,7 @@ use rows::sums;
 fn first(undo: bool, width: usize, t: &[i64], top: &[i64], bottom: &mut [i64], y: &mut [i64])
     requires { ⌜ 0 < halfWidth width ⌝ }
     requires { ⌜ Filled width (now t) ⌝ }
-    requires { ⌜ Halves width (now top) (now bottom) ⌝ }
+    requires { ⌜ TwoHalves width (now top) (now bottom) ⌝ }
     requires { ⌜ productRoom width ≤ length (now y) ⌝ }
     requires { ⌜ Within 268000000 (now top) ⌝ }
     requires { ⌜ Within (2 ^ 60) (now bottom) ⌝ }
@@ -41,7 +41,7 @@ fn first(undo: bool, width: usize, t: &[i64], top: &[i64], bottom: &mut [i64], y
 fn second(undo: bool, width: usize, t: &[i64], top: &mut [i64], bottom: &[i64], y: &mut [i64])
     requires { ⌜ 0 < halfWidth width ⌝ }
     requires { ⌜ Filled width (now t) ⌝ }
-    requires { ⌜ Halves width (now top) (now bottom) ⌝ }
+    requires { ⌜ TwoHalves width (now top) (now bottom) ⌝ }
     requires { ⌜ productRoom width ≤ length (now y) ⌝ }
     requires { ⌜ Within 268000000 (now bottom) ⌝ }
     requires { ⌜ Within (2 ^ 60) (now top) ⌝ }
@@ -67,7 +67,7 @@ fn third(
 )
     requires { ⌜ 0 < halfWidth width ⌝ }
     requires { ⌜ Filled width (now t) ⌝ }
-    requires { ⌜ Halves width (now top) (now bottom) ⌝ }
+    requires { ⌜ TwoHalves width (now top) (now bottom) ⌝ }
     requires { ⌜ Room width (now y) (now z) ⌝ }
     requires { ⌜ Within 4000000 (now top) ⌝ }
     requires { ⌜ Within (2 ^ 60) (now bottom) ⌝ }
@@ -95,7 +95,7 @@ fn third(
 fn fourth(undo: bool, width: usize, t: &[i64], top: &mut [i64], bottom: &[i64])
     requires { ⌜ 0 < halfWidth width ⌝ }
     requires { ⌜ Filled width (now t) ⌝ }
-    requires { ⌜ Halves width (now top) (now bottom) ⌝ }
+    requires { ⌜ TwoHalves width (now top) (now bottom) ⌝ }
     requires { ⌜ Within (2 ^ 34) (now bottom) ⌝ }
     requires { ⌜ Within (2 ^ 60) (now top) ⌝ }
     ensures { λ _. ⌜ now (top .exit) ≡ cond undo (unstage4 width (now (top .entry)) (now (bottom .entry))) (stage4 width (now (top .entry)) (now (bottom .entry))) ⌝ }
@@ -108,7 +108,7 @@ fn fourth(undo: bool, width: usize, t: &[i64], top: &mut [i64], bottom: &[i64])
 fn fifth(undo: bool, width: usize, t: &[i64], top: &[i64], bottom: &mut [i64])
     requires { ⌜ 0 < halfWidth width ⌝ }
     requires { ⌜ Filled width (now t) ⌝ }
-    requires { ⌜ Halves width (now top) (now bottom) ⌝ }
+    requires { ⌜ TwoHalves width (now top) (now bottom) ⌝ }
     requires { ⌜ Within (2 ^ 34) (now top) ⌝ }
     requires { ⌜ Within (2 ^ 60) (now bottom) ⌝ }
     ensures { λ _. ⌜ now (bottom .exit) ≡ cond undo (unstage5 width (now (top .entry)) (now (bottom .entry))) (stage5 width (now (top .entry)) (now (bottom .entry))) ⌝ }
@@ -128,7 +128,7 @@ pub fn forward(
 )
     requires { ⌜ 0 < halfWidth width ⌝ }
     requires { ⌜ Filled width (now t) ⌝ }
-    requires { ⌜ Halves width (now top) (now bottom) ⌝ }
+    requires { ⌜ TwoHalves width (now top) (now bottom) ⌝ }
     requires { ⌜ Room width (now y) (now z) ⌝ }
     requires { ⌜ Within foldedLimit (now top) ⌝ }
     requires { ⌜ Within foldedLimit (now bottom) ⌝ }
@@ -152,7 +152,7 @@ pub fn backward(
 )
     requires { ⌜ 0 < halfWidth width ⌝ }
     requires { ⌜ Filled width (now t) ⌝ }
-    requires { ⌜ Halves width (now top) (now bottom) ⌝ }
+    requires { ⌜ TwoHalves width (now top) (now bottom) ⌝ }
     requires { ⌜ Room width (now y) (now z) ⌝ }
     requires { ⌜ Within coefficientLimit (now top) ⌝ }
     requires { ⌜ Within coefficientLimit (now bottom) ⌝ }

@@ -18,7 +18,7 @@ use Rattle.integers.proofs.Lifts.{getD-lift}
 use Rattle.tables.specs.Angles.{signed}
 use Rattle.steps.specs.Places.{tab, places, at, sum}
 use Rattle.steps.specs.Steps.{alternate}
-use Rattle.steps.specs.RowForm.{onto, rev, times, negative, alt, evens, odds, lift}
+use Rattle.steps.specs.RowForm.{onto, rev, times, negatedRow, alt, evens, odds, lift}
 use Rattle.steps.proofs.Lists.{Len}
 
 -- ---- two lists one behind the other
@@ -68,8 +68,8 @@ at-times (x ∷ xs) [] i = sym (*ℤ-zero (at (x ∷ xs) i))
 at-times (x ∷ xs) (y ∷ ys) zero = refl
 at-times (x ∷ xs) (y ∷ ys) (suc i) = at-times xs ys i
 
-pub at-negative : (xs : List ℤ) (i : ℕ) → at (negative xs) i ≡ negℤ (at xs i)
-unfolding negative
+pub at-negative : (xs : List ℤ) (i : ℕ) → at (negatedRow xs) i ≡ negℤ (at xs i)
+unfolding negatedRow
 at-negative [] i = refl
 at-negative (x ∷ xs) zero = refl
 at-negative (x ∷ xs) (suc i) = at-negative xs i

@@ -8,12 +8,12 @@ use lib.ListN.{length, take, drop, length-drop}
 use lib.Seq.{length-take-le}
 use lib.IntN.{ℤ, _+ℤ_}
 use Rattle.integers.specs.Floor.{round}
-use Rattle.integers.specs.Vectors.{scale, plus, mulVec, Rows}
+use Rattle.integers.specs.Vectors.{scalarMul, plus, mulVec, Rows}
 use Rattle.integers.proofs.PlaceLaws.{length-tab}
 use Rattle.integers.proofs.Products.{length-scale, length-plus, length-mulVec}
 use Rattle.integers.proofs.Lifts.{length-lift}
 use Rattle.steps.specs.Places.{tab}
-use Rattle.steps.specs.RowForm.{onto, rev, times, negative, alt, evens, odds, weave, lift}
+use Rattle.steps.specs.RowForm.{onto, rev, times, negatedRow, alt, evens, odds, weave, lift}
 
 abbrev pub Len : ℕ → List ℤ → Type 0
 Len n xs = length xs ≡ n
@@ -21,7 +21,7 @@ Len n xs = length xs ≡ n
 pub len-lift : {n : ℕ} (k : ℕ) (y a : List ℤ) → Len n y → Len n a → Len n (lift k y a)
 len-lift k y a h l = length-lift (λ y a. y +ℤ round k a) y a (h ∙ sym l) ∙ h
 
-pub len-scale : {n : ℕ} (c : ℤ) (xs : List ℤ) → Len n xs → Len n (scale c xs)
+pub len-scale : {n : ℕ} (c : ℤ) (xs : List ℤ) → Len n xs → Len n (scalarMul c xs)
 len-scale c xs h = length-scale c xs ∙ h
 
 pub len-plus : {n : ℕ} (xs ys : List ℤ) → Len n xs → Len n ys → Len n (plus xs ys)
@@ -71,12 +71,12 @@ same-alt (x ∷ y ∷ xs) = ap (λ k. suc (suc k)) (same-alt xs)
 pub len-alt : {n : ℕ} (xs : List ℤ) → Len n xs → Len n (alt xs)
 len-alt xs h = same-alt xs ∙ h
 
-same-negative : (xs : List ℤ) → length (negative xs) ≡ length xs
-unfolding negative
+same-negative : (xs : List ℤ) → length (negatedRow xs) ≡ length xs
+unfolding negatedRow
 same-negative [] = refl
 same-negative (x ∷ xs) = ap suc (same-negative xs)
 
-pub len-negative : {n : ℕ} (xs : List ℤ) → Len n xs → Len n (negative xs)
+pub len-negative : {n : ℕ} (xs : List ℤ) → Len n xs → Len n (negatedRow xs)
 len-negative xs h = same-negative xs ∙ h
 
 -- ---- even and odd places

@@ -15,14 +15,14 @@ use Rattle.integers.proofs.Rounding.{round-near}
 use Rattle.integers.proofs.Tested.{and-left, and-right}
 use Rattle.integers.proofs.Products.{natAbs-dot, getD-all, all-mono}
 use Rattle.tables.specs.Widths.{byWidth, halfWidth}
-use Rattle.tables.specs.Angles.{halfTurn, reflected, minus, signed}
+use Rattle.tables.specs.Angles.{halfTurn, reflected, belowZero, signed}
 use Rattle.tables.specs.Numbers.{sines, halfTangents, halfTangents8, halfTangents32, halfTangents128, cosineOf, sineOf, halfTangentOf}
 use Rattle.tables.proofs.ByWidth.{at-each}
 use Rattle.steps.specs.Places.{at}
 use Rattle.steps.specs.Limits.{readingLimit, rotatedLimit, foldedLimit}
 use Rattle.steps.specs.Steps.{tangent, sine, tangentAmount, sineAmount, rotatedA, rotatedB, lower, held}
 use Rattle.integers.proofs.PlaceLaws.{all-places}
-use Rattle.integers.specs.Tests.{below}
+use Rattle.integers.specs.Tests.{everyBelow}
 use Rattle.integers.proofs.Tested.{below-at}
 
 -- q·z is a row of what is at most L and a row of what is at most h
@@ -72,9 +72,9 @@ fitsB s t = ltb (sumAbs (rowB p28 s t) * readingLimit + sumAbs (restB p28 s t) *
 abbrev fits : ℕ → ℕ → Bool
 fits N m = fitsA (sine N m) (tangent N m) && fitsB (sine N m) (tangent N m)
 
-fit : (N : ℕ) → T (below (halfWidth N) (fits N))
-unfolding halfWidth byWidth sine sineOf cosineOf sines halfTurn reflected minus signed tangent halfTangentOf halfTangents halfTangents8 halfTangents32 halfTangents128
-fit = at-each (λ N M. T (below M (fits N))) 4 16 64 0 tt tt tt (λ N x y z. tt)
+fit : (N : ℕ) → T (everyBelow (halfWidth N) (fits N))
+unfolding halfWidth byWidth sine sineOf cosineOf sines halfTurn reflected belowZero signed tangent halfTangentOf halfTangents halfTangents8 halfTangents32 halfTangents128
+fit = at-each (λ N M. T (everyBelow M (fits N))) 4 16 64 0 tt tt tt (λ N x y z. tt)
 
 tangent-near : (N m : ℕ) (a : ℤ) → natAbs (p28 *ℤ tangentAmount N m a -ℤ negℤ (tangent N m) *ℤ a) ≤ 2 ^ 27
 unfolding tangentAmount

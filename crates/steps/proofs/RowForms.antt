@@ -13,7 +13,7 @@ use Rattle.integers.proofs.Products.{getD-plus}
 use Rattle.tables.specs.Widths.{halfWidth}
 use Rattle.steps.specs.Places.{places, at, sum}
 use Rattle.steps.specs.Steps.{rootLog, tangent, sine, cosine, secant, alternate, tangentAmount, sineAmount, rotatedA, rotatedB, lower, held, topOf, bottomOf, amount1, amount2, amount3, stage1, stage2, stage3, stage4, stage5, stages, frame}
-use Rattle.steps.specs.RowForm.{rev, negative, alt, evens, odds, lift, Width, third, widthOf, tanAmounts, sinAmounts, rotA, rotB, low, high, one, two, three, four, five, rowStages, rowFrame}
+use Rattle.steps.specs.RowForm.{rev, negatedRow, alt, evens, odds, lift, RowTables, stage3Entry, rowTablesOf, tanAmounts, sinAmounts, rotA, rotB, rowLower, rowHeld, rowStage1, rowStage2, rowStage3, rowStage4, rowStage5, rowStages, rowFrame}
 use Rattle.steps.proofs.Lists.{Len, len-lift, len-plus, len-mul, len-rev, len-alt, len-evens, len-odds, len-take, len-drop, len-negative}
 use Rattle.steps.proofs.ListPlaces.{at-rev, at-rev-back, at-times, at-negative, at-lift, at-alt, at-evens, at-odds, at-mul}
 use Rattle.steps.proofs.Lengths.{length-lower, length-top, length-bottom, length-stage1, length-stage2, length-stage3, length-stage4}
@@ -36,73 +36,73 @@ turned-are n g ys xs k l e =
 
 -- ---- the amounts of a stage
 module _ (N : ℕ) where
-  at-tangents : (a : List ℤ) (m : ℕ) → m < halfWidth N → round 28 (at (tanAmounts (widthOf N) a) m) ≡ tangentAmount N m (at a m)
-  unfolding tanAmounts widthOf tangentAmount
-  at-tangents a m h = ap (round 28) (at-times (widthOf N .tan) a m ∙ ap (λ t. t *ℤ at a m) (at-places (halfWidth N) (λ m. negℤ (tangent N m)) m h))
+  at-tangents : (a : List ℤ) (m : ℕ) → m < halfWidth N → round 28 (at (tanAmounts (rowTablesOf N) a) m) ≡ tangentAmount N m (at a m)
+  unfolding tanAmounts rowTablesOf tangentAmount
+  at-tangents a m h = ap (round 28) (at-times (rowTablesOf N .tan) a m ∙ ap (λ t. t *ℤ at a m) (at-places (halfWidth N) (λ m. negℤ (tangent N m)) m h))
 
-  at-sines : (b : List ℤ) (m : ℕ) → m < halfWidth N → round 28 (at (sinAmounts (widthOf N) b) m) ≡ sineAmount N m (at b m)
-  unfolding sinAmounts widthOf sineAmount
-  at-sines b m h = ap (round 28) (at-times (widthOf N .sin) b m ∙ ap (λ t. t *ℤ at b m) (at-places (halfWidth N) (sine N) m h))
+  at-sines : (b : List ℤ) (m : ℕ) → m < halfWidth N → round 28 (at (sinAmounts (rowTablesOf N) b) m) ≡ sineAmount N m (at b m)
+  unfolding sinAmounts rowTablesOf sineAmount
+  at-sines b m h = ap (round 28) (at-times (rowTablesOf N .sin) b m ∙ ap (λ t. t *ℤ at b m) (at-places (halfWidth N) (sine N) m h))
 
-  at-cosines : (x : List ℤ) (m : ℕ) → m < halfWidth N → at (mulVec (widthOf N .cs) x) m ≡ sum (halfWidth N) (λ n. cosine N m n *ℤ at x n)
-  unfolding widthOf
+  at-cosines : (x : List ℤ) (m : ℕ) → m < halfWidth N → at (mulVec (rowTablesOf N .cs) x) m ≡ sum (halfWidth N) (λ n. cosine N m n *ℤ at x n)
+  unfolding rowTablesOf
   at-cosines x m h = at-mul (cosine N) (halfWidth N) x m h
 
-  amount1-is : (top : List ℤ) (m : ℕ) → m < halfWidth N → amount1 N top m ≡ round (27 + rootLog N) (at (mulVec (widthOf N .cs) (alt top)) m)
+  amount1-is : (top : List ℤ) (m : ℕ) → m < halfWidth N → amount1 N top m ≡ round (27 + rootLog N) (at (mulVec (rowTablesOf N .cs) (alt top)) m)
   unfolding amount1
   amount1-is top m h =
       ap (round (27 + rootLog N))
       (sum-ext (halfWidth N) (λ n. cosine N m n *ℤ alternate n (at top n)) (λ n. cosine N m n *ℤ at (alt top) n) (λ n l. ap (λ z. cosine N m n *ℤ z) (sym (at-alt top n)))
       ∙ sym (at-cosines (alt top) m h))
 
-  amount2-is : (bottom : List ℤ) (m : ℕ) → m < halfWidth N → amount2 N bottom m ≡ round (28 + rootLog N) (at (mulVec (widthOf N .cs) bottom) m)
+  amount2-is : (bottom : List ℤ) (m : ℕ) → m < halfWidth N → amount2 N bottom m ≡ round (28 + rootLog N) (at (mulVec (rowTablesOf N .cs) bottom) m)
   unfolding amount2
   amount2-is bottom m h = ap (round (28 + rootLog N)) (sym (at-cosines bottom m h))
 
-  amount3-is : (top : List ℤ) (m : ℕ) → m < halfWidth N → amount3 N top m ≡ round (28 + 2 * rootLog N) (at (mulVec (widthOf N .a3) top) m)
-  unfolding amount3 widthOf
+  amount3-is : (top : List ℤ) (m : ℕ) → m < halfWidth N → amount3 N top m ≡ round (28 + 2 * rootLog N) (at (mulVec (rowTablesOf N .a3) top) m)
+  unfolding amount3 rowTablesOf
   amount3-is top m h =
       let M = halfWidth N in
       let l = rootLog N in
       ap (round (28 + 2 * l))
       (third-sum M l m (secant N m) (cosine N m) (tangent N) (at top) h
-      ∙ sym (at-mul (λ m n. third M l m n (secant N m n) (cosine N m n) (tangent N n)) M top m h))
+      ∙ sym (at-mul (λ m n. stage3Entry M l m n (secant N m n) (cosine N m n) (tangent N n)) M top m h))
 
 -- ---- the five stages
 module _ (N : ℕ) (top bottom : List ℤ) (ht : length top ≡ halfWidth N) (hb : length bottom ≡ halfWidth N) where
-  pub stage1-rows : stage1 N top bottom ≡ one (widthOf N) top bottom
-  unfolding stage1 one widthOf
+  pub stage1-rows : stage1 N top bottom ≡ rowStage1 (rowTablesOf N) top bottom
+  unfolding stage1 rowStage1 rowTablesOf
   stage1-rows =
-      lift-are (27 + rootLog N) (halfWidth N) _ (plus bottom top) (mulVec (widthOf N .cs) (alt top)) (len-plus bottom top hb ht) (len-mul (widthOf N .cs) (alt top) (good N .cs-len))
+      lift-are (27 + rootLog N) (halfWidth N) _ (plus bottom top) (mulVec (rowTablesOf N .cs) (alt top)) (len-plus bottom top hb ht) (len-mul (rowTablesOf N .cs) (alt top) (good N .cs-len))
       (λ m h. ap₂ _+ℤ_ (sym (getD-plus bottom top m (hb ∙ sym ht))) (amount1-is N top m h))
 
-  pub stage2-rows : stage2 N top bottom ≡ two (widthOf N) top bottom
-  unfolding stage2 two widthOf
+  pub stage2-rows : stage2 N top bottom ≡ rowStage2 (rowTablesOf N) top bottom
+  unfolding stage2 rowStage2 rowTablesOf
   stage2-rows =
-      lift-are (28 + rootLog N) (halfWidth N) _ (negative (alt top)) (mulVec (widthOf N .cs) bottom) (len-negative (alt top) (len-alt top ht)) (len-mul (widthOf N .cs) bottom (good N .cs-len))
+      lift-are (28 + rootLog N) (halfWidth N) _ (negatedRow (alt top)) (mulVec (rowTablesOf N .cs) bottom) (len-negative (alt top) (len-alt top ht)) (len-mul (rowTablesOf N .cs) bottom (good N .cs-len))
       (λ m h. ap₂ _+ℤ_ (ap negℤ (sym (at-alt top m)) ∙ sym (at-negative (alt top) m)) (amount2-is N bottom m h))
 
-  pub stage3-rows : stage3 N top bottom ≡ three (widthOf N) top bottom
-  unfolding stage3 three widthOf
+  pub stage3-rows : stage3 N top bottom ≡ rowStage3 (rowTablesOf N) top bottom
+  unfolding stage3 rowStage3 rowTablesOf
   stage3-rows =
-      lift-are (28 + 2 * rootLog N) (halfWidth N) _ bottom (mulVec (widthOf N .a3) top) hb (len-mul (widthOf N .a3) top (good N .a3-len))
+      lift-are (28 + 2 * rootLog N) (halfWidth N) _ bottom (mulVec (rowTablesOf N .a3) top) hb (len-mul (rowTablesOf N .a3) top (good N .a3-len))
       (λ m h. ap (λ a. at bottom m +ℤ a) (amount3-is N top m h))
 
-  sine-reversed : (m : ℕ) → m < halfWidth N → sineAmount N m (at bottom (halfWidth N - 1 - m)) ≡ round 28 (at (sinAmounts (widthOf N) (rev bottom)) m)
+  sine-reversed : (m : ℕ) → m < halfWidth N → sineAmount N m (at bottom (halfWidth N - 1 - m)) ≡ round 28 (at (sinAmounts (rowTablesOf N) (rev bottom)) m)
   sine-reversed m h = ap (sineAmount N m) (sym (at-rev (halfWidth N) bottom m hb h)) ∙ sym (at-sines N (rev bottom) m h)
 
-  pub stage4-rows : stage4 N top bottom ≡ four (widthOf N) top bottom
-  unfolding stage4 four widthOf
+  pub stage4-rows : stage4 N top bottom ≡ rowStage4 (rowTablesOf N) top bottom
+  unfolding stage4 rowStage4 rowTablesOf
   stage4-rows =
-      lift-are 28 (halfWidth N) _ top (sinAmounts (widthOf N) (rev bottom)) ht (len-sines (widthOf N) (good N) (rev bottom) (len-rev bottom hb))
+      lift-are 28 (halfWidth N) _ top (sinAmounts (rowTablesOf N) (rev bottom)) ht (len-sines (rowTablesOf N) (good N) (rev bottom) (len-rev bottom hb))
       (λ m h. ap (λ a. at top m +ℤ a) (sine-reversed m h))
 
-  pub stage5-rows : stage5 N top bottom ≡ five (widthOf N) top bottom
-  unfolding stage5 five widthOf
+  pub stage5-rows : stage5 N top bottom ≡ rowStage5 (rowTablesOf N) top bottom
+  unfolding stage5 rowStage5 rowTablesOf
   stage5-rows =
-      let a = tanAmounts (widthOf N) top in
+      let a = tanAmounts (rowTablesOf N) top in
       let lr = len-rev bottom hb in
-      let la = len-tangents (widthOf N) (good N) top ht in
+      let la = len-tangents (rowTablesOf N) (good N) top ht in
       turned-are (halfWidth N) (λ m. tangentAmount N m (at top m)) bottom (lift 28 (rev bottom) a) hb (len-lift 28 (rev bottom) a lr la)
       (λ m h. ap (λ z. at (rev bottom) m +ℤ z) (sym (at-tangents N top m h)) ∙ sym (at-lift 28 (halfWidth N) (rev bottom) a m lr la h))
 
@@ -110,23 +110,23 @@ module _ (N : ℕ) (top bottom : List ℤ) (ht : length top ≡ halfWidth N) (hb
 module _ (N : ℕ) (a b : List ℤ) (ha : length a ≡ halfWidth N) (hb : length b ≡ halfWidth N) where
   -- b with the first amount
   abbrev lifted : List ℤ
-  lifted = liftB (widthOf N) a b
+  lifted = liftB (rowTablesOf N) a b
 
-  at-liftB : (a b : List ℤ) → length a ≡ halfWidth N → length b ≡ halfWidth N → (m : ℕ) → m < halfWidth N → at (liftB (widthOf N) a b) m ≡ at b m +ℤ tangentAmount N m (at a m)
-  unfolding widthOf
-  at-liftB a b h l m z = at-lift 28 (halfWidth N) b (tanAmounts (widthOf N) a) m l (len-tangents (widthOf N) (good N) a h) z ∙ ap (λ t. at b m +ℤ t) (at-tangents N a m z)
+  at-liftB : (a b : List ℤ) → length a ≡ halfWidth N → length b ≡ halfWidth N → (m : ℕ) → m < halfWidth N → at (liftB (rowTablesOf N) a b) m ≡ at b m +ℤ tangentAmount N m (at a m)
+  unfolding rowTablesOf
+  at-liftB a b h l m z = at-lift 28 (halfWidth N) b (tanAmounts (rowTablesOf N) a) m l (len-tangents (rowTablesOf N) (good N) a h) z ∙ ap (λ t. at b m +ℤ t) (at-tangents N a m z)
 
-  at-rotA : (m : ℕ) → m < halfWidth N → at (rotA (widthOf N) a b) m ≡ rotatedA N m (at a m) (at b m)
-  unfolding rotA rotatedA widthOf
+  at-rotA : (m : ℕ) → m < halfWidth N → at (rotA (rowTablesOf N) a b) m ≡ rotatedA N m (at a m) (at b m)
+  unfolding rotA rotatedA rowTablesOf
   at-rotA m h =
-      at-lift 28 (halfWidth N) a (sinAmounts (widthOf N) lifted) m ha (len-sines (widthOf N) (good N) lifted (len-liftB (widthOf N) (good N) a b ha hb)) h
+      at-lift 28 (halfWidth N) a (sinAmounts (rowTablesOf N) lifted) m ha (len-sines (rowTablesOf N) (good N) lifted (len-liftB (rowTablesOf N) (good N) a b ha hb)) h
       ∙ ap (λ z. at a m +ℤ z) (at-sines N lifted m h ∙ ap (sineAmount N m) (at-liftB a b ha hb m h))
 
-  at-rotB : (m : ℕ) → m < halfWidth N → at (rotB (widthOf N) a b) m ≡ rotatedB N m (at a m) (at b m)
-  unfolding rotB rotatedB widthOf
+  at-rotB : (m : ℕ) → m < halfWidth N → at (rotB (rowTablesOf N) a b) m ≡ rotatedB N m (at a m) (at b m)
+  unfolding rotB rotatedB rowTablesOf
   at-rotB m h =
-      let r = rotA (widthOf N) a b in
-      at-liftB r lifted (len-rotA (widthOf N) (good N) a b ha hb) (len-liftB (widthOf N) (good N) a b ha hb) m h
+      let r = rotA (rowTablesOf N) a b in
+      at-liftB r lifted (len-rotA (rowTablesOf N) (good N) a b ha hb) (len-liftB (rowTablesOf N) (good N) a b ha hb) m h
       ∙ ap₂ _+ℤ_ (at-liftB a b ha hb m h) (ap (tangentAmount N m) (at-rotA m h))
 
 -- ---- the fold
@@ -160,23 +160,23 @@ module _ (N : ℕ) (twice : halfWidth N + halfWidth N ≡ N) where
         let i : halfWidth N + (halfWidth N - 1 - n) ≡ N - 1 - n = omega arith in
         at-rev (halfWidth N) (drop (halfWidth N) x) n (len-drop x (l ∙ sym twice)) h ∙ getD-drop (halfWidth N) x (halfWidth N - 1 - n) (pos 0) ∙ ap (at x) i
 
-    pub lower-rows : lower N x ≡ low (widthOf N) x
-    unfolding lower low widthOf
+    pub lower-rows : lower N x ≡ rowLower (rowTablesOf N) x
+    unfolding lower rowLower rowTablesOf
     lower-rows =
-        rev-are (halfWidth N) (λ n. rotatedA N n (at x n) (at x (N - 1 - n))) (rotA (widthOf N) front behind) (len-rotA (widthOf N) (good N) front behind len-front len-behind)
+        rev-are (halfWidth N) (λ n. rotatedA N n (at x n) (at x (N - 1 - n))) (rotA (rowTablesOf N) front behind) (len-rotA (rowTablesOf N) (good N) front behind len-front len-behind)
         (λ n h. ap₂ (rotatedA N n) (sym (at-front n h)) (sym (at-behind n h)) ∙ sym (at-rotA N front behind len-front len-behind n h))
 
-    pub held-rows : held N x ≡ high (widthOf N) x
-    unfolding held high widthOf
+    pub held-rows : held N x ≡ rowHeld (rowTablesOf N) x
+    unfolding held rowHeld rowTablesOf
     held-rows =
-        places-is (halfWidth N) _ (rotB (widthOf N) front behind) (len-rotB (widthOf N) (good N) front behind len-front len-behind)
+        places-is (halfWidth N) _ (rotB (rowTablesOf N) front behind) (len-rotB (rowTablesOf N) (good N) front behind len-front len-behind)
         (λ n h. ap₂ (rotatedB N n) (sym (at-front n h)) (sym (at-behind n h)) ∙ sym (at-rotB N front behind len-front len-behind n h))
 
   -- ---- all stages
-  pub stages-rows : (f : List ℤ) → length f ≡ N → stages N f ≡ rowStages (widthOf N) f
+  pub stages-rows : (f : List ℤ) → length f ≡ N → stages N f ≡ rowStages (rowTablesOf N) f
   unfolding stages rowStages
   stages-rows f l =
-      let w = widthOf N in
+      let w = rowTablesOf N in
       let top = topOf N f in
       let bottom = bottomOf N f in
       let bottom₁ = stage1 N top bottom in
@@ -187,14 +187,14 @@ module _ (N : ℕ) (twice : halfWidth N + halfWidth N ≡ N) where
       let l₂ = length-stage2 N top bottom₁ in
       let l₃ = length-stage3 N top₂ bottom₁ in
       let e = top-rows f l in
-      let e₁ = stage1-rows N top bottom (length-top N f) (length-bottom N f) ∙ ap₂ (one w) e (bottom-rows f l) in
-      let e₂ = stage2-rows N top bottom₁ (length-top N f) l₁ ∙ ap₂ (two w) e e₁ in
-      let e₃ = stage3-rows N top₂ bottom₁ l₂ l₁ ∙ ap₂ (three w) e₂ e₁ in
-      let e₄ = stage4-rows N top₂ bottom₃ l₂ l₃ ∙ ap₂ (four w) e₂ e₃ in
-      ap₂ _++_ e₄ (stage5-rows N top₄ bottom₃ (length-stage4 N top₂ bottom₃) l₃ ∙ ap₂ (five w) e₄ e₃)
+      let e₁ = stage1-rows N top bottom (length-top N f) (length-bottom N f) ∙ ap₂ (rowStage1 w) e (bottom-rows f l) in
+      let e₂ = stage2-rows N top bottom₁ (length-top N f) l₁ ∙ ap₂ (rowStage2 w) e e₁ in
+      let e₃ = stage3-rows N top₂ bottom₁ l₂ l₁ ∙ ap₂ (rowStage3 w) e₂ e₁ in
+      let e₄ = stage4-rows N top₂ bottom₃ l₂ l₃ ∙ ap₂ (rowStage4 w) e₂ e₃ in
+      ap₂ _++_ e₄ (stage5-rows N top₄ bottom₃ (length-stage4 N top₂ bottom₃) l₃ ∙ ap₂ (rowStage5 w) e₄ e₃)
 
-  pub frame-rows : (before block : List ℤ) → length before ≡ halfWidth N → length block ≡ N → frame N before block ≡ rowFrame (widthOf N) before block
+  pub frame-rows : (before block : List ℤ) → length before ≡ halfWidth N → length block ≡ N → frame N before block ≡ rowFrame (rowTablesOf N) before block
   unfolding frame rowFrame
   frame-rows before block k l =
       stages-rows (lower N block ++ before) (omega (arith, length-append (lower N block) before, length-lower N block))
-      ∙ ap (λ f. rowStages (widthOf N) (f ++ before)) (lower-rows block l)
+      ∙ ap (λ f. rowStages (rowTablesOf N) (f ++ before)) (lower-rows block l)

@@ -8,11 +8,11 @@ use Rattle.integers.specs.Vectors.{Rows}
 use Rattle.integers.proofs.PlaceLaws.{length-tab}
 use Rattle.tables.specs.Widths.{halfWidth}
 use Rattle.steps.specs.Steps.{rootLog, tangent, cosine, secant}
-use Rattle.steps.specs.RowForm.{lift, Width, third, widthOf, tanAmounts, sinAmounts, rotA, rotB}
+use Rattle.steps.specs.RowForm.{lift, RowTables, stage3Entry, rowTablesOf, tanAmounts, sinAmounts, rotA, rotB}
 use Rattle.steps.proofs.Lists.{Len, len-lift, len-times, rows-tab}
 
 -- ---- the tables of a width have its lengths
-pub record Good (w : Width) : Type 0 where
+pub record Good (w : RowTables) : Type 0 where
   pub tan-len : length (w .tan) ≡ w .M
   pub sin-len : length (w .sin) ≡ w .M
   pub cs-len : length (w .cs) ≡ w .M
@@ -20,8 +20,8 @@ pub record Good (w : Width) : Type 0 where
   pub a3-len : length (w .a3) ≡ w .M
   pub a3-rows : Rows (w .M) (w .a3)
 
-pub good : (N : ℕ) → Good (widthOf N)
-unfolding widthOf
+pub good : (N : ℕ) → Good (rowTablesOf N)
+unfolding rowTablesOf
 good N =
     let M = halfWidth N in
     record {
@@ -30,22 +30,22 @@ good N =
       cs-len = length-tab _ M 0;
       cs-rows = rows-tab (cosine N) M M 0;
       a3-len = length-tab _ M 0;
-      a3-rows = rows-tab (λ m n. third M (rootLog N) m n (secant N m n) (cosine N m n) (tangent N n)) M M 0;
+      a3-rows = rows-tab (λ m n. stage3Entry M (rootLog N) m n (secant N m n) (cosine N m n) (tangent N n)) M M 0;
     }
 
 -- adds round(−t·a) to b; adds round(s·b) to a
-abbrev pub liftB : Width → List ℤ → List ℤ → List ℤ
+abbrev pub liftB : RowTables → List ℤ → List ℤ → List ℤ
 liftB w a b = lift 28 b (tanAmounts w a)
 
-abbrev pub liftA : Width → List ℤ → List ℤ → List ℤ
+abbrev pub liftA : RowTables → List ℤ → List ℤ → List ℤ
 liftA w a b = lift 28 a (sinAmounts w b)
 
-pub M-of : (N : ℕ) → widthOf N .M ≡ halfWidth N
-unfolding widthOf
+pub M-of : (N : ℕ) → rowTablesOf N .M ≡ halfWidth N
+unfolding rowTablesOf
 M-of N = refl
 
 -- ---- lengths
-module _ (w : Width) (ok : Good w) where
+module _ (w : RowTables) (ok : Good w) where
   pub len-tangents : (a : List ℤ) → Len (w .M) a → Len (w .M) (tanAmounts w a)
   unfolding tanAmounts
   len-tangents a h = len-times (w .tan) a (ok .tan-len) h

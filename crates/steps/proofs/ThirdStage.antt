@@ -9,14 +9,14 @@ use lib.IntN.{ℤ, pos, negℤ, _+ℤ_, _-ℤ_, _*ℤ_}
 use Rattle.integers.proofs.Ring.{ring}
 use Rattle.integers.proofs.PlaceLaws.{sum-only}
 use Rattle.steps.specs.Places.{sum}
-use Rattle.steps.specs.RowForm.{third}
+use Rattle.steps.specs.RowForm.{stage3Entry}
 
 module _ (M l m : ℕ) (sec cos tan : ℕ → ℤ) (x : ℕ → ℤ) where
   diagonal : ℕ → ℤ
   diagonal n = cond (eqb (m + n + 1) M) (pos M *ℤ (tan n *ℤ x n)) (pos 0)
 
-  entry : (n : ℕ) → third M l m n (sec n) (cos n) (tan n) *ℤ x n ≡ negℤ (sec n *ℤ x n) -ℤ pos (2 * 2 ^ l) *ℤ (cos n *ℤ x n) -ℤ diagonal n
-  unfolding third diagonal
+  entry : (n : ℕ) → stage3Entry M l m n (sec n) (cos n) (tan n) *ℤ x n ≡ negℤ (sec n *ℤ x n) -ℤ pos (2 * 2 ^ l) *ℤ (cos n *ℤ x n) -ℤ diagonal n
+  unfolding stage3Entry diagonal
   entry n = by (pos (2 * 2 ^ l)) (pos M) (eqb (m + n + 1) M)
     where
       by : (p q : ℤ) (b : Bool)
@@ -30,7 +30,7 @@ module _ (M l m : ℕ) (sec cos tan : ℕ → ℤ) (x : ℕ → ℤ) where
   none : (p : ℤ) → pos 0 ≡ negℤ (pos 0) -ℤ p *ℤ pos 0 -ℤ pos 0
   none p = simp ring
 
-  sums : (n : ℕ) → sum n (λ n. third M l m n (sec n) (cos n) (tan n) *ℤ x n)
+  sums : (n : ℕ) → sum n (λ n. stage3Entry M l m n (sec n) (cos n) (tan n) *ℤ x n)
       ≡ negℤ (sum n (λ n. sec n *ℤ x n)) -ℤ pos (2 * 2 ^ l) *ℤ sum n (λ n. cos n *ℤ x n) -ℤ sum n diagonal
   unfolding sum
   sums zero = none (pos (2 * 2 ^ l))
@@ -45,7 +45,7 @@ module _ (M l m : ℕ) (sec cos tan : ℕ → ℤ) (x : ℕ → ℤ) where
       ∙ ap (λ b. cond b (pos M *ℤ (tan (M - 1 - m) *ℤ x (M - 1 - m))) (pos 0)) (eq-eqb (m + (M - 1 - m) + 1) M (omega arith))
 
   pub third-sum : m < M → negℤ (sum M (λ n. sec n *ℤ x n)) -ℤ pos (2 * 2 ^ l) *ℤ sum M (λ n. cos n *ℤ x n) -ℤ pos M *ℤ (tan (M - 1 - m) *ℤ x (M - 1 - m))
-      ≡ sum M (λ n. third M l m n (sec n) (cos n) (tan n) *ℤ x n)
+      ≡ sum M (λ n. stage3Entry M l m n (sec n) (cos n) (tan n) *ℤ x n)
   third-sum h =
       ap (λ d. negℤ (sum M (λ n. sec n *ℤ x n)) -ℤ pos (2 * 2 ^ l) *ℤ sum M (λ n. cos n *ℤ x n) -ℤ d) (sym (on-diagonal h))
       ∙ sym (sums M)

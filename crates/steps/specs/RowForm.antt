@@ -25,9 +25,9 @@ times [] ys = []
 times (x ∷ xs) [] = []
 times (x ∷ xs) (y ∷ ys) = (x *ℤ y) ∷ times xs ys
 
-unfoldable pub negative : List ℤ → List ℤ
-negative [] = []
-negative (x ∷ xs) = negℤ x ∷ negative xs
+unfoldable pub negatedRow : List ℤ → List ℤ
+negatedRow [] = []
+negatedRow (x ∷ xs) = negℤ x ∷ negatedRow xs
 
 -- d(n): the sign of every second entry changed
 unfoldable pub alt : List ℤ → List ℤ
@@ -55,7 +55,7 @@ abbrev pub lift : ℕ → List ℤ → List ℤ → List ℤ
 lift k y a = zipWith (λ y a. y +ℤ round k a) y a
 
 -- ---- the tables of a width as rows; √M is 2^l
-pub record Width : Type 0 where
+pub record RowTables : Type 0 where
   pub M : ℕ
   pub l : ℕ
   pub tan : List ℤ  -- −t(m)
@@ -64,11 +64,11 @@ pub record Width : Type 0 where
   pub a3 : List (List ℤ)  -- stage 3: −(the secant, 2·√M·C(m,n), and M·t(n) where n = M−1−m)
 
 -- an entry of a3, from the secant, the cosine and the tangent
-unfoldable pub third : ℕ → ℕ → ℕ → ℕ → ℤ → ℤ → ℤ → ℤ
-third M l m n sec cos tan = negℤ (sec +ℤ pos (2 * 2 ^ l) *ℤ cos +ℤ cond (eqb (m + n + 1) M) (pos M *ℤ tan) (pos 0))
+unfoldable pub stage3Entry : ℕ → ℕ → ℕ → ℕ → ℤ → ℤ → ℤ → ℤ
+stage3Entry M l m n sec cos tan = negℤ (sec +ℤ pos (2 * 2 ^ l) *ℤ cos +ℤ cond (eqb (m + n + 1) M) (pos M *ℤ tan) (pos 0))
 
-unfoldable pub widthOf : ℕ → Width
-widthOf N =
+unfoldable pub rowTablesOf : ℕ → RowTables
+rowTablesOf N =
     let M = halfWidth N in
     let l = rootLog N in
     record {
@@ -77,54 +77,54 @@ widthOf N =
       tan = tab (λ m. negℤ (tangent N m)) M 0;
       sin = tab (sine N) M 0;
       cs = tab (λ m. tab (cosine N m) M 0) M 0;
-      a3 = tab (λ m. tab (λ n. third M l m n (secant N m n) (cosine N m n) (tangent N n)) M 0) M 0;
+      a3 = tab (λ m. tab (λ n. stage3Entry M l m n (secant N m n) (cosine N m n) (tangent N n)) M 0) M 0;
     }
 
 -- ---- the two lifts of all pairs at once, and the rotation
-unfoldable pub tanAmounts : Width → List ℤ → List ℤ
+unfoldable pub tanAmounts : RowTables → List ℤ → List ℤ
 tanAmounts w a = times (w .tan) a
 
-unfoldable pub sinAmounts : Width → List ℤ → List ℤ
+unfoldable pub sinAmounts : RowTables → List ℤ → List ℤ
 sinAmounts w b = times (w .sin) b
 
-unfoldable pub rotA : Width → List ℤ → List ℤ → List ℤ
+unfoldable pub rotA : RowTables → List ℤ → List ℤ → List ℤ
 rotA w a b = lift 28 a (sinAmounts w (lift 28 b (tanAmounts w a)))
 
-unfoldable pub rotB : Width → List ℤ → List ℤ → List ℤ
+unfoldable pub rotB : RowTables → List ℤ → List ℤ → List ℤ
 rotB w a b = lift 28 (lift 28 b (tanAmounts w a)) (tanAmounts w (rotA w a b))
 
 -- ---- the fold
-unfoldable pub low : Width → List ℤ → List ℤ
-low w x = rev (rotA w (take (w .M) x) (rev (drop (w .M) x)))
+unfoldable pub rowLower : RowTables → List ℤ → List ℤ
+rowLower w x = rev (rotA w (take (w .M) x) (rev (drop (w .M) x)))
 
-unfoldable pub high : Width → List ℤ → List ℤ
-high w x = rotB w (take (w .M) x) (rev (drop (w .M) x))
+unfoldable pub rowHeld : RowTables → List ℤ → List ℤ
+rowHeld w x = rotB w (take (w .M) x) (rev (drop (w .M) x))
 
 -- ---- the five stages
-unfoldable pub one : Width → List ℤ → List ℤ → List ℤ
-one w top bot = lift (27 + w .l) (plus bot top) (mulVec (w .cs) (alt top))
+unfoldable pub rowStage1 : RowTables → List ℤ → List ℤ → List ℤ
+rowStage1 w top bot = lift (27 + w .l) (plus bot top) (mulVec (w .cs) (alt top))
 
-unfoldable pub two : Width → List ℤ → List ℤ → List ℤ
-two w top bot = lift (28 + w .l) (negative (alt top)) (mulVec (w .cs) bot)
+unfoldable pub rowStage2 : RowTables → List ℤ → List ℤ → List ℤ
+rowStage2 w top bot = lift (28 + w .l) (negatedRow (alt top)) (mulVec (w .cs) bot)
 
-unfoldable pub three : Width → List ℤ → List ℤ → List ℤ
-three w top bot = lift (28 + 2 * w .l) bot (mulVec (w .a3) top)
+unfoldable pub rowStage3 : RowTables → List ℤ → List ℤ → List ℤ
+rowStage3 w top bot = lift (28 + 2 * w .l) bot (mulVec (w .a3) top)
 
-unfoldable pub four : Width → List ℤ → List ℤ → List ℤ
-four w top bot = lift 28 top (sinAmounts w (rev bot))
+unfoldable pub rowStage4 : RowTables → List ℤ → List ℤ → List ℤ
+rowStage4 w top bot = lift 28 top (sinAmounts w (rev bot))
 
-unfoldable pub five : Width → List ℤ → List ℤ → List ℤ
-five w top bot = rev (lift 28 (rev bot) (tanAmounts w top))
+unfoldable pub rowStage5 : RowTables → List ℤ → List ℤ → List ℤ
+rowStage5 w top bot = rev (lift 28 (rev bot) (tanAmounts w top))
 
-unfoldable pub rowStages : Width → List ℤ → List ℤ
+unfoldable pub rowStages : RowTables → List ℤ → List ℤ
 rowStages w f =
     let top = evens f in
-    let bot₁ = one w top (odds f) in
-    let top₂ = two w top bot₁ in
-    let bot₃ = three w top₂ bot₁ in
-    let top₄ = four w top₂ bot₃ in
-    top₄ ++ five w top₄ bot₃
+    let bot₁ = rowStage1 w top (odds f) in
+    let top₂ = rowStage2 w top bot₁ in
+    let bot₃ = rowStage3 w top₂ bot₁ in
+    let top₄ = rowStage4 w top₂ bot₃ in
+    top₄ ++ rowStage5 w top₄ bot₃
 
 -- the frame of a block, with what the block before it held
-unfoldable pub rowFrame : Width → List ℤ → List ℤ → List ℤ
-rowFrame w before block = rowStages w (low w block ++ before)
+unfoldable pub rowFrame : RowTables → List ℤ → List ℤ → List ℤ
+rowFrame w before block = rowStages w (rowLower w block ++ before)

@@ -8,7 +8,7 @@ ghost use Rattle.text_pieces.specs.Text.{placeOf};
 ghost use Rattle.stream.specs.Run.{Finished, EndedAs};
 use feeding::session::Ending;
 use pieces::reading;
-use pieces::reading::Filled;
+use pieces::reading::PieceRead;
 use pieces::writing;
 use text_pieces::piece;
 use text_pieces::piece::Progress;
@@ -17,7 +17,7 @@ use text_runs::state::Way;
 use text_state::ending;
 
 // The end of the input. Where the last of it cannot be written, the run did not end.
-fn finish(way: Way, output: i32, line: &[u8], out: &mut [u8], progress: Progress) -> Ending
+fn end_input(way: Way, output: i32, line: &[u8], out: &mut [u8], progress: Progress) -> Ending
     requires { ⌜ Came textProgram (sessionBegun way) (now line) (placeOf progress) ⌝ }
     requires { ⌜ (length (now line) ≡ 2048) × (progress .had ≤ 2048) × (progress .waiting ≡ 0) × (4096 ≤ length (now out)) ⌝ }
     ensures { λ r. ⌜ Finished way r (now (out .exit)) ⌝ }
@@ -44,7 +44,7 @@ pub fn run(way: Way, input: i32, output: i32, buffer: &mut [u8]) -> Ending
         waiting: 0,
         at: 0,
     };
-    let mut filled = Filled {
+    let mut filled = PieceRead {
         count: 0,
         at: 0,
         failed: false,
@@ -56,17 +56,17 @@ pub fn run(way: Way, input: i32, output: i32, buffer: &mut [u8]) -> Ending
         filled = reading::refill(input, buffer, filled.count, progress.at);
         let count = filled.count;
         progress.at = filled.at;
-        progress = piece::take(&buffer[..count], &mut line, &mut out, progress);
+        progress = piece::take_piece(&buffer[..count], &mut line, &mut out, progress);
         let waiting = progress.waiting;
         written = writing::write(output, &out[..waiting]);
         progress.waiting = 0;
         lost = reading::lost(filled.failed, written);
-        on = reading::goes_on(count, lost, session::is_over(progress.session));
+        on = reading::reads_on(count, lost, session::is_over(progress.session));
     }
     if lost {
         return Ending::Open;
     }
-    finish(way, output, &line, &mut out, progress)
+    end_input(way, output, &line, &mut out, progress)
 }
 
 // A refusal's line on standard error, for whoever keeps standard output.

@@ -8,7 +8,7 @@ use borrow.Author.Tests.{le-leb, lt-leb, lt-ltb, le-ltb, leb-true, leb-false}
 use lib.Dec.{leb}
 use lib.IntN.{ℤ, natAbs}
 use Rattle.integers.proofs.Order.{natAbs-negℤ}
-use Rattle.tables.specs.Angles.{halfTurn, reflected, minus, signed}
+use Rattle.tables.specs.Angles.{halfTurn, reflected, belowZero, signed}
 
 module _ (q x : ℕ) where
   pub half-near : x % (4 * q) ≤ 2 * q → halfTurn q x ≡ x % (4 * q)
@@ -19,12 +19,12 @@ module _ (q x : ℕ) where
   unfolding halfTurn
   half-past h = rw (lt-leb (x % (4 * q)) (2 * q) h)
 
-  pub quadrant-near : halfTurn q x ≤ q → (reflected q x ≡ halfTurn q x) × (minus q x ≡ false)
-  unfolding reflected minus
+  pub quadrant-near : halfTurn q x ≤ q → (reflected q x ≡ halfTurn q x) × (belowZero q x ≡ false)
+  unfolding reflected belowZero
   quadrant-near h = (rw (le-leb (halfTurn q x) q h), le-ltb q (halfTurn q x) h)
 
-  pub quadrant-past : q < halfTurn q x → (reflected q x ≡ 2 * q - halfTurn q x) × (minus q x ≡ true)
-  unfolding reflected minus
+  pub quadrant-past : q < halfTurn q x → (reflected q x ≡ 2 * q - halfTurn q x) × (belowZero q x ≡ true)
+  unfolding reflected belowZero
   quadrant-past h = (rw (lt-leb (halfTurn q x) q h), lt-ltb q (halfTurn q x) h)
 
   pub half-le : 0 < q → halfTurn q x ≤ 2 * q
@@ -60,8 +60,8 @@ module _ (q x : ℕ) where
       by false e = rw (quadrant-past (leb-false _ _ e) .0) (omega (arith, half-odd z o, half-le z))
 
 -- an angle counts by what is left of it within a turn
-pub same-turn : (q x y : ℕ) → x % (4 * q) ≡ y % (4 * q) → (reflected q x ≡ reflected q y) × (minus q x ≡ minus q y)
-unfolding reflected minus halfTurn
+pub same-turn : (q x y : ℕ) → x % (4 * q) ≡ y % (4 * q) → (reflected q x ≡ reflected q y) × (belowZero q x ≡ belowZero q y)
+unfolding reflected belowZero halfTurn
 same-turn q x y e = (rw e, rw e)
 
 pub signed-size : (b : Bool) (z : ℤ) → natAbs (signed b z) ≡ natAbs z

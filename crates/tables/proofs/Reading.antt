@@ -8,7 +8,7 @@ use lib.ListN.{getD, List·getD-map}
 use Rattle.integers.specs.Places.{tab, places, at}
 use Rattle.integers.proofs.PlaceLaws.{at-places}
 use Rattle.tables.specs.Widths.{halfWidth}
-use Rattle.tables.specs.Angles.{halfTurn, reflected, minus, signed}
+use Rattle.tables.specs.Angles.{halfTurn, reflected, belowZero, signed}
 use Rattle.tables.specs.Numbers.{sines, cosineOf, sineOf}
 use Rattle.tables.proofs.Quadrants.{same-turn}
 use Rattle.tables.proofs.ByWidth.{at-each}
@@ -20,7 +20,7 @@ cosine-turn x y e = let s = same-turn 256 x y e in rw (s .0, s .1)
 
 -- the first quadrant of sines is the table
 sines-are : places 257 sineOf ≡ map pos sines
-unfolding tab sineOf cosineOf sines halfTurn reflected minus signed
+unfolding tab sineOf cosineOf sines halfTurn reflected belowZero signed
 sines-are = refl
 
 pub sine-quarter : (j : ℕ) → j ≤ 256 → sineOf j ≡ pos (getD sines j 0)

@@ -7,7 +7,7 @@ use lib.IntN.{ℤ, natAbs}
 use lib.ListN.{getD}
 use Rattle.integers.proofs.Tested.{every-le}
 use Rattle.tables.specs.Widths.{halfWidth}
-use Rattle.tables.specs.Angles.{reflected, minus}
+use Rattle.tables.specs.Angles.{reflected, belowZero}
 use Rattle.tables.specs.Numbers.{sines, halfTangents, halfTangents8, halfTangents32, halfTangents128, secants, secants8, secants32, secants128, cosineOf, secantOf}
 use Rattle.tables.proofs.ByWidth.{at-each}
 use Rattle.tables.proofs.Quadrants.{signed-size}
@@ -30,13 +30,13 @@ secants-le =
 
 pub cosine-size : (j : ℕ) → natAbs (cosineOf j) ≤ 2 ^ 28
 unfolding cosineOf
-cosine-size j = rw (signed-size (minus 256 j) _) (sines-le (256 - reflected 256 j))
+cosine-size j = rw (signed-size (belowZero 256 j) _) (sines-le (256 - reflected 256 j))
 
 pub secant-size : (n : ℕ) (r : ℤ) → natAbs (secantOf n r) ≤ 11000000000
 unfolding secantOf
 secant-size n r =
     let k = reflected (halfWidth n) (natAbs r) in
-    rw (signed-size (minus (halfWidth n) (natAbs r)) _) (by (eqb (k % 2) 1) (k / 2))
+    rw (signed-size (belowZero (halfWidth n) (natAbs r)) _) (by (eqb (k % 2) 1) (k / 2))
   where
     by : (b : Bool) (i : ℕ) → cond b (getD (secants n) i 0) 0 ≤ 11000000000
     by true i = secants-le n i

@@ -13,8 +13,8 @@ halfTurn q x = let p = x % (4 * q) in cond (leb p (2 * q)) p (4 * q - p)
 unfoldable pub reflected : ℕ → ℕ → ℕ
 reflected q x = let h = halfTurn q x in cond (leb h q) h (2 * q - h)
 
-unfoldable pub minus : ℕ → ℕ → Bool
-minus q x = ltb q (halfTurn q x)
+unfoldable pub belowZero : ℕ → ℕ → Bool
+belowZero q x = ltb q (halfTurn q x)
 
 unfoldable pub signed : Bool → ℤ → ℤ
 signed true z = negℤ z

@@ -6,7 +6,7 @@ use lib.Dec.{eqb}
 use lib.IntN.{ℤ, pos, natAbs}
 use lib.ListN.{getD}
 use Rattle.tables.specs.Widths.{byWidth, halfWidth}
-use Rattle.tables.specs.Angles.{reflected, minus, signed}
+use Rattle.tables.specs.Angles.{reflected, belowZero, signed}
 
 -- sin(jπ/512), j from 0 to 256
 unfoldable pub sines : List ℕ
@@ -78,7 +78,7 @@ secants = byWidth secants8 secants32 secants128 []
 
 -- the cosine of jπ/512
 unfoldable pub cosineOf : ℕ → ℤ
-cosineOf j = signed (minus 256 j) (pos (getD sines (256 - reflected 256 j) 0))
+cosineOf j = signed (belowZero 256 j) (pos (getD sines (256 - reflected 256 j) 0))
 
 -- a sine is the cosine a right angle before, which is the cosine three quarters of a turn on
 unfoldable pub sineOf : ℕ → ℤ
@@ -92,4 +92,4 @@ halfTangentOf n m = pos (getD (halfTangents n) m 0)
 unfoldable pub secantOf : ℕ → ℤ → ℤ
 secantOf n r =
     let k = reflected (halfWidth n) (natAbs r) in
-    signed (minus (halfWidth n) (natAbs r)) (pos (cond (eqb (k % 2) 1) (getD (secants n) (k / 2) 0) 0))
+    signed (belowZero (halfWidth n) (natAbs r)) (pos (cond (eqb (k % 2) 1) (getD (secants n) (k / 2) 0) 0))

@@ -21,12 +21,12 @@ use Rattle.text_runs.specs.declared.state.State.{State}
 use Rattle.text_runs.specs.declared.state.Way.the-variants.{Forward, Back}
 use Rattle.text_runs.specs.declared.state.Phase.the-variants.{Ended}
 use Rattle.text_runs.specs.State.{inPhase}
-use Rattle.text_runs.specs.Way.{output, endedBy}
+use Rattle.text_runs.specs.Way.{lentOutput, endedBy}
 use Rattle.text_state.specs.Own.Closing.{Closing}
 use Rattle.text_runs.specs.Line.{rowTaken, betweenTaken}
 
 -- ---- a finish that works
-module _ (n : ℕ) (run : Run) (out : List ℤ) (next : Gate.Given) where
+module _ (n : ℕ) (run : Run) (out : List ℤ) (next : Gate.CallResult) where
   passed : (answer : Bool) → ask (suc n) answer run out next .0 .0 ≡ 0 → answer ≡ true
   unfolding ask
   passed true e = refl
@@ -47,8 +47,8 @@ closing Forward run out e = omega (arith, counted _ run (passed _ run out _ _ e)
 closing Back run out e = ltb-true 0 (run .count) (passed _ run [] _ _ (follows _ run [] _ _ (follows _ run [] _ _ e)))
 
 -- ---- the output that a call is lent
-pub output-room : (run : Run) (n : ℕ) (room : List ℤ) → n ≡ min (run .width) 128 → n ≤ 128 → room ≡ zeros 128 → take n room ≡ output run
-unfolding output
+pub output-room : (run : Run) (n : ℕ) (room : List ℤ) → n ≡ min (run .width) 128 → n ≤ 128 → room ≡ zeros 128 → take n room ≡ lentOutput run
+unfolding lentOutput
 output-room run n room e l z = ap (take n) z ∙ zeros-part n 128 l ∙ ap zeros e
 
 -- ---- a line between

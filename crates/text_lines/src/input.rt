@@ -2,7 +2,7 @@
 ghost use mathlib.Core.Path.{_≡_};
 ghost use Prim.Native.Nat.{_≤_};
 ghost use lib.ListN.{length};
-ghost use Rattle.text_runs.specs.State.{given};
+ghost use Rattle.text_runs.specs.State.{resultOf};
 ghost use Rattle.text_runs.specs.Line.{formed, notFormed, lineTaken, inputEnded};
 use crate::row;
 use crate::width;
@@ -14,25 +14,25 @@ use text_state::refuse;
 
 fn take_formed(state: State, line: &[u8]) -> Printed
     requires { ⌜ length (now line) ≤ 2048 ⌝ }
-    ensures { λ r. ⌜ given r ≡ formed (state .phase) state (now (line .entry)) ⌝ }
+    ensures { λ r. ⌜ resultOf r ≡ formed (state .phase) state (now (line .entry)) ⌝ }
     ensures { λ r. ⌜ r .length ≤ 2048 ⌝ }
 {
     let phase = state.phase;
     match phase {
-        Phase::Width => width::take(state, read::number(line)),
-        Phase::Between => row::take(state, line),
+        Phase::First => width::take_width(state, read::number(line)),
+        Phase::Between => row::take_between(state, line),
         Phase::Ended => refuse::bad_form(state),
         Phase::Over => refuse::silent(state),
     }
 }
 
 fn take_not_formed(state: State) -> Printed
-    ensures { λ r. ⌜ given r ≡ notFormed (state .phase) state ⌝ }
+    ensures { λ r. ⌜ resultOf r ≡ notFormed (state .phase) state ⌝ }
     ensures { λ r. ⌜ r .length ≤ 2048 ⌝ }
 {
     let phase = state.phase;
     match phase {
-        Phase::Width => refuse::bad_form(state),
+        Phase::First => refuse::bad_form(state),
         Phase::Between => refuse::bad_form(state),
         Phase::Ended => refuse::bad_form(state),
         Phase::Over => refuse::silent(state),
@@ -41,7 +41,7 @@ fn take_not_formed(state: State) -> Printed
 
 // One line, without its line feed. It is whole if it had one and is not cut.
 pub fn take(state: State, whole: bool, line: &[u8]) -> Printed
-    ensures { λ r. ⌜ given r ≡ lineTaken state whole (now (line .entry)) ⌝ }
+    ensures { λ r. ⌜ resultOf r ≡ lineTaken state whole (now (line .entry)) ⌝ }
     ensures { λ r. ⌜ r .length ≤ 2048 ⌝ }
 {
     if !whole {
@@ -55,12 +55,12 @@ pub fn take(state: State, whole: bool, line: &[u8]) -> Printed
 
 // The input has no line more.
 pub fn end(state: State) -> Printed
-    ensures { λ r. ⌜ given r ≡ inputEnded state ⌝ }
+    ensures { λ r. ⌜ resultOf r ≡ inputEnded state ⌝ }
     ensures { λ r. ⌜ r .length ≤ 2048 ⌝ }
 {
     let phase = state.phase;
     match phase {
-        Phase::Width => refuse::bad_form(state),
+        Phase::First => refuse::bad_form(state),
         Phase::Between => refuse::bad_form(state),
         Phase::Ended => row::finish(state),
         Phase::Over => refuse::silent(state),

@@ -4,8 +4,8 @@ ghost use Prim.Native.Nat.{_≤_, min};
 ghost use lib.ListN.{length};
 ghost use Rattle.runs.specs.Record.{zeros};
 ghost use Rattle.text_runs.specs.Lines.{same, endLine, numbersIn};
-ghost use Rattle.text_runs.specs.State.{given};
-ghost use Rattle.text_runs.specs.Way.{takenBy, endedBy, output};
+ghost use Rattle.text_runs.specs.State.{resultOf};
+ghost use Rattle.text_runs.specs.Way.{takenBy, endedBy, lentOutput};
 ghost use Rattle.text_runs.specs.Line.{rowGiven, rowTaken, betweenTaken, finishGiven};
 use crate::way;
 use decimal::compare;
@@ -32,21 +32,21 @@ fn room() -> [i32; 128]
 }
 
 fn take_numbers(state: State, numbers: &[i32]) -> Printed
-    ensures { λ r. ⌜ given r ≡ rowGiven state (takenBy (state .way) (state .run) (now (numbers .entry)) (output (state .run))) ⌝ }
+    ensures { λ r. ⌜ resultOf r ≡ rowGiven state (takenBy (state .way) (state .run) (now (numbers .entry)) (lentOutput (state .run))) ⌝ }
     ensures { λ r. ⌜ r .length ≤ 2048 ⌝ }
 {
     let way = state.way;
     let run = state.run;
     let n = output_length(run.width);
     let mut out = room();
-    let outcome = way::take(way, run, numbers, &mut out[..n]);
+    let outcome = way::take_by(way, run, numbers, &mut out[..n]);
     lines::given_row(state, outcome, &out[..n])
 }
 
 // A line of 2,048 bytes has at most 1,024 numbers.
 fn take_row(state: State, line: &[u8]) -> Printed
     requires { ⌜ length (now line) ≤ 2048 ⌝ }
-    ensures { λ r. ⌜ given r ≡ rowTaken state (numbersIn (now (line .entry))) ⌝ }
+    ensures { λ r. ⌜ resultOf r ≡ rowTaken state (numbersIn (now (line .entry))) ⌝ }
     ensures { λ r. ⌜ r .length ≤ 2048 ⌝ }
 {
     let mut numbers = [0i32; 1024];
@@ -65,9 +65,9 @@ fn is_end(line: &[u8], count: usize) -> bool
     compare::same(line, &end[..n])
 }
 
-pub fn take(state: State, line: &[u8]) -> Printed
+pub fn take_between(state: State, line: &[u8]) -> Printed
     requires { ⌜ length (now line) ≤ 2048 ⌝ }
-    ensures { λ r. ⌜ given r ≡ betweenTaken state (now (line .entry)) ⌝ }
+    ensures { λ r. ⌜ resultOf r ≡ betweenTaken state (now (line .entry)) ⌝ }
     ensures { λ r. ⌜ r .length ≤ 2048 ⌝ }
 {
     let way = state.way;
@@ -84,13 +84,13 @@ pub fn take(state: State, line: &[u8]) -> Printed
 
 // The finish, once the input has ended.
 pub fn finish(state: State) -> Printed
-    ensures { λ r. ⌜ given r ≡ finishGiven state (endedBy (state .way) (state .run) (output (state .run))) ⌝ }
+    ensures { λ r. ⌜ resultOf r ≡ finishGiven state (endedBy (state .way) (state .run) (lentOutput (state .run))) ⌝ }
     ensures { λ r. ⌜ r .length ≤ 2048 ⌝ }
 {
     let way = state.way;
     let run = state.run;
     let n = output_length(run.width);
     let mut out = room();
-    let outcome = way::finish(way, run, &mut out[..n]);
+    let outcome = way::finish_by(way, run, &mut out[..n]);
     lines::given_last(state, outcome, &out[..n])
 }

@@ -8,7 +8,7 @@ use runs::record::Outcome;
 use runs::record::Run;
 use text_runs::state::Way;
 
-pub fn take(way: Way, run: Run, numbers: &[i32], out: &mut [i32]) -> Outcome
+pub fn take_by(way: Way, run: Run, numbers: &[i32], out: &mut [i32]) -> Outcome
     ensures { λ r. ⌜ (told (r .answer), r .run, now (out .exit)) ≡ takenBy way run (now (numbers .entry)) (now (out .entry)) ⌝ }
 {
     match way {
@@ -17,7 +17,7 @@ pub fn take(way: Way, run: Run, numbers: &[i32], out: &mut [i32]) -> Outcome
     }
 }
 
-pub fn finish(way: Way, run: Run, out: &mut [i32]) -> Outcome
+pub fn finish_by(way: Way, run: Run, out: &mut [i32]) -> Outcome
     ensures { λ r. ⌜ (told (r .answer), r .run, now (out .exit)) ≡ endedBy way run (now (out .entry)) ⌝ }
 {
     match way {

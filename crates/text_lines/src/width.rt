@@ -1,7 +1,7 @@
 // The first line: the width.
 ghost use mathlib.Core.Path.{_≡_};
 ghost use Prim.Native.Nat.{_≤_};
-ghost use Rattle.text_runs.specs.State.{given};
+ghost use Rattle.text_runs.specs.State.{resultOf};
 ghost use Rattle.text_runs.specs.Line.{widthStarted, widthTaken};
 use calls_forward::forward;
 use decimal::print;
@@ -11,8 +11,8 @@ use text_runs::state::Printed;
 use text_runs::state::State;
 use text_state::refuse;
 
-fn start(state: State, width: usize) -> Printed
-    ensures { λ r. ⌜ given r ≡ widthStarted state width ⌝ }
+fn start_run(state: State, width: usize) -> Printed
+    ensures { λ r. ⌜ resultOf r ≡ widthStarted state width ⌝ }
     ensures { λ r. ⌜ r .length ≤ 2048 ⌝ }
 {
     let begun = forward::start(width);
@@ -37,8 +37,8 @@ fn start(state: State, width: usize) -> Printed
     }
 }
 
-pub fn take(state: State, field: Field) -> Printed
-    ensures { λ r. ⌜ given r ≡ widthTaken state field ⌝ }
+pub fn take_width(state: State, field: Field) -> Printed
+    ensures { λ r. ⌜ resultOf r ≡ widthTaken state field ⌝ }
     ensures { λ r. ⌜ r .length ≤ 2048 ⌝ }
 {
     let Field::Number(width) = field else {
@@ -47,5 +47,5 @@ pub fn take(state: State, field: Field) -> Printed
     if width < 0 {
         return refuse::by(state, 1, 0);
     }
-    start(state, width as usize)
+    start_run(state, width as usize)
 }

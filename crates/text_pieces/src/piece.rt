@@ -4,7 +4,7 @@ ghost use mathlib.Core.Bool.{false};
 ghost use Prim.Native.Nat.{_+_, _≤_, _<_};
 ghost use lib.ListN.{length};
 ghost use Rattle.pieces.specs.Piece.{Buffers, Gives, HandsOn, Goes, Took, Rests, Ends};
-ghost use Rattle.text_runs.specs.State.{given};
+ghost use Rattle.text_runs.specs.State.{resultOf};
 ghost use Rattle.feeding.specs.Text.{sessionAfter, isOver, textProgram};
 ghost use Rattle.text_pieces.specs.Text.{textLimits, placeOf};
 use crate::session;
@@ -28,7 +28,7 @@ pub struct Progress {
 // What a line or the end gives, behind what waits.
 fn put(given: Printed, out: &mut [u8], progress: Progress) -> Progress
     requires { ⌜ (given .length ≤ 2048) × (progress .waiting + 2048 ≤ length (now out)) ⌝ }
-    ensures { λ r. ⌜ Gives textProgram textLimits (sessionAfter (progress .session .ending) (Rattle.text_runs.specs.State.given given)) (now (out .entry)) (progress .waiting) (progress .at) (placeOf r) (now (out .exit)) ⌝ }
+    ensures { λ r. ⌜ Gives textProgram textLimits (sessionAfter (progress .session .ending) (Rattle.text_runs.specs.State.resultOf given)) (now (out .entry)) (progress .waiting) (progress .at) (placeOf r) (now (out .exit)) ⌝ }
 {
     let text = given.text;
     let n = given.length;
@@ -73,7 +73,7 @@ fn take_line(piece: &[u8], line: &mut [u8], out: &mut [u8], mut progress: Progre
 }
 
 // Goes on until the piece is used up or the output has less room than one line can print.
-pub fn take(piece: &[u8], line: &mut [u8], out: &mut [u8], begun: Progress) -> Progress
+pub fn take_piece(piece: &[u8], line: &mut [u8], out: &mut [u8], begun: Progress) -> Progress
     requires { ⌜ Buffers textProgram textLimits (now piece) (now line) (now out) (placeOf begun) ⌝ }
     ensures { λ r. ⌜ Took textProgram textLimits (now (piece .entry)) (now (line .entry)) (now (out .entry)) (placeOf begun) (placeOf r) (now (line .exit)) (now (out .exit)) ⌝ }
 {

@@ -16,7 +16,7 @@ use Rattle.text_runs.specs.declared.state.Way.{Way}
 use Rattle.text_runs.specs.declared.state.State.{State}
 use Rattle.text_runs.specs.declared.state.Phase.the-variants.{Between, Ended, Over}
 use Rattle.text_runs.specs.State.{inPhase, withRun, lineNumber, refused}
-use Rattle.text_runs.specs.Way.{output, takenBy, shownRow}
+use Rattle.text_runs.specs.Way.{lentOutput, takenBy, shownRow}
 use Rattle.text_runs.specs.Line.{lineLimit, badForm, rowGiven, rowTaken, betweenTaken, formed, notFormed, lineTaken, endIn, inputEnded}
 use Rattle.text_runs.specs.Input.{Line, printedFrom}
 use Rattle.text_runs.specs.EveryInput.{refusalLine}
@@ -57,7 +57,7 @@ same-is (x ∷ xs) (y ∷ ys) e =
 
 -- ---- the three cases: a refusal is of the form or of the gate,
 abbrev pub RowSource : Way → Run → ℕ × ℕ → Type 0
-RowSource way run answer = (answer ≡ (13, 0)) ⊎ ((xs : List ℤ) × (answer ≡ takenBy way run xs (output run) .0))
+RowSource way run answer = (answer ≡ (13, 0)) ⊎ ((xs : List ℤ) × (answer ≡ takenBy way run xs (lentOutput run) .0))
 
 pub record LineRefused (way : Way) (run : Run) (line : Line) : Type 0 where
   pub answer : ℕ × ℕ
@@ -72,9 +72,9 @@ pub record LineEnds (way : Way) (run : Run) (line : Line) : Type 0 where
 pub record LineRow (way : Way) (run : Run) (line : Line) : Type 0 where
   pub xs : List ℤ
   pub is : line ≡ (true, row xs)
-  pub works : takenBy way run xs (output run) .0 .0 ≡ 0
+  pub works : takenBy way run xs (lentOutput run) .0 .0 ≡ 0
   pub given : lineTaken (state way Between run) (line .0) (line .1)
-      ≡ (state way Between (takenBy way run xs (output run) .1), shownRow way run (takenBy way run xs (output run) .2))
+      ≡ (state way Between (takenBy way run xs (lentOutput run) .1), shownRow way run (takenBy way run xs (lentOutput run) .2))
 
 abbrev pub AnyLine : Way → Run → Line → Type 0
 AnyLine way run line = LineRefused way run line ⊎ LineEnds way run line ⊎ LineRow way run line
@@ -94,24 +94,24 @@ module _ (way : Way) (run : Run) where
       unfolding lineTaken formed betweenTaken rowTaken badForm
       row-bad e = record { answer = (13, 0); numbered = omega arith; source = inl refl; given = rw (short, between, e) }
 
-      row-refused : (xs : List ℤ) → numbersIn bytes ≡ some xs → eqb (takenBy way run xs (output run) .0 .0) 0 ≡ false → LineRefused way run (true, bytes)
+      row-refused : (xs : List ℤ) → numbersIn bytes ≡ some xs → eqb (takenBy way run xs (lentOutput run) .0 .0) 0 ≡ false → LineRefused way run (true, bytes)
       unfolding lineTaken formed betweenTaken rowTaken rowGiven
       row-refused xs e f =
-          let z = eqb-false (takenBy way run xs (output run) .0 .0) 0 f in
-          record { answer = takenBy way run xs (output run) .0; numbered = omega (arith, z); source = inr (xs, refl); given = rw (short, between, e, f) }
+          let z = eqb-false (takenBy way run xs (lentOutput run) .0 .0) 0 f in
+          record { answer = takenBy way run xs (lentOutput run) .0; numbered = omega (arith, z); source = inr (xs, refl); given = rw (short, between, e, f) }
 
-      row-works : (xs : List ℤ) → numbersIn bytes ≡ some xs → eqb (takenBy way run xs (output run) .0 .0) 0 ≡ true → LineRow way run (true, bytes)
+      row-works : (xs : List ℤ) → numbersIn bytes ≡ some xs → eqb (takenBy way run xs (lentOutput run) .0 .0) 0 ≡ true → LineRow way run (true, bytes)
       unfolding lineTaken formed betweenTaken rowTaken rowGiven withRun
       row-works xs e f = record {
         xs = xs;
         is = rw (row-read bytes xs e);
-        works = eqb-true (takenBy way run xs (output run) .0 .0) 0 f;
+        works = eqb-true (takenBy way run xs (lentOutput run) .0 .0) 0 f;
         given = rw (short, between, e, f);
       }
 
       any-row : (o : Option (List ℤ)) → numbersIn bytes ≡ o → AnyLine way run (true, bytes)
       any-row none e = inl (row-bad e)
-      any-row (some xs) e = ⊎-elim (λ f. inr (inr (row-works xs e f))) (λ f. inl (row-refused xs e f)) (tested (eqb (takenBy way run xs (output run) .0 .0) 0))
+      any-row (some xs) e = ⊎-elim (λ f. inr (inr (row-works xs e f))) (λ f. inl (row-refused xs e f)) (tested (eqb (takenBy way run xs (lentOutput run) .0 .0) 0))
 
     any-short : AnyLine way run (true, bytes)
     any-short = ⊎-elim (λ e. inr (inl (is-end e))) (λ e. any-row e (numbersIn bytes) refl) (tested (same bytes (endLine (run .count))))

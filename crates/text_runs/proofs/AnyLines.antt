@@ -15,8 +15,8 @@ use Rattle.runs.specs.Gate as Gate
 use Rattle.text_runs.specs.Lines.{endLine}
 use Rattle.text_runs.specs.declared.state.Way.{Way}
 use Rattle.text_runs.specs.declared.state.Phase.the-variants.{Between, Ended}
-use Rattle.text_runs.specs.State.{Given, lineBetween, lineNumber, refused}
-use Rattle.text_runs.specs.Way.{output, takenBy, endedBy, shownRow}
+use Rattle.text_runs.specs.State.{LineResult, lineBetween, lineNumber, refused}
+use Rattle.text_runs.specs.Way.{lentOutput, takenBy, endedBy, shownRow}
 use Rattle.text_runs.specs.Line.{lineLimit, badForm, formed, notFormed, lineTaken, finishGiven, endIn, inputEnded}
 use Rattle.text_runs.specs.Input.{Line, printedFrom}
 use Rattle.text_runs.specs.EveryInput.{refusalLine}
@@ -28,39 +28,39 @@ use Rattle.text_runs.proofs.AnyLine.{line-refused, RowSource, LineRefus
 -- ---- rows taken one after the other: each call works; the record behind them; what is printed for them
 unfoldable pub AllTaken : Way → Run → List (List ℤ) → Type 0
 AllTaken way run [] = Unit {0}
-AllTaken way run (xs ∷ rows) = (takenBy way run xs (output run) .0 .0 ≡ 0) × AllTaken way (takenBy way run xs (output run) .1) rows
+AllTaken way run (xs ∷ rows) = (takenBy way run xs (lentOutput run) .0 .0 ≡ 0) × AllTaken way (takenBy way run xs (lentOutput run) .1) rows
 
 unfoldable pub runBehind : Way → Run → List (List ℤ) → Run
 runBehind way run [] = run
-runBehind way run (xs ∷ rows) = runBehind way (takenBy way run xs (output run) .1) rows
+runBehind way run (xs ∷ rows) = runBehind way (takenBy way run xs (lentOutput run) .1) rows
 
 unfoldable pub shownFor : Way → Run → List (List ℤ) → List ℕ
 shownFor way run [] = []
-shownFor way run (xs ∷ rows) = shownRow way run (takenBy way run xs (output run) .2) ++ shownFor way (takenBy way run xs (output run) .1) rows
+shownFor way run (xs ∷ rows) = shownRow way run (takenBy way run xs (lentOutput run) .2) ++ shownFor way (takenBy way run xs (lentOutput run) .1) rows
 
 -- where it is known what a call gives
-module _ (way : Way) (run : Run) (xs : List ℤ) (rows : List (List ℤ)) (after : Run) (out : List ℤ) (e : takenBy way run xs (output run) ≡ ((0, 0), after, out)) where
+module _ (way : Way) (run : Run) (xs : List ℤ) (rows : List (List ℤ)) (after : Run) (out : List ℤ) (e : takenBy way run xs (lentOutput run) ≡ ((0, 0), after, out)) where
   pub taken-next : AllTaken way run (xs ∷ rows) → AllTaken way after rows
   unfolding AllTaken
-  taken-next t = subst (λ (g : Gate.Given). AllTaken way (g .1) rows) e (t .1)
+  taken-next t = subst (λ (g : Gate.CallResult). AllTaken way (g .1) rows) e (t .1)
 
   pub run-next : runBehind way run (xs ∷ rows) ≡ runBehind way after rows
   unfolding runBehind
-  run-next = ap (λ (g : Gate.Given). runBehind way (g .1) rows) e
+  run-next = ap (λ (g : Gate.CallResult). runBehind way (g .1) rows) e
 
   pub shown-next : shownFor way run (xs ∷ rows) ≡ shownRow way run out ++ shownFor way after rows
   unfolding shownFor
-  shown-next = ap (λ (g : Gate.Given). shownRow way run (g .2) ++ shownFor way (g .1) rows) e
+  shown-next = ap (λ (g : Gate.CallResult). shownRow way run (g .2) ++ shownFor way (g .1) rows) e
 
 -- ---- the two cases
 pub record LinesWhole (way : Way) (run : Run) (lines : List Line) : Type 0 where
   pub rows : List (List ℤ)
   pub taken : AllTaken way run rows
-  pub ended : endedBy way (runBehind way run rows) (output (runBehind way run rows)) .0 .0 ≡ 0
+  pub ended : endedBy way (runBehind way run rows) (lentOutput (runBehind way run rows)) .0 .0 ≡ 0
   pub lines-are : lines ≡ linesBetween rows ((true, endLine (runBehind way run rows .count)) ∷ [])
 
 abbrev pub Source : Way → Run → ℕ × ℕ → Type 0
-Source way run answer = RowSource way run answer ⊎ (answer ≡ endedBy way run (output run) .0)
+Source way run answer = RowSource way run answer ⊎ (answer ≡ endedBy way run (lentOutput run) .0)
 
 pub record LinesRefused (way : Way) (run : Run) (lines : List Line) : Type 0 where
   pub rows : List (List ℤ)
@@ -96,14 +96,14 @@ module _ (way : Way) (run : Run) where
   left-over line lines =
       line-refused (state way Ended run) line (13, 0) lines (⊎-elim (λ e. rw e) (λ e. rw e) (tested (line .0 && leb (length (line .1)) lineLimit)))
 
-  finish-given : eqb (endedBy way run (output run) .0 .0) 0 ≡ false → inputEnded (state way Ended run) ≡ refused (state way Ended run) (endedBy way run (output run) .0)
+  finish-given : eqb (endedBy way run (lentOutput run) .0 .0) 0 ≡ false → inputEnded (state way Ended run) ≡ refused (state way Ended run) (endedBy way run (lentOutput run) .0)
   unfolding inputEnded endIn finishGiven
   finish-given e = rw e
 
-  finish-no : eqb (endedBy way run (output run) .0 .0) 0 ≡ false
-      → printedFrom (state way Ended run) [] ≡ refusalLine (endedBy way run (output run) .0 .0) (lineBetween (run .count)) (endedBy way run (output run) .0 .1)
+  finish-no : eqb (endedBy way run (lentOutput run) .0 .0) 0 ≡ false
+      → printedFrom (state way Ended run) [] ≡ refusalLine (endedBy way run (lentOutput run) .0 .0) (lineBetween (run .count)) (endedBy way run (lentOutput run) .0 .1)
   unfolding printedFrom refused lineNumber refusalLine
-  finish-no e = ap (λ (g : Given). g .1) (finish-given e)
+  finish-no e = ap (λ (g : LineResult). g .1) (finish-given e)
 
   end-printed : (line : Line) (lines : List Line) → LineEnds way run line → printedFrom (state way Between run) (line ∷ lines) ≡ printedFrom (state way Ended run) lines
   unfolding printedFrom
@@ -114,15 +114,15 @@ module _ (way : Way) (run : Run) where
   line-ends line [] r =
       ⊎-elim (λ e. inl (record { rows = []; taken = tt; ended = eqb-true _ 0 e; lines-are = ap (λ (l : Line). l ∷ []) (r .is) }))
       (λ e.
-      let z = eqb-false (endedBy way run (output run) .0 .0) 0 e in
-      inr (refused-here (line ∷ []) (endedBy way run (output run) .0) (omega (arith, z)) (inr refl) (end-printed line [] r ∙ finish-no e)))
-      (tested (eqb (endedBy way run (output run) .0 .0) 0))
+      let z = eqb-false (endedBy way run (lentOutput run) .0 .0) 0 e in
+      inr (refused-here (line ∷ []) (endedBy way run (lentOutput run) .0) (omega (arith, z)) (inr refl) (end-printed line [] r ∙ finish-no e)))
+      (tested (eqb (endedBy way run (lentOutput run) .0 .0) 0))
   line-ends line (next ∷ lines) r = inr (refused-here (line ∷ next ∷ lines) (13, 0) (omega arith) (inl (inl refl)) (end-printed line (next ∷ lines) r ∙ left-over next lines))
 
   -- ---- behind a row
   module _ (line : Line) (lines : List Line) (r : LineRow way run line) where
     abbrev after : Run
-    after = takenBy way run (r .xs) (output run) .1
+    after = takenBy way run (r .xs) (lentOutput run) .1
 
     row-whole : LinesWhole way after lines → LinesWhole way run (line ∷ lines)
     unfolding AllTaken runBehind linesBetween
@@ -143,7 +143,7 @@ module _ (way : Way) (run : Run) where
       source = w .source;
       taken = (r .works, w .taken);
       lines-are = ap₂ (λ (l : Line) (ls : List Line). l ∷ ls) (r .is) (w .lines-are);
-      printed-is = rw (r .given, w .printed-is) (sym (append-assoc (shownRow way run (takenBy way run (r .xs) (output run) .2)) (shownFor way after (w .rows)) (refusalLine (w .answer .0) (lineBetween (runBehind way after (w .rows) .count)) (w .answer .1))));
+      printed-is = rw (r .given, w .printed-is) (sym (append-assoc (shownRow way run (takenBy way run (r .xs) (lentOutput run) .2)) (shownFor way after (w .rows)) (refusalLine (w .answer .0) (lineBetween (runBehind way after (w .rows) .count)) (w .answer .1))));
     }
 
 pub lines-is : (way : Way) (run : Run) (lines : List Line) → AnyLines way run lines
@@ -151,5 +151,5 @@ lines-is way run [] = inr (missing-text-refused way run)
 lines-is way run (line ∷ lines) =
     ⊎-elim (λ r. inr (line-no way run line lines r))
     (⊎-elim (λ r. line-ends way run line lines r)
-    (λ r. ⊎-elim (λ w. inl (row-whole way run line lines r w)) (λ w. inr (row-no way run line lines r w)) (lines-is way (takenBy way run (r .xs) (output run) .1) lines)))
+    (λ r. ⊎-elim (λ w. inl (row-whole way run line lines r w)) (λ w. inr (row-no way run line lines r w)) (lines-is way (takenBy way run (r .xs) (lentOutput run) .1) lines)))
     (line-is way run line)

@@ -22,7 +22,7 @@ use Rattle.text_runs.specs.Lines.{lineFeed, endLine}
 use Rattle.text_runs.specs.declared.state.Way.{Way}
 use Rattle.text_runs.specs.declared.state.Phase.the-variants.{Between}
 use Rattle.text_runs.specs.State.{begun, lineBetween, lineNumber, refused}
-use Rattle.text_runs.specs.Way.{output, endedBy}
+use Rattle.text_runs.specs.Way.{lentOutput, endedBy}
 use Rattle.text_runs.specs.Line.{lineLimit, badForm, widthStarted, widthTaken, formed, notFormed, lineTaken, endIn, inputEnded}
 use Rattle.text_runs.specs.Input.{Line, linesOf, printedFrom, printedOf}
 use Rattle.text_runs.specs.Return.{rowLines}
@@ -77,7 +77,7 @@ pub record TextWhole (way : Way) (input : List ℕ) : Type 0 where
   pub wide : IsWidth width
   pub rows : List (List ℤ)
   pub taken : AllTaken way (started width .1) rows
-  pub ended : endedBy way (runBehind way (started width .1) rows) (output (runBehind way (started width .1) rows)) .0 .0 ≡ 0
+  pub ended : endedBy way (runBehind way (started width .1) rows) (lentOutput (runBehind way (started width .1) rows)) .0 .0 ≡ 0
   pub lines-are : linesOf input ≡ (true, decimal width) ∷ linesBetween rows ((true, endLine (runBehind way (started width .1) rows .count)) ∷ [])
 
 pub record TextRefused (way : Way) (input : List ℕ) : Type 0 where

@@ -24,7 +24,7 @@ use Rattle.runs.proofs.MadeFrames.{framesAfter, allFrames}
 use Rattle.text_runs.specs.Lines.{row, endLine}
 use Rattle.text_runs.specs.declared.state.Way.the-variants.{Back}
 use Rattle.text_runs.specs.declared.state.Phase.the-variants.{Between}
-use Rattle.text_runs.specs.Way.{output, takenBy, endedBy, rowLine, lastLine, shownRow, shownLast}
+use Rattle.text_runs.specs.Way.{lentOutput, takenBy, endedBy, rowLine, lastLine, shownRow, shownLast}
 use Rattle.text_runs.specs.Input.{Line, printedFrom}
 use Rattle.text_runs.specs.Return.{rowLines}
 use Rattle.text_runs.proofs.LineLaws.{linesBetween}
@@ -45,11 +45,11 @@ module _ (N b : ℕ) (low : List ℤ) (r : ReachedBack N b low) where
   abbrev run : Run
   run = opened N b low
 
-  lent : length (output run) ≡ N
+  lent : length (lentOutput run) ≡ N
   lent = output-long N b low (r .wide)
 
   back-row : (p x : List ℤ) (after : Run) (block : List ℤ) (lines : List Line) → Block N readingLimit p → Block N readingLimit x
-      → takenBack run (frame N (held N p) x) (output run) ≡ ((0, 0), after, block)
+      → takenBack run (frame N (held N p) x) (lentOutput run) ≡ ((0, 0), after, block)
       → printedFrom (state Back Between run) ((true, row (frame N (held N p) x)) ∷ lines) ≡ shownRow Back run block ++ printedFrom (state Back Between after) lines
   unfolding takenBy
   back-row p x after block lines hp hx e =
@@ -59,7 +59,7 @@ module _ (N b : ℕ) (low : List ℤ) (r : ReachedBack N b low) where
 
   back-end : endedBack run .0 ≡ (0, 0) → printedFrom (state Back Between run) ((true, endLine b) ∷ []) ≡ lastLine (b - 1)
   unfolding endedBy opened shownLast
-  back-end e = end-printed Back run (endedBack run .1) (output run) (ap (λ (a : ℕ × ℕ). (a, endedBack run .1, output run)) e)
+  back-end e = end-printed Back run (endedBack run .1) (lentOutput run) (ap (λ (a : ℕ × ℕ). (a, endedBack run .1, lentOutput run)) e)
 
 -- ---- the frames behind the first
 back-rows : (N : ℕ) (xs : List (List ℤ)) (k count : ℕ) → AllBlocks N xs → ReachedBack N (suc k) (lower N (blockAt N xs 0)) → count ≡ k + length xs → count ≤ blockLimit
@@ -88,4 +88,4 @@ all-rows-back N w xs hs h =
     let r = back-first N w in
     rw (started-back N w)
     (back-row N 0 none r (zeros N) y _ _ _ (zero-block N readingLimit) (hs 0) (first-taken N w y (hs 0) _ (lent N 0 none r))
-    ∙ rw (first-shownRow N none (output (opened N 0 none))) (back-rows N xs 0 (length xs) hs (back-one N w y (hs 0)) (omega arith) h))
+    ∙ rw (first-shownRow N none (lentOutput (opened N 0 none))) (back-rows N xs 0 (length xs) hs (back-one N w y (hs 0)) (omega arith) h))

@@ -12,19 +12,19 @@ use Rattle.steps.specs.Steps.{held, frame}
 use Rattle.distance.specs.Statement.{Block}
 use Rattle.runs.specs.declared.record.Run.{Run}
 use Rattle.runs.specs.Record.{opened}
-use Rattle.runs.specs.Gate.{Given}
+use Rattle.runs.specs.Gate.{CallResult}
 use Rattle.runs.specs.Calls.{block, accepted, blockAt}
 use Rattle.runs.proofs.RecordLaws.{Reached, reached-next}
 use Rattle.runs.proofs.CallLaws.{Decided, taken-decided, accepted-below, accepted-block}
 use Rattle.runs.proofs.EveryList.{AllBlocks, blocks-none, blocks-one}
 use Rattle.runs.proofs.MadeFrames.{framesAfter}
 use Rattle.text_runs.specs.declared.state.Way.the-variants.{Forward}
-use Rattle.text_runs.specs.Way.{output, takenBy, rowLine, shownRow}
+use Rattle.text_runs.specs.Way.{lentOutput, takenBy, rowLine, shownRow}
 use Rattle.text_runs.specs.Return.{rowLines}
 use Rattle.text_runs.proofs.AnyLines.{AllTaken, runBehind, shownFor, taken-next, run-next, shown-next}
 
 -- what gives an answer 0 was answered yes
-pub worked-yes : {yes : Bool} {run : Run} {out : List ℤ} {good given : Given} → Decided yes run out good given → given .0 .0 ≡ 0 → yes ≡ true
+pub worked-yes : {yes : Bool} {run : Run} {out : List ℤ} {good given : CallResult} → Decided yes run out good given → given .0 .0 ≡ 0 → yes ≡ true
 worked-yes {yes = true} d e = refl
 worked-yes {yes = false} {given} d e = absurd (eqb-false (given .0 .0) 0 (d .when-no refl .numbered) e)
 
@@ -37,23 +37,23 @@ pub record BlocksTaken (N b : ℕ) (previous : List ℤ) (rows : List (List ℤ)
   pub reached : Reached N count last
   pub shown-are : shownFor Forward (opened N b (held N previous)) rows ≡ rowLines (take (length rows) (frame N (held N previous) (blockAt N rows 0) ∷ framesAfter N rows))
 
-module _ (N b : ℕ) (previous : List ℤ) (r : Reached N b previous) (x : List ℤ) (worked : takenBy Forward (opened N b (held N previous)) x (output (opened N b (held N previous))) .0 .0 ≡ 0) where
+module _ (N b : ℕ) (previous : List ℤ) (r : Reached N b previous) (x : List ℤ) (worked : takenBy Forward (opened N b (held N previous)) x (lentOutput (opened N b (held N previous))) .0 .0 ≡ 0) where
   abbrev run : Run
   run = opened N b (held N previous)
 
-  yes : accepted N b false (block x (output run)) ≡ true
+  yes : accepted N b false (block x (lentOutput run)) ≡ true
   unfolding takenBy
-  yes = worked-yes (taken-decided N b previous r x (output run)) worked
+  yes = worked-yes (taken-decided N b previous r x (lentOutput run)) worked
 
   is-block : Block N readingLimit x
-  is-block = accepted-block N b false x (output run) yes
+  is-block = accepted-block N b false x (lentOutput run) yes
 
   reached-more : Reached N (suc b) x
-  reached-more = reached-next N b previous x r (accepted-below N b false x (output run) yes) is-block
+  reached-more = reached-next N b previous x r (accepted-below N b false x (lentOutput run) yes) is-block
 
-  block-given : takenBy Forward run x (output run) ≡ ((0, 0), opened N (suc b) (held N x), frame N (held N previous) x)
+  block-given : takenBy Forward run x (lentOutput run) ≡ ((0, 0), opened N (suc b) (held N x), frame N (held N previous) x)
   unfolding takenBy
-  block-given = taken-decided N b previous r x (output run) .when-yes yes
+  block-given = taken-decided N b previous r x (lentOutput run) .when-yes yes
 
   block-more : (rows : List (List ℤ)) → BlocksTaken N (suc b) x rows → BlocksTaken N b previous (x ∷ rows)
   unfolding shownRow rowLines framesAfter blockAt

@@ -26,8 +26,8 @@ use Rattle.text_runs.specs.declared.state.Way.the-variants.{Forward, Bac
 use Rattle.text_runs.specs.State.{lineBetween}
 use Rattle.text_runs.specs.Way.{endedBy}
 use Rattle.text_runs.specs.Input.{printedOf}
-use Rattle.text_runs.specs.Return.{rowLines, textOf, framesOf, InRange}
-use Rattle.text_runs.specs.EveryInput.{Blocks, read, shown, other, Accepted, firstLines, refusalLine, ReadBefore, RefusedBehind, Refused, numbers, EveryInputTold, AcceptedText, EveryTextAccepted, AcceptedReturned}
+use Rattle.text_runs.specs.Return.{rowLines, textOf, framesMade, InRange}
+use Rattle.text_runs.specs.EveryInput.{Blocks, rowsRead, rowsShown, other, Accepted, firstLines, refusalLine, ReadBefore, RefusedBehind, Refused, refusalNumbers, EveryInputTold, AcceptedText, EveryTextAccepted, AcceptedReturned}
 use Rattle.text_runs.proofs.LineLaws.{linesBetween, text-lines}
 use Rattle.text_runs.proofs.TextReturn.{every-text-run}
 use Rattle.text_runs.proofs.TextLines.{same-lines, width-first}
@@ -48,14 +48,14 @@ good-blocks : (N : ℕ) → IsWidth N → (xs : List (List ℤ)) → AllBlocks N
 good-blocks N w xs hs few = record { wide = w; rows = blocks-rows N xs hs; within = blocks-range N xs hs; few = few }
 
 -- ---- an input that is the text of blocks, or of their frames, is accepted
-text-shown : (way : Way) (N : ℕ) (xs : List (List ℤ)) → Blocks N xs → printedOf way (textOf N (read way N xs)) ≡ textOf N (shown way N xs)
-unfolding read shown
+text-shown : (way : Way) (N : ℕ) (xs : List (List ℤ)) → Blocks N xs → printedOf way (textOf N (rowsRead way N xs)) ≡ textOf N (rowsShown way N xs)
+unfolding rowsRead rowsShown
 text-shown Forward N xs b = every-text-run N (b .wide) xs (b .rows) (b .within) (b .few) .forward
 text-shown Back N xs b =
     let t = every-text-run N (b .wide) xs (b .rows) (b .within) (b .few) in
     ap (printedOf Back) (sym (t .forward)) ∙ t .back
 
-accepted-of : (way : Way) (input : List ℕ) (N : ℕ) (xs : List (List ℤ)) → Blocks N xs → input ≡ textOf N (read way N xs) → Accepted way input
+accepted-of : (way : Way) (input : List ℕ) (N : ℕ) (xs : List (List ℤ)) → Blocks N xs → input ≡ textOf N (rowsRead way N xs) → Accepted way input
 accepted-of way input N xs b e = record { width = N; blocks = xs; run = b; input-is = e; printed-is = ap (printedOf way) e ∙ text-shown way N xs b }
 
 -- ---- from what any input is, where the record behind its rows has counted them
@@ -70,9 +70,9 @@ module _ (way : Way) (input : List ℕ) where
   line-of count rows e h = rw (e, le-leb rows frameLimit h)
 
   refused-of : (a : TextRefused way input) (xs : List (List ℤ)) → Blocks (a .width) xs → ReadBefore way (a .width) (a .rows) xs
-      → shownFor way (started (a .width) .1) (a .rows) ≡ rowLines (take (length xs) (shown way (a .width) xs))
+      → shownFor way (started (a .width) .1) (a .rows) ≡ rowLines (take (length xs) (rowsShown way (a .width) xs))
       → runBehind way (started (a .width) .1) (a .rows) .count ≡ length (a .rows) → length (a .rows) ≤ frameLimit
-      → Told (numbers way) (a .width) (a .number, a .place) → RefusedBehind way input
+      → Told (refusalNumbers way) (a .width) (a .number, a .place) → RefusedBehind way input
   unfolding firstLines
   refused-of a xs b before e f h t = record {
     width = a .width;
@@ -89,7 +89,7 @@ module _ (way : Way) (input : List ℕ) where
     printed-is =
         a .printed-is
         ∙ ap₂ (λ (text : List ℕ) (line : ℕ). (decimal (a .width) ++ lineFeed ∷ []) ++ (text ++ refusalLine (a .number) line (a .place))) e (line-of _ _ f h)
-        ∙ width-first (a .width) (rowLines (take (length xs) (shown way (a .width) xs))) (refusalLine (a .number) (suc (suc (length (a .rows)))) (a .place));
+        ∙ width-first (a .width) (rowLines (take (length xs) (rowsShown way (a .width) xs))) (refusalLine (a .number) (suc (suc (length (a .rows)))) (a .place));
   }
 
 -- ---- forward
@@ -107,16 +107,16 @@ module _ (N : ℕ) (w : IsWidth N) (rows : List (List ℤ)) (t : AllTaken Forwar
   blocks-good : Blocks N rows
   blocks-good = good-blocks N w rows (from-start .blocks) (omega (arith, from-start .counted, from-start .reached .counted))
 
-  frames-shown : shownFor Forward (started N .1) rows ≡ rowLines (take (length rows) (shown Forward N rows))
-  unfolding shown framesOf
+  frames-shown : shownFor Forward (started N .1) rows ≡ rowLines (take (length rows) (rowsShown Forward N rows))
+  unfolding rowsShown framesMade
   frames-shown = rw (started-open N w) (from-start .shown-are ∙ ap (λ (frames : List (List ℤ)). rowLines (take (length rows) frames)) (sym (all-frames N rows)))
 
-  answer-forward : (answer : ℕ × ℕ) → Source Forward (runBehind Forward (started N .1) rows) answer → Told (numbers Forward) N answer
+  answer-forward : (answer : ℕ × ℕ) → Source Forward (runBehind Forward (started N .1) rows) answer → Told (refusalNumbers Forward) N answer
   answer-forward answer s =
       forward-told N (from-start .count) (from-start .last) (from-start .reached) answer (subst (λ (run : Run). Source Forward run answer) blocks-behind s)
 
 forward-whole : (input : List ℕ) → TextWhole Forward input → Accepted Forward input
-unfolding read
+unfolding rowsRead
 forward-whole input a =
     accepted-of Forward input (a .width) (a .rows) (blocks-good (a .width) (a .wide) (a .rows) (a .taken))
     (text-of Forward input a (blocks-counted (a .width) (a .wide) (a .rows) (a .taken)))
@@ -140,18 +140,18 @@ module _ (N : ℕ) (w : IsWidth N) (rows : List (List ℤ)) (t : AllTaken Back (
   blocks-given : Blocks N (read-back .xs)
   blocks-given = good-blocks N w (read-back .xs) (read-back .blocks) (read-back .few)
 
-  answer-back : (answer : ℕ × ℕ) → Source Back (runBehind Back (started N .1) rows) answer → Told (numbers Back) N answer
+  answer-back : (answer : ℕ × ℕ) → Source Back (runBehind Back (started N .1) rows) answer → Told (refusalNumbers Back) N answer
   answer-back answer s = back-told N (read-back .count) (read-back .last) (read-back .reached) answer (subst (λ (run : Run). Source Back run answer) (read-back .behind) s)
 
 back-whole : (input : List ℕ) → TextWhole Back input → Accepted Back input
-unfolding read framesOf endedBy
+unfolding rowsRead framesMade endedBy
 back-whole input a =
     let f = frames-read (a .width) (a .wide) (a .rows) (a .taken) in
     accepted-of Back input (a .width) (f .xs) (blocks-given (a .width) (a .wide) (a .rows) (a .taken))
     (text-of Back input a (frames-counted (a .width) (a .wide) (a .rows) (a .taken)) ∙ ap (textOf (a .width)) (f .all-are (a .ended) ∙ sym (all-frames (a .width) (f .xs))))
 
 back-refused : (input : List ℕ) → TextRefused Back input → RefusedBehind Back input
-unfolding ReadBefore shown framesOf
+unfolding ReadBefore rowsShown framesMade
 back-refused input a =
     let f = frames-read (a .width) (a .wide) (a .rows) (a .taken) in
     refused-of Back input a (f .xs) (blocks-given (a .width) (a .wide) (a .rows) (a .taken))
@@ -185,11 +185,11 @@ accepted-text way input h = ⊎-elim (λ a. a) (λ r. absurd (h r)) (every-input
 
 -- ---- 3
 pub every-text-accepted : EveryTextAccepted
-every-text-accepted way N xs b = accepted-of way (textOf N (read way N xs)) N xs b refl
+every-text-accepted way N xs b = accepted-of way (textOf N (rowsRead way N xs)) N xs b refl
 
 -- ---- 4
-read-other : (way : Way) (N : ℕ) (xs : List (List ℤ)) → (shown way N xs ≡ read (other way) N xs) × (shown (other way) N xs ≡ read way N xs)
-unfolding read shown other
+read-other : (way : Way) (N : ℕ) (xs : List (List ℤ)) → (rowsShown way N xs ≡ rowsRead (other way) N xs) × (rowsShown (other way) N xs ≡ rowsRead way N xs)
+unfolding rowsRead rowsShown other
 read-other Forward N xs = (refl, refl)
 read-other Back N xs = (refl, refl)
 

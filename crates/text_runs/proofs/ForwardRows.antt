@@ -19,7 +19,7 @@ use Rattle.runs.proofs.MadeFrames.{framesAfter}
 use Rattle.text_runs.specs.Lines.{row, endLine}
 use Rattle.text_runs.specs.declared.state.Way.the-variants.{Forward}
 use Rattle.text_runs.specs.declared.state.Phase.the-variants.{Between}
-use Rattle.text_runs.specs.Way.{output, takenBy, endedBy, rowLine, lastLine, shownRow, shownLast}
+use Rattle.text_runs.specs.Way.{lentOutput, takenBy, endedBy, rowLine, lastLine, shownRow, shownLast}
 use Rattle.text_runs.specs.Input.{Line, printedFrom}
 use Rattle.text_runs.specs.Return.{rowLines}
 use Rattle.text_runs.proofs.LineLaws.{linesBetween}
@@ -31,7 +31,7 @@ module _ (N b : ℕ) (previous : List ℤ) (r : Reached N b previous) where
   abbrev run : Run
   run = opened N b (held N previous)
 
-  lent : length (output run) ≡ N
+  lent : length (lentOutput run) ≡ N
   lent = output-long N b (held N previous) (r .wide)
 
   forward-row : (x : List ℤ) (lines : List Line) → Block N readingLimit x → b < blockLimit
@@ -39,11 +39,11 @@ module _ (N b : ℕ) (previous : List ℤ) (r : Reached N b previous) where
   unfolding takenBy shownRow
   forward-row x lines h l =
       row-printed Forward run x _ _ lines (omega (arith, h .long, width-le N (r .wide))) (omega (arith, h .long, width-pos N (r .wide))) (block-bits N x h)
-      (taken-decided N b previous r x (output run) .when-yes (block-accepted N b x (output run) h l lent))
+      (taken-decided N b previous r x (lentOutput run) .when-yes (block-accepted N b x (lentOutput run) h l lent))
 
   forward-end : printedFrom (state Forward Between run) ((true, endLine b) ∷ []) ≡ rowLine (frame N (held N previous) (zeros N)) ++ lastLine (suc b)
   unfolding endedBy opened shownLast
-  forward-end = end-printed Forward run _ _ (ended-decided N b previous r (output run) .when-yes (finish-accepted N b (output run) lent))
+  forward-end = end-printed Forward run _ _ (ended-decided N b previous r (lentOutput run) .when-yes (finish-accepted N b (lentOutput run) lent))
 
 pub forward-rows : (N : ℕ) (xs : List (List ℤ)) (b count : ℕ) (previous : List ℤ) → Reached N b previous → AllBlocks N xs → count ≡ b + length xs → count ≤ blockLimit
     → printedFrom (state Forward Between (opened N b (held N previous))) (linesBetween xs ((true, endLine count) ∷ []))

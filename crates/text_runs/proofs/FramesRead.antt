@@ -11,7 +11,7 @@ use Rattle.distance.specs.Statement.{IsWidth}
 use Rattle.runs.specs.declared.record.Run.{Run}
 use Rattle.runs.specs.Answers.{told}
 use Rattle.runs.specs.Record.{blockLimit, zeros, opened}
-use Rattle.runs.specs.Gate.{Given}
+use Rattle.runs.specs.Gate.{CallResult}
 use Rattle.runs.specs.Forward.{started}
 use Rattle.runs.specs.Back.{endedBack}
 use Rattle.runs.proofs.EndLaws.{end-empty-refused}
@@ -20,7 +20,7 @@ use Rattle.runs.proofs.MadeFrames.{allFrames}
 use Rattle.runs.proofs.BackLaws.{started-back, ReachedBack, back-first, back-sound, lowHalf}
 use Rattle.runs.proofs.AcceptedLaws.{FirstAccepted, first-accepted, ended-accepted}
 use Rattle.text_runs.specs.declared.state.Way.the-variants.{Back}
-use Rattle.text_runs.specs.Way.{output, takenBy}
+use Rattle.text_runs.specs.Way.{lentOutput, takenBy}
 use Rattle.text_runs.specs.Return.{rowLines}
 use Rattle.text_runs.proofs.RunRows.{output-long}
 use Rattle.text_runs.proofs.BackRows.{first-shownRow}
@@ -48,7 +48,7 @@ module _ (N : ℕ) (w : IsWidth N) where
   -- without a frame no finish works
   none-ended : endedBack run .0 .0 ≡ 0 → ⊥
   unfolding opened told
-  none-ended e = omega (arith, ap (λ (g : Given). g .0 .0) (end-empty-refused run (back-sound N 0 (zeros (halfWidth N)) (back-first N w)) refl refl), e)
+  none-ended e = omega (arith, ap (λ (g : CallResult). g .0 .0) (end-empty-refused run (back-sound N 0 (zeros (halfWidth N)) (back-first N w)) refl refl), e)
 
   no-frame : FramesRead N run []
   unfolding runBehind shownFor rowLines
@@ -67,16 +67,16 @@ module _ (N : ℕ) (w : IsWidth N) where
     all-are = λ e. absurd (none-ended e);
   }
 
-  module _ (c : List ℤ) (works : takenBy Back run c (output run) .0 .0 ≡ 0) where
+  module _ (c : List ℤ) (works : takenBy Back run c (lentOutput run) .0 .0 ≡ 0) where
     wide : length c ≡ N
     unfolding takenBy
-    wide = frame-wide N 0 (zeros (halfWidth N)) c (output run) works
+    wide = frame-wide N 0 (zeros (halfWidth N)) c (lentOutput run) works
 
-    first : FirstAccepted N c (output run)
+    first : FirstAccepted N c (lentOutput run)
     unfolding takenBy
-    first = first-accepted N w c (output run) wide (output-long N 0 (zeros (halfWidth N)) w) works
+    first = first-accepted N w c (lentOutput run) wide (output-long N 0 (zeros (halfWidth N)) w) works
 
-    first-given : takenBy Back run c (output run) ≡ ((0, 0), opened N 1 (lowHalf N c), output run)
+    first-given : takenBy Back run c (lentOutput run) ≡ ((0, 0), opened N 1 (lowHalf N c), lentOutput run)
     unfolding takenBy
     first-given = first .given
 
@@ -94,7 +94,7 @@ module _ (N : ℕ) (w : IsWidth N) where
           last = f .last;
           behind = behind;
           reached = f .reached;
-          shown-are = shown-next Back run c rows _ _ first-given ∙ ap₂ (λ (a b : List ℕ). a ++ b) (first-shownRow N (zeros (halfWidth N)) (output run)) (f .shown-are);
+          shown-are = shown-next Back run c rows _ _ first-given ∙ ap₂ (λ (a b : List ℕ). a ++ b) (first-shownRow N (zeros (halfWidth N)) (lentOutput run)) (f .shown-are);
           first-are = f .first-are;
           all-are = λ e. f .all-are (ended-accepted N (f .count) (f .last) (f .reached) (subst (λ (r : Run). endedBack r .0 .0 ≡ 0) behind e));
         }

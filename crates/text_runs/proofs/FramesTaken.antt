@@ -16,7 +16,7 @@ use Rattle.steps.proofs.Undo.{lower-unfolded, held-unfolded}
 use Rattle.steps.proofs.ZeroBlock.{lower-zeros}
 use Rattle.runs.specs.declared.record.Run.{Run}
 use Rattle.runs.specs.Record.{frameLimit, zeros, opened}
-use Rattle.runs.specs.Gate.{Given, ask, sound, admitted}
+use Rattle.runs.specs.Gate.{CallResult, ask, sound, admitted}
 use Rattle.runs.specs.Calls.{blockAt}
 use Rattle.runs.specs.Back.{takenBack}
 use Rattle.runs.proofs.Refusals.{admitted-few}
@@ -25,18 +25,18 @@ use Rattle.runs.proofs.MadeFrames.{framesAfter}
 use Rattle.runs.proofs.BackLaws.{ReachedBack, lowHalf, highHalf}
 use Rattle.runs.proofs.AcceptedLaws.{high-long, halves-frame, LaterAccepted, later-accepted}
 use Rattle.text_runs.specs.declared.state.Way.the-variants.{Back}
-use Rattle.text_runs.specs.Way.{output, takenBy}
+use Rattle.text_runs.specs.Way.{lentOutput, takenBy}
 use Rattle.text_runs.specs.Return.{rowLines}
 use Rattle.text_runs.proofs.RunRows.{output-long}
 use Rattle.text_runs.proofs.BackRows.{later-shownRow}
 use Rattle.text_runs.proofs.AnyLines.{AllTaken, runBehind, shownFor, taken-next, run-next, shown-next}
 
 -- ---- a frame that is taken has the run's width, and there was room for it
-admitted-long : (top : ℕ) (run : Run) (given out : List ℤ) (next : Given) → admitted top run given out next .0 .0 ≡ 0 → length given ≡ run .width
+admitted-long : (top : ℕ) (run : Run) (given out : List ℤ) (next : CallResult) → admitted top run given out next .0 .0 ≡ 0 → length given ≡ run .width
 unfolding admitted ask
 admitted-long top run given out next = by (sound top run) (not (run .finished)) (ltb (run .count) top) (eqb (length given) (run .width)) refl _
   where
-    by : (s o b l : Bool) → eqb (length given) (run .width) ≡ l → (rest : Given) → ask 2 s run out (ask 3 o run out (ask 4 b run out (ask 6 l run out rest))) .0 .0 ≡ 0 → length given ≡ run .width
+    by : (s o b l : Bool) → eqb (length given) (run .width) ≡ l → (rest : CallResult) → ask 2 s run out (ask 3 o run out (ask 4 b run out (ask 6 l run out rest))) .0 .0 ≡ 0 → length given ≡ run .width
     by true true true true h rest e = eqb-true _ _ h
     by true true true false h rest e = absurd (omega (arith, e))
     by true true false l h rest e = absurd (omega (arith, e))
@@ -86,15 +86,15 @@ module _ (N k : ℕ) (low c p : List ℤ) (r : ReachedBack N (suc k) low) (long 
   abbrev run : Run
   run = opened N (suc k) low
 
-  module _ (f : List ℤ) (works : takenBy Back run f (output run) .0 .0 ≡ 0) where
-    later : LaterAccepted N k low f (output run)
+  module _ (f : List ℤ) (works : takenBy Back run f (lentOutput run) .0 .0 ≡ 0) where
+    later : LaterAccepted N k low f (lentOutput run)
     unfolding takenBy
-    later = later-accepted N k low r f (output run) (frame-wide N (suc k) low f (output run) works) (output-long N (suc k) low (r .wide)) (frame-few N (suc k) low f (output run) works) works
+    later = later-accepted N k low r f (lentOutput run) (frame-wide N (suc k) low f (lentOutput run) works) (output-long N (suc k) low (r .wide)) (frame-few N (suc k) low f (lentOutput run) works) works
 
     abbrev x : List ℤ
     x = unfolded N low (highHalf N f)
 
-    frame-given : takenBy Back run f (output run) ≡ ((0, 0), opened N (suc (suc k)) (lowHalf N f), x)
+    frame-given : takenBy Back run f (lentOutput run) ≡ ((0, 0), opened N (suc (suc k)) (lowHalf N f), x)
     unfolding takenBy
     frame-given = later .given
 
@@ -128,5 +128,5 @@ frames-taken N (f ∷ rows) k low c p r long high is-low t =
     let run = opened N (suc k) low in
     let given = frame-given N k low c p r long high is-low f (t .0) in
     frames-more N k low c p r long high is-low f (t .0) rows
-    (frames-taken N rows (suc k) (lowHalf N f) f (unfolded N low (highHalf N f)) (later N k low c p r long high is-low f (t .0) .reached) (frame-wide N (suc k) low f (output run) (t .0))
+    (frames-taken N rows (suc k) (lowHalf N f) f (unfolded N low (highHalf N f)) (later N k low c p r long high is-low f (t .0) .reached) (frame-wide N (suc k) low f (lentOutput run) (t .0))
     (held-next N k low c p r long high is-low f (t .0)) refl (taken-next Back run f rows _ _ given t))

@@ -10,7 +10,7 @@ use borrow.Author.Tests.{eqb-true, ne-eqb}
 use lib.Dec.{eqb}
 use lib.IntN.{ℤ, pos, negsuc}
 use Rattle.text_runs.specs.Decimal.{decimal, printed, allDigits, leads, sized, negative, positive, numberIn, bits32, allBits}
-use Rattle.text_runs.specs.Lines.{behindCommas, row, longer, fields, inFront, allNumbers, numbersIn}
+use Rattle.text_runs.specs.Lines.{behindCommas, row, longer, fields, numberInFront, allNumbers, numbersIn}
 use Rattle.text_runs.specs.Own.Lacks.{lacks}
 use Rattle.text_runs.specs.declared.number.Size.{Size}
 use Rattle.text_runs.specs.declared.number.Field.{Field}
@@ -86,7 +86,7 @@ no-comma : (x : ℤ) → lacks 44 (printed x)
 no-comma x = printed-lacks 44 (omega arith) (λ e. omega arith) x
 
 pub read-row : (x : ℤ) (xs : List ℤ) → allBits (x ∷ xs) → numbersIn (row (x ∷ xs)) ≡ some (x ∷ xs)
-unfolding numbersIn row allBits behindCommas allNumbers inFront
+unfolding numbersIn row allBits behindCommas allNumbers numberInFront
 read-row x [] h = rw (field-lone (printed x) (no-comma x), read-printed x (h .0))
 read-row x (y ∷ ys) h = rw (field-comma (printed x) (row (y ∷ ys)) (no-comma x), read-printed x (h .0), read-row y ys (h .1))
 
@@ -117,8 +117,8 @@ joined-fields (b ∷ bs) =
     (tested (eqb b 44))
 
 -- the first field's number, and those of the others
-in-front : (f : Field) (o : Option (List ℤ)) (xs : List ℤ) → inFront f o ≡ some xs → (x : ℤ) × (ys : List ℤ) × (f ≡ Field.Number x) × (o ≡ some ys) × (xs ≡ x ∷ ys)
-unfolding inFront
+in-front : (f : Field) (o : Option (List ℤ)) (xs : List ℤ) → numberInFront f o ≡ some xs → (x : ℤ) × (ys : List ℤ) × (f ≡ Field.Number x) × (o ≡ some ys) × (xs ≡ x ∷ ys)
+unfolding numberInFront
 in-front (Field.Number x) (some ys) xs e = (x, ys, refl, refl, cc)
 in-front (Field.Number x) none xs e = absurd (let z : _≡_ {A = ℕ} 0 1 = cc in omega arith)
 in-front Field.Bad o xs e = absurd (let z : _≡_ {A = ℕ} 0 1 = cc in omega arith)

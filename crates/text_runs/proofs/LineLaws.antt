@@ -14,7 +14,7 @@ use Rattle.text_runs.proofs.DecimalLaws.{decimal-digits}
 use Rattle.text_runs.proofs.SizeLaws.{digits-first}
 use Rattle.text_runs.proofs.RowLaws.{decimal-lacks, row-no-feed}
 use Rattle.text_runs.specs.Way.{rowLine, lastLine}
-use Rattle.text_runs.specs.Input.{Line, inFront, linesOf}
+use Rattle.text_runs.specs.Input.{Line, byteInFront, linesOf}
 use Rattle.text_runs.specs.Return.{rowLines, textOf}
 
 -- ---- two lines
@@ -38,7 +38,7 @@ row-not-end (negsuc n ∷ xs) count = refl
 
 -- ---- the lines of a text
 pub line-ends : (bs rest : List ℕ) → lacks lineFeed bs → linesOf (bs ++ lineFeed ∷ rest) ≡ (true, bs) ∷ linesOf rest
-unfolding linesOf inFront lacks
+unfolding linesOf byteInFront lacks
 line-ends [] rest h = refl
 line-ends (b ∷ bs) rest h = rw (ne-eqb b lineFeed (h .0), line-ends bs rest (h .1))
 

@@ -23,7 +23,7 @@ use Rattle.text_runs.specs.declared.state.State.{State}
 use Rattle.text_runs.specs.declared.state.Phase.{Phase}
 use Rattle.text_runs.specs.declared.state.Phase.the-variants.{Between, Ended}
 use Rattle.text_runs.specs.State.{begun, inPhase, withRun}
-use Rattle.text_runs.specs.Way.{output, takenBy, endedBy, shownRow, shownLast}
+use Rattle.text_runs.specs.Way.{lentOutput, takenBy, endedBy, shownRow, shownLast}
 use Rattle.text_runs.specs.Line.{lineLimit, widthStarted, widthTaken, rowGiven, rowTaken, betweenTaken, formed, lineTaken, finishGiven, endIn, inputEnded}
 use Rattle.text_runs.specs.Input.{Line, printedFrom}
 use Rattle.text_runs.proofs.LineLaws.{same-itself, row-not-end}
@@ -58,7 +58,7 @@ some-read [] p b = absurd (omega arith)
 some-read (x ∷ xs) p b = read-row x xs b
 
 module _ (way : Way) (run : Run) where
-  row-taken : (xs : List ℤ) (after : Run) (out : List ℤ) → length xs ≤ 128 → 0 < length xs → allBits xs → takenBy way run xs (output run) ≡ ((0, 0), after, out)
+  row-taken : (xs : List ℤ) (after : Run) (out : List ℤ) → length xs ≤ 128 → 0 < length xs → allBits xs → takenBy way run xs (lentOutput run) ≡ ((0, 0), after, out)
       → lineTaken (state way Between run) true (row xs) ≡ (state way Between after, shownRow way run out)
   unfolding formed betweenTaken rowTaken rowGiven withRun
   row-taken xs after out l p b e =
@@ -66,7 +66,7 @@ module _ (way : Way) (run : Run) where
       ∙ rw (row-not-end xs (run .count), some-read xs p b, e)
 
   pub row-printed : (xs : List ℤ) (after : Run) (out : List ℤ) (lines : List Line) → length xs ≤ 128 → 0 < length xs → allBits xs
-      → takenBy way run xs (output run) ≡ ((0, 0), after, out)
+      → takenBy way run xs (lentOutput run) ≡ ((0, 0), after, out)
       → printedFrom (state way Between run) ((true, row xs) ∷ lines) ≡ shownRow way run out ++ printedFrom (state way Between after) lines
   unfolding printedFrom
   row-printed xs after out lines l p b e = rw (row-taken xs after out l p b e)
@@ -80,7 +80,7 @@ module _ (way : Way) (run : Run) where
   unfolding formed betweenTaken inPhase
   end-taken = line-formed (state way Between run) (endLine (run .count)) end-length ∙ rw (same-itself (endLine (run .count)))
 
-  pub end-printed : (after : Run) (out : List ℤ) → endedBy way run (output run) ≡ ((0, 0), after, out)
+  pub end-printed : (after : Run) (out : List ℤ) → endedBy way run (lentOutput run) ≡ ((0, 0), after, out)
       → printedFrom (state way Between run) ((true, endLine (run .count)) ∷ []) ≡ shownLast way run out
   unfolding printedFrom inputEnded endIn finishGiven
   end-printed after out e = rw (end-taken, e)

@@ -12,20 +12,20 @@ use Rattle.integers.proofs.Products.{all-getD}
 use Rattle.steps.specs.Limits.{readingLimit, coefficientLimit}
 use Rattle.steps.specs.Steps.{held, frame}
 use Rattle.distance.specs.Statement.{IsWidth, Block, coefficient}
-use Rattle.distance_runs.proofs.Theorems.{frame-size}
+use Rattle.distance_theorems.proofs.Theorems.{frame-size}
 use Rattle.runs.specs.Record.{blockLimit, opened}
-use Rattle.runs.specs.Gate.{every, nothing, inside, dead}
+use Rattle.runs.specs.Gate.{allYes, nothing, inside, dead}
 use Rattle.runs.specs.Calls.{block, finish, accepted}
 use Rattle.runs.proofs.Searches.{All, none-found, inside-all}
 use Rattle.runs.proofs.RecordLaws.{width-le}
 use Rattle.runs.proofs.EveryList.{AllBlocks, blocks-none, blocks-one}
 use Rattle.runs.proofs.BackLaws.{frame-long}
 use Rattle.text_runs.specs.Decimal.{bits32, allBits}
-use Rattle.text_runs.specs.Way.{output}
+use Rattle.text_runs.specs.Way.{lentOutput}
 use Rattle.text_runs.specs.Return.{InRange}
 
-pub output-long : (N b : ℕ) (xs : List ℤ) → IsWidth N → length (output (opened N b xs)) ≡ N
-unfolding output opened
+pub output-long : (N b : ℕ) (xs : List ℤ) → IsWidth N → length (lentOutput (opened N b xs)) ≡ N
+unfolding lentOutput opened
 output-long N b xs w = omega (arith, length-replicate (min N 128) (pos 0), width-le N w)
 
 -- ---- rows of 32 bits
@@ -64,10 +64,10 @@ no-mark (negsuc n ∷ xs) h = (ne-eqb n 32767 (λ e. omega (arith, h .0)), no-ma
 
 -- they are taken, and the finish works
 pub block-accepted : (N b : ℕ) (x out : List ℤ) → Block N readingLimit x → b < blockLimit → length out ≡ N → accepted N b false (block x out) ≡ true
-unfolding accepted every nothing inside
+unfolding accepted allYes nothing inside
 block-accepted N b x out h l m =
     rw (lt-ltb b blockLimit l, eq-eqb (length x) N (h .long), eq-eqb (length out) N m, none-found dead x 0 (no-mark x (h .within)), inside-all readingLimit x (h .within))
 
 pub finish-accepted : (N b : ℕ) (out : List ℤ) → length out ≡ N → accepted N b false (finish out) ≡ true
-unfolding accepted every
+unfolding accepted allYes
 finish-accepted N b out m = rw (eq-eqb (length out) N m)

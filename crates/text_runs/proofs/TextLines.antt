@@ -11,7 +11,7 @@ use lib.ListN.{length, take, drop}
 use Rattle.text_runs.specs.Decimal.{decimal}
 use Rattle.text_runs.specs.Lines.{lineFeed, row}
 use Rattle.text_runs.specs.Way.{rowLine, lastLine}
-use Rattle.text_runs.specs.Input.{Line, inFront, linesOf}
+use Rattle.text_runs.specs.Input.{Line, byteInFront, linesOf}
 use Rattle.text_runs.specs.Return.{rowLines, textOf}
 use Rattle.text_runs.specs.EveryInput.{firstLines, FirstLinesBegin}
 use Rattle.text_runs.proofs.UpToLaws.{tested}
@@ -26,8 +26,8 @@ pub textOfLines : List Line → List ℕ
 textOfLines [] = []
 textOfLines (line ∷ lines) = line .1 ++ feedOf (line .0) ++ textOfLines lines
 
-front-text : (b : ℕ) (lines : List Line) → textOfLines (inFront b lines) ≡ b ∷ textOfLines lines
-unfolding inFront textOfLines feedOf
+front-text : (b : ℕ) (lines : List Line) → textOfLines (byteInFront b lines) ≡ b ∷ textOfLines lines
+unfolding byteInFront textOfLines feedOf
 front-text b [] = refl
 front-text b (line ∷ lines) = refl
 

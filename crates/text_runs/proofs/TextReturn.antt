@@ -19,7 +19,7 @@ use Rattle.text_runs.specs.declared.state.Way.the-variants.{Forward, Bac
 use Rattle.text_runs.specs.declared.state.Phase.the-variants.{Between}
 use Rattle.text_runs.specs.Way.{lastLine}
 use Rattle.text_runs.specs.Input.{printedFrom, printedOf}
-use Rattle.text_runs.specs.Return.{rowLines, textOf, framesOf, EveryTextRun}
+use Rattle.text_runs.specs.Return.{rowLines, textOf, framesMade, EveryTextRun}
 use Rattle.text_runs.proofs.LineLaws.{linesBetween, text-lines}
 use Rattle.text_runs.proofs.OneLine.{state, width-printed}
 use Rattle.text_runs.proofs.RunRows.{text-blocks}
@@ -53,7 +53,7 @@ module _ (N : ℕ) (w : IsWidth N) (xs : List (List ℤ)) (hs : AllBlocks N xs) 
   blocks-printed = text-printed Back N w (allFrames N xs) xs (rw (frames-counted N xs) (all-rows-back N w xs hs few))
 
 pub every-text-run : EveryTextRun
-unfolding framesOf
+unfolding framesMade
 every-text-run N w blocks rows within few =
     let hs = text-blocks N blocks rows within in
     let forward = frames-printed N w blocks hs few in

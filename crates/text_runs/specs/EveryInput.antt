@@ -17,7 +17,7 @@ use Rattle.text_runs.specs.declared.state.Way.{Way}
 use Rattle.text_runs.specs.declared.state.Way.the-variants.{Forward, Back}
 use Rattle.text_runs.specs.Way.{lastLine}
 use Rattle.text_runs.specs.Input.{printedOf}
-use Rattle.text_runs.specs.Return.{rowLines, textOf, framesOf, InRange}
+use Rattle.text_runs.specs.Return.{rowLines, textOf, framesMade, InRange}
 
 -- blocks that a run takes: a good width, each block of so many readings, each reading in range, and not too many blocks
 pub record Blocks (N : ℕ) (blocks : List (List ℤ)) : Type 0 where
@@ -27,13 +27,13 @@ pub record Blocks (N : ℕ) (blocks : List (List ℤ)) : Type 0 where
   pub few : length blocks ≤ blockLimit
 
 -- forward a run reads blocks and prints their frames; back it reads the frames and prints the blocks
-unfoldable pub read : Way → ℕ → List (List ℤ) → List (List ℤ)
-read Forward N blocks = blocks
-read Back N blocks = framesOf N blocks
+unfoldable pub rowsRead : Way → ℕ → List (List ℤ) → List (List ℤ)
+rowsRead Forward N blocks = blocks
+rowsRead Back N blocks = framesMade N blocks
 
-unfoldable pub shown : Way → ℕ → List (List ℤ) → List (List ℤ)
-shown Forward N blocks = framesOf N blocks
-shown Back N blocks = blocks
+unfoldable pub rowsShown : Way → ℕ → List (List ℤ) → List (List ℤ)
+rowsShown Forward N blocks = framesMade N blocks
+rowsShown Back N blocks = blocks
 
 unfoldable pub other : Way → Way
 other Forward = Back
@@ -44,8 +44,8 @@ pub record Accepted (way : Way) (input : List ℕ) : Type 0 where
   pub width : ℕ
   pub blocks : List (List ℤ)
   pub run : Blocks width blocks
-  pub input-is : input ≡ textOf width (read way width blocks)
-  pub printed-is : printedOf way input ≡ textOf width (shown way width blocks)
+  pub input-is : input ≡ textOf width (rowsRead way width blocks)
+  pub printed-is : printedOf way input ≡ textOf width (rowsShown way width blocks)
 
 -- ---- refused
 -- the first lines of a text: the width, and a line for each of the first `count` rows
@@ -70,12 +70,12 @@ pub record RefusedFirst (way : Way) (input : List ℕ) : Type 0 where
 -- last are the first of the blocks' frames: the last one waits for the next.
 unfoldable pub ReadBefore : Way → ℕ → List (List ℤ) → List (List ℤ) → Type 0
 ReadBefore Forward N rows blocks = rows ≡ blocks
-ReadBefore Back N rows blocks = (length blocks ≡ length rows - 1) × (take (length blocks) rows ≡ take (length blocks) (framesOf N blocks))
+ReadBefore Back N rows blocks = (length blocks ≡ length rows - 1) × (take (length blocks) rows ≡ take (length blocks) (framesMade N blocks))
 
 -- the numbers that a refusal behind the first line can have: 2, 3 and 7 are answers to other callers
-unfoldable pub numbers : Way → List ℕ
-numbers Forward = 4 ∷ 6 ∷ 8 ∷ 9 ∷ 13 ∷ []
-numbers Back = 4 ∷ 5 ∷ 6 ∷ 9 ∷ 10 ∷ 11 ∷ 12 ∷ 13 ∷ []
+unfoldable pub refusalNumbers : Way → List ℕ
+refusalNumbers Forward = 4 ∷ 6 ∷ 8 ∷ 9 ∷ 13 ∷ []
+refusalNumbers Back = 4 ∷ 5 ∷ 6 ∷ 9 ∷ 10 ∷ 11 ∷ 12 ∷ 13 ∷ []
 
 unfoldable pub among : ℕ → List ℕ → Bool
 among n [] = false
@@ -93,9 +93,9 @@ pub record RefusedBehind (way : Way) (input : List ℕ) : Type 0 where
   pub run : Blocks width blocks
   pub before : ReadBefore way width rows blocks
   pub input-is : input ≡ firstLines (length rows) width rows ++ rest
-  pub numbered : among number (numbers way) ≡ true
+  pub numbered : among number (refusalNumbers way) ≡ true
   pub placed : place < width
-  pub printed-is : printedOf way input ≡ firstLines (length blocks) width (shown way width blocks) ++ refusalLine number (suc (suc (length rows))) place
+  pub printed-is : printedOf way input ≡ firstLines (length blocks) width (rowsShown way width blocks) ++ refusalLine number (suc (suc (length rows))) place
 
 abbrev pub Refused : Way → List ℕ → Type 0
 Refused way input = RefusedFirst way input ⊎ RefusedBehind way input
@@ -114,12 +114,12 @@ AcceptedText = (way : Way) (input : List ℕ) → (Refused way input → ⊥) �
 
 -- 3. The text of any blocks (frames) that the run takes is accepted.
 abbrev pub EveryTextAccepted : Type 0
-EveryTextAccepted = (way : Way) (N : ℕ) (blocks : List (List ℤ)) → Blocks N blocks → Accepted way (textOf N (read way N blocks))
+EveryTextAccepted = (way : Way) (N : ℕ) (blocks : List (List ℤ)) → Blocks N blocks → Accepted way (textOf N (rowsRead way N blocks))
 
 -- 4. What is printed for an accepted text is accepted the other way, and gives that text: back of forward, and forward of back.
-pub record Returned (way : Way) (input : List ℕ) : Type 0 where
+pub record TextReturned (way : Way) (input : List ℕ) : Type 0 where
   pub accepted : Accepted (other way) (printedOf way input)
   pub same : printedOf (other way) (printedOf way input) ≡ input
 
 abbrev pub AcceptedReturned : Type 0
-AcceptedReturned = (way : Way) (input : List ℕ) → Accepted way input → Returned way input
+AcceptedReturned = (way : Way) (input : List ℕ) → Accepted way input → TextReturned way input

@@ -13,14 +13,14 @@ use Rattle.text_runs.specs.Line.{lineTaken, inputEnded}
 abbrev pub Line : Type 0
 Line = Bool × List ℕ
 
-unfoldable pub inFront : ℕ → List Line → List Line
-inFront b [] = (false, b ∷ []) ∷ []
-inFront b (line ∷ lines) = (line .0, b ∷ line .1) ∷ lines
+unfoldable pub byteInFront : ℕ → List Line → List Line
+byteInFront b [] = (false, b ∷ []) ∷ []
+byteInFront b (line ∷ lines) = (line .0, b ∷ line .1) ∷ lines
 
 -- the lines of an input; bytes behind the last line feed are a line that is not whole
 unfoldable pub linesOf : List ℕ → List Line
 linesOf [] = []
-linesOf (b ∷ bs) = cond (eqb b lineFeed) ((true, []) ∷ linesOf bs) (inFront b (linesOf bs))
+linesOf (b ∷ bs) = cond (eqb b lineFeed) ((true, []) ∷ linesOf bs) (byteInFront b (linesOf bs))
 
 unfoldable pub printedFrom : State → List Line → List ℕ
 printedFrom state [] = inputEnded state .1

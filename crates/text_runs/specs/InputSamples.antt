@@ -9,33 +9,33 @@ use lib.ListN.{replicate}
 use Rattle.integers.specs.Floor.{round, floorDiv}
 use Rattle.integers.specs.Places.{tab, sum}
 use Rattle.tables.specs.Widths.{byWidth, halfWidth}
-use Rattle.tables.specs.Angles.{halfTurn, reflected, minus, signed}
+use Rattle.tables.specs.Angles.{halfTurn, reflected, belowZero, signed}
 use Rattle.tables.specs.Numbers.{sines, halfTangents, halfTangents8, secants, secants8, cosineOf, sineOf, halfTangentOf, secantOf}
 use Rattle.steps.specs.Steps.{rootLog, tangent, sine, cosine, oddOf, secant, alternate, tangentAmount, sineAmount, rotatedA, rotatedB, lower, held, topOf, bottomOf, amount1, amount2, amount3, stage1, stage2, stage3, stage4, stage5, stages, frame, unrotatedA, unrotatedB, unfolded, unstage1, unstage2, unstage3, unstage4, unstage5, interleaved, unstages}
-use Rattle.runs.specs.Answers.{first, beyond}
-use Rattle.runs.specs.Record.{filled, opened, advanced, closed}
-use Rattle.runs.specs.Gate.{ask, askEach, nothing, inside, every, sound, dead, admitted}
+use Rattle.runs.specs.Answers.{firstWhere, beyond}
+use Rattle.runs.specs.Record.{zeroPadded, opened, advanced, closed}
+use Rattle.runs.specs.Gate.{ask, askEach, nothing, inside, allYes, sound, dead, admitted}
 use Rattle.runs.specs.Forward.{started, frameOn, takenIn, taken, ended}
 use Rattle.runs.specs.Calls.{blockAt, blockBefore, frameAt}
 use Rattle.runs.specs.Back.{framed, blockOn, firstUpper, firstFrame, laterFrame, unfoldedIn, undoneIn, takenBack, firstHeld, endedBack}
 use Rattle.text_runs.specs.declared.state.Way.the-variants.{Forward, Back}
 use Rattle.text_runs.specs.Bytes.{bytes}
 use Rattle.text_runs.specs.Decimal.{spelled, decimal, printed, isDigit, allDigits, valueOf, valued, leads, sized, negative, positive, numberIn}
-use Rattle.text_runs.specs.Lines.{refusedTag, endTag, behindCommas, row, endLine, refusal, longer, fields, inFront, allNumbers, numbersIn, same}
+use Rattle.text_runs.specs.Lines.{refusedTag, endTag, behindCommas, row, endLine, refusal, longer, fields, numberInFront, allNumbers, numbersIn, same}
 use Rattle.text_runs.specs.State.{begun, inPhase, withRun, lineBetween, lineNumber, refused}
-use Rattle.text_runs.specs.Way.{output, takenBy, endedBy, rowLine, lastLine, shownRow, shownLast}
+use Rattle.text_runs.specs.Way.{lentOutput, takenBy, endedBy, rowLine, lastLine, shownRow, shownLast}
 use Rattle.text_runs.specs.Line.{badForm, widthStarted, widthTaken, rowGiven, rowTaken, betweenTaken, formed, notFormed, lineTaken, finishGiven, endIn, inputEnded}
 use Rattle.text_runs.specs.Input as Input
 use Rattle.text_runs.specs.Input.{linesOf, printedFrom, printedOf}
-use Rattle.text_runs.specs.Return.{rowLines, textOf, framesOf, InRange}
-use Rattle.text_runs.specs.EveryInput.{Blocks, RefusedFirst, RefusedBehind, ReadBefore, firstLines, refusalLine, shown, numbers, among}
+use Rattle.text_runs.specs.Return.{rowLines, textOf, framesMade, InRange}
+use Rattle.text_runs.specs.EveryInput.{Blocks, RefusedFirst, RefusedBehind, ReadBefore, firstLines, refusalLine, rowsShown, refusalNumbers, among}
 
 abbrev less : ℕ → ℤ
 less n = negℤ (pos n)
 
 -- the width, of a wrong form
 width-refused : RefusedFirst Forward (bytes "08\n8\n")
-unfolding bytes spelled decimal printed isDigit allDigits valueOf valued leads sized negative positive numberIn refusedTag endTag behindCommas row endLine refusal longer fields inFront allNumbers numbersIn same begun inPhase withRun lineBetween lineNumber refused output takenBy endedBy rowLine lastLine shownRow shownLast badForm widthStarted widthTaken rowGiven rowTaken betweenTaken formed notFormed lineTaken finishGiven endIn inputEnded Input.inFront linesOf printedFrom printedOf rowLines textOf framesOf firstLines refusalLine shown byWidth halfWidth halfTurn reflected minus signed sines halfTangents halfTangents8 secants secants8 cosineOf sineOf halfTangentOf secantOf round floorDiv tab sum rootLog tangent sine cosine oddOf secant alternate tangentAmount sineAmount rotatedA rotatedB lower held topOf bottomOf amount1 amount2 amount3 stage1 stage2 stage3 stage4 stage5 stages frame unrotatedA unrotatedB unfolded unstage1 unstage2 unstage3 unstage4 unstage5 interleaved unstages first beyond ask askEach nothing inside every sound dead admitted filled opened advanced closed started frameOn takenIn taken ended blockAt blockBefore frameAt framed blockOn firstUpper firstFrame laterFrame unfoldedIn undoneIn takenBack firstHeld endedBack InRange ReadBefore
+unfolding bytes spelled decimal printed isDigit allDigits valueOf valued leads sized negative positive numberIn refusedTag endTag behindCommas row endLine refusal longer fields numberInFront allNumbers numbersIn same begun inPhase withRun lineBetween lineNumber refused lentOutput takenBy endedBy rowLine lastLine shownRow shownLast badForm widthStarted widthTaken rowGiven rowTaken betweenTaken formed notFormed lineTaken finishGiven endIn inputEnded Input.byteInFront linesOf printedFrom printedOf rowLines textOf framesMade firstLines refusalLine rowsShown byWidth halfWidth halfTurn reflected belowZero signed sines halfTangents halfTangents8 secants secants8 cosineOf sineOf halfTangentOf secantOf round floorDiv tab sum rootLog tangent sine cosine oddOf secant alternate tangentAmount sineAmount rotatedA rotatedB lower held topOf bottomOf amount1 amount2 amount3 stage1 stage2 stage3 stage4 stage5 stages frame unrotatedA unrotatedB unfolded unstage1 unstage2 unstage3 unstage4 unstage5 interleaved unstages firstWhere beyond ask askEach nothing inside allYes sound dead admitted zeroPadded opened advanced closed started frameOn takenIn taken ended blockAt blockBefore frameAt framed blockOn firstUpper firstFrame laterFrame unfoldedIn undoneIn takenBack firstHeld endedBack InRange ReadBefore
 width-refused = record { number = 13; numbered = inr refl; printed-is = refl }
 
 abbrev ones : ℕ → List ℤ
@@ -61,15 +61,15 @@ abbrev blockPrinted : List ℕ
 blockPrinted = bytes "8\n2,1,0,0,0,1,0,0\n5,0,-1,0,2,1,1,0\nrefused,9,4,7\n"
 
 block-printed : printedOf Forward blockInput ≡ blockPrinted
-unfolding bytes spelled decimal printed isDigit allDigits valueOf valued leads sized negative positive numberIn refusedTag endTag behindCommas row endLine refusal longer fields inFront allNumbers numbersIn same begun inPhase withRun lineBetween lineNumber refused output takenBy endedBy rowLine lastLine shownRow shownLast badForm widthStarted widthTaken rowGiven rowTaken betweenTaken formed notFormed lineTaken finishGiven endIn inputEnded Input.inFront linesOf printedFrom printedOf rowLines textOf framesOf firstLines refusalLine shown byWidth halfWidth halfTurn reflected minus signed sines halfTangents halfTangents8 secants secants8 cosineOf sineOf halfTangentOf secantOf round floorDiv tab sum rootLog tangent sine cosine oddOf secant alternate tangentAmount sineAmount rotatedA rotatedB lower held topOf bottomOf amount1 amount2 amount3 stage1 stage2 stage3 stage4 stage5 stages frame unrotatedA unrotatedB unfolded unstage1 unstage2 unstage3 unstage4 unstage5 interleaved unstages first beyond ask askEach nothing inside every sound dead admitted filled opened advanced closed started frameOn takenIn taken ended blockAt blockBefore frameAt framed blockOn firstUpper firstFrame laterFrame unfoldedIn undoneIn takenBack firstHeld endedBack InRange ReadBefore
+unfolding bytes spelled decimal printed isDigit allDigits valueOf valued leads sized negative positive numberIn refusedTag endTag behindCommas row endLine refusal longer fields numberInFront allNumbers numbersIn same begun inPhase withRun lineBetween lineNumber refused lentOutput takenBy endedBy rowLine lastLine shownRow shownLast badForm widthStarted widthTaken rowGiven rowTaken betweenTaken formed notFormed lineTaken finishGiven endIn inputEnded Input.byteInFront linesOf printedFrom printedOf rowLines textOf framesMade firstLines refusalLine rowsShown byWidth halfWidth halfTurn reflected belowZero signed sines halfTangents halfTangents8 secants secants8 cosineOf sineOf halfTangentOf secantOf round floorDiv tab sum rootLog tangent sine cosine oddOf secant alternate tangentAmount sineAmount rotatedA rotatedB lower held topOf bottomOf amount1 amount2 amount3 stage1 stage2 stage3 stage4 stage5 stages frame unrotatedA unrotatedB unfolded unstage1 unstage2 unstage3 unstage4 unstage5 interleaved unstages firstWhere beyond ask askEach nothing inside allYes sound dead admitted zeroPadded opened advanced closed started frameOn takenIn taken ended blockAt blockBefore frameAt framed blockOn firstUpper firstFrame laterFrame unfoldedIn undoneIn takenBack firstHeld endedBack InRange ReadBefore
 block-printed = refl
 
-block-lines : firstLines 2 8 (shown Forward 8 (ones 1 ∷ ones 2 ∷ [])) ++ refusalLine 9 4 7 ≡ blockPrinted
-unfolding bytes spelled decimal printed isDigit allDigits valueOf valued leads sized negative positive numberIn refusedTag endTag behindCommas row endLine refusal longer fields inFront allNumbers numbersIn same begun inPhase withRun lineBetween lineNumber refused output takenBy endedBy rowLine lastLine shownRow shownLast badForm widthStarted widthTaken rowGiven rowTaken betweenTaken formed notFormed lineTaken finishGiven endIn inputEnded Input.inFront linesOf printedFrom printedOf rowLines textOf framesOf firstLines refusalLine shown byWidth halfWidth halfTurn reflected minus signed sines halfTangents halfTangents8 secants secants8 cosineOf sineOf halfTangentOf secantOf round floorDiv tab sum rootLog tangent sine cosine oddOf secant alternate tangentAmount sineAmount rotatedA rotatedB lower held topOf bottomOf amount1 amount2 amount3 stage1 stage2 stage3 stage4 stage5 stages frame unrotatedA unrotatedB unfolded unstage1 unstage2 unstage3 unstage4 unstage5 interleaved unstages first beyond ask askEach nothing inside every sound dead admitted filled opened advanced closed started frameOn takenIn taken ended blockAt blockBefore frameAt framed blockOn firstUpper firstFrame laterFrame unfoldedIn undoneIn takenBack firstHeld endedBack InRange ReadBefore
+block-lines : firstLines 2 8 (rowsShown Forward 8 (ones 1 ∷ ones 2 ∷ [])) ++ refusalLine 9 4 7 ≡ blockPrinted
+unfolding bytes spelled decimal printed isDigit allDigits valueOf valued leads sized negative positive numberIn refusedTag endTag behindCommas row endLine refusal longer fields numberInFront allNumbers numbersIn same begun inPhase withRun lineBetween lineNumber refused lentOutput takenBy endedBy rowLine lastLine shownRow shownLast badForm widthStarted widthTaken rowGiven rowTaken betweenTaken formed notFormed lineTaken finishGiven endIn inputEnded Input.byteInFront linesOf printedFrom printedOf rowLines textOf framesMade firstLines refusalLine rowsShown byWidth halfWidth halfTurn reflected belowZero signed sines halfTangents halfTangents8 secants secants8 cosineOf sineOf halfTangentOf secantOf round floorDiv tab sum rootLog tangent sine cosine oddOf secant alternate tangentAmount sineAmount rotatedA rotatedB lower held topOf bottomOf amount1 amount2 amount3 stage1 stage2 stage3 stage4 stage5 stages frame unrotatedA unrotatedB unfolded unstage1 unstage2 unstage3 unstage4 unstage5 interleaved unstages firstWhere beyond ask askEach nothing inside allYes sound dead admitted zeroPadded opened advanced closed started frameOn takenIn taken ended blockAt blockBefore frameAt framed blockOn firstUpper firstFrame laterFrame unfoldedIn undoneIn takenBack firstHeld endedBack InRange ReadBefore
 block-lines = refl
 
 block-refused : RefusedBehind Forward blockInput
-unfolding bytes firstLines rowLines rowLine row behindCommas printed decimal spelled ReadBefore numbers among
+unfolding bytes firstLines rowLines rowLine row behindCommas printed decimal spelled ReadBefore refusalNumbers among
 block-refused = record {
   width = 8;
   rows = ones 1 ∷ ones 2 ∷ [];
@@ -99,19 +99,19 @@ framesRead =
     ∷ []
 
 frame-printed : printedOf Back frameInput ≡ framePrinted
-unfolding bytes spelled decimal printed isDigit allDigits valueOf valued leads sized negative positive numberIn refusedTag endTag behindCommas row endLine refusal longer fields inFront allNumbers numbersIn same begun inPhase withRun lineBetween lineNumber refused output takenBy endedBy rowLine lastLine shownRow shownLast badForm widthStarted widthTaken rowGiven rowTaken betweenTaken formed notFormed lineTaken finishGiven endIn inputEnded Input.inFront linesOf printedFrom printedOf rowLines textOf framesOf firstLines refusalLine shown byWidth halfWidth halfTurn reflected minus signed sines halfTangents halfTangents8 secants secants8 cosineOf sineOf halfTangentOf secantOf round floorDiv tab sum rootLog tangent sine cosine oddOf secant alternate tangentAmount sineAmount rotatedA rotatedB lower held topOf bottomOf amount1 amount2 amount3 stage1 stage2 stage3 stage4 stage5 stages frame unrotatedA unrotatedB unfolded unstage1 unstage2 unstage3 unstage4 unstage5 interleaved unstages first beyond ask askEach nothing inside every sound dead admitted filled opened advanced closed started frameOn takenIn taken ended blockAt blockBefore frameAt framed blockOn firstUpper firstFrame laterFrame unfoldedIn undoneIn takenBack firstHeld endedBack InRange ReadBefore
+unfolding bytes spelled decimal printed isDigit allDigits valueOf valued leads sized negative positive numberIn refusedTag endTag behindCommas row endLine refusal longer fields numberInFront allNumbers numbersIn same begun inPhase withRun lineBetween lineNumber refused lentOutput takenBy endedBy rowLine lastLine shownRow shownLast badForm widthStarted widthTaken rowGiven rowTaken betweenTaken formed notFormed lineTaken finishGiven endIn inputEnded Input.byteInFront linesOf printedFrom printedOf rowLines textOf framesMade firstLines refusalLine rowsShown byWidth halfWidth halfTurn reflected belowZero signed sines halfTangents halfTangents8 secants secants8 cosineOf sineOf halfTangentOf secantOf round floorDiv tab sum rootLog tangent sine cosine oddOf secant alternate tangentAmount sineAmount rotatedA rotatedB lower held topOf bottomOf amount1 amount2 amount3 stage1 stage2 stage3 stage4 stage5 stages frame unrotatedA unrotatedB unfolded unstage1 unstage2 unstage3 unstage4 unstage5 interleaved unstages firstWhere beyond ask askEach nothing inside allYes sound dead admitted zeroPadded opened advanced closed started frameOn takenIn taken ended blockAt blockBefore frameAt framed blockOn firstUpper firstFrame laterFrame unfoldedIn undoneIn takenBack firstHeld endedBack InRange ReadBefore
 frame-printed = refl
 
-frame-lines : firstLines 1 8 (shown Back 8 (ones 32767 ∷ [])) ++ refusalLine 12 4 2 ≡ framePrinted
-unfolding bytes spelled decimal printed isDigit allDigits valueOf valued leads sized negative positive numberIn refusedTag endTag behindCommas row endLine refusal longer fields inFront allNumbers numbersIn same begun inPhase withRun lineBetween lineNumber refused output takenBy endedBy rowLine lastLine shownRow shownLast badForm widthStarted widthTaken rowGiven rowTaken betweenTaken formed notFormed lineTaken finishGiven endIn inputEnded Input.inFront linesOf printedFrom printedOf rowLines textOf framesOf firstLines refusalLine shown byWidth halfWidth halfTurn reflected minus signed sines halfTangents halfTangents8 secants secants8 cosineOf sineOf halfTangentOf secantOf round floorDiv tab sum rootLog tangent sine cosine oddOf secant alternate tangentAmount sineAmount rotatedA rotatedB lower held topOf bottomOf amount1 amount2 amount3 stage1 stage2 stage3 stage4 stage5 stages frame unrotatedA unrotatedB unfolded unstage1 unstage2 unstage3 unstage4 unstage5 interleaved unstages first beyond ask askEach nothing inside every sound dead admitted filled opened advanced closed started frameOn takenIn taken ended blockAt blockBefore frameAt framed blockOn firstUpper firstFrame laterFrame unfoldedIn undoneIn takenBack firstHeld endedBack InRange ReadBefore
+frame-lines : firstLines 1 8 (rowsShown Back 8 (ones 32767 ∷ [])) ++ refusalLine 12 4 2 ≡ framePrinted
+unfolding bytes spelled decimal printed isDigit allDigits valueOf valued leads sized negative positive numberIn refusedTag endTag behindCommas row endLine refusal longer fields numberInFront allNumbers numbersIn same begun inPhase withRun lineBetween lineNumber refused lentOutput takenBy endedBy rowLine lastLine shownRow shownLast badForm widthStarted widthTaken rowGiven rowTaken betweenTaken formed notFormed lineTaken finishGiven endIn inputEnded Input.byteInFront linesOf printedFrom printedOf rowLines textOf framesMade firstLines refusalLine rowsShown byWidth halfWidth halfTurn reflected belowZero signed sines halfTangents halfTangents8 secants secants8 cosineOf sineOf halfTangentOf secantOf round floorDiv tab sum rootLog tangent sine cosine oddOf secant alternate tangentAmount sineAmount rotatedA rotatedB lower held topOf bottomOf amount1 amount2 amount3 stage1 stage2 stage3 stage4 stage5 stages frame unrotatedA unrotatedB unfolded unstage1 unstage2 unstage3 unstage4 unstage5 interleaved unstages firstWhere beyond ask askEach nothing inside allYes sound dead admitted zeroPadded opened advanced closed started frameOn takenIn taken ended blockAt blockBefore frameAt framed blockOn firstUpper firstFrame laterFrame unfoldedIn undoneIn takenBack firstHeld endedBack InRange ReadBefore
 frame-lines = refl
 
 frames-before : ReadBefore Back 8 framesRead (ones 32767 ∷ [])
-unfolding bytes spelled decimal printed isDigit allDigits valueOf valued leads sized negative positive numberIn refusedTag endTag behindCommas row endLine refusal longer fields inFront allNumbers numbersIn same begun inPhase withRun lineBetween lineNumber refused output takenBy endedBy rowLine lastLine shownRow shownLast badForm widthStarted widthTaken rowGiven rowTaken betweenTaken formed notFormed lineTaken finishGiven endIn inputEnded Input.inFront linesOf printedFrom printedOf rowLines textOf framesOf firstLines refusalLine shown byWidth halfWidth halfTurn reflected minus signed sines halfTangents halfTangents8 secants secants8 cosineOf sineOf halfTangentOf secantOf round floorDiv tab sum rootLog tangent sine cosine oddOf secant alternate tangentAmount sineAmount rotatedA rotatedB lower held topOf bottomOf amount1 amount2 amount3 stage1 stage2 stage3 stage4 stage5 stages frame unrotatedA unrotatedB unfolded unstage1 unstage2 unstage3 unstage4 unstage5 interleaved unstages first beyond ask askEach nothing inside every sound dead admitted filled opened advanced closed started frameOn takenIn taken ended blockAt blockBefore frameAt framed blockOn firstUpper firstFrame laterFrame unfoldedIn undoneIn takenBack firstHeld endedBack InRange ReadBefore
+unfolding bytes spelled decimal printed isDigit allDigits valueOf valued leads sized negative positive numberIn refusedTag endTag behindCommas row endLine refusal longer fields numberInFront allNumbers numbersIn same begun inPhase withRun lineBetween lineNumber refused lentOutput takenBy endedBy rowLine lastLine shownRow shownLast badForm widthStarted widthTaken rowGiven rowTaken betweenTaken formed notFormed lineTaken finishGiven endIn inputEnded Input.byteInFront linesOf printedFrom printedOf rowLines textOf framesMade firstLines refusalLine rowsShown byWidth halfWidth halfTurn reflected belowZero signed sines halfTangents halfTangents8 secants secants8 cosineOf sineOf halfTangentOf secantOf round floorDiv tab sum rootLog tangent sine cosine oddOf secant alternate tangentAmount sineAmount rotatedA rotatedB lower held topOf bottomOf amount1 amount2 amount3 stage1 stage2 stage3 stage4 stage5 stages frame unrotatedA unrotatedB unfolded unstage1 unstage2 unstage3 unstage4 unstage5 interleaved unstages firstWhere beyond ask askEach nothing inside allYes sound dead admitted zeroPadded opened advanced closed started frameOn takenIn taken ended blockAt blockBefore frameAt framed blockOn firstUpper firstFrame laterFrame unfoldedIn undoneIn takenBack firstHeld endedBack InRange ReadBefore
 frames-before = (refl, refl)
 
 frame-refused : RefusedBehind Back frameInput
-unfolding bytes firstLines rowLines rowLine row behindCommas printed decimal spelled numbers among
+unfolding bytes firstLines rowLines rowLine row behindCommas printed decimal spelled refusalNumbers among
 frame-refused = record {
   width = 8;
   rows = framesRead;
@@ -135,15 +135,15 @@ abbrev leftPrinted : List ℕ
 leftPrinted = bytes "8\n2,1,0,0,0,1,0,0\nrefused,13,3,0\n"
 
 left-printed : printedOf Forward leftInput ≡ leftPrinted
-unfolding bytes spelled decimal printed isDigit allDigits valueOf valued leads sized negative positive numberIn refusedTag endTag behindCommas row endLine refusal longer fields inFront allNumbers numbersIn same begun inPhase withRun lineBetween lineNumber refused output takenBy endedBy rowLine lastLine shownRow shownLast badForm widthStarted widthTaken rowGiven rowTaken betweenTaken formed notFormed lineTaken finishGiven endIn inputEnded Input.inFront linesOf printedFrom printedOf rowLines textOf framesOf firstLines refusalLine shown byWidth halfWidth halfTurn reflected minus signed sines halfTangents halfTangents8 secants secants8 cosineOf sineOf halfTangentOf secantOf round floorDiv tab sum rootLog tangent sine cosine oddOf secant alternate tangentAmount sineAmount rotatedA rotatedB lower held topOf bottomOf amount1 amount2 amount3 stage1 stage2 stage3 stage4 stage5 stages frame unrotatedA unrotatedB unfolded unstage1 unstage2 unstage3 unstage4 unstage5 interleaved unstages first beyond ask askEach nothing inside every sound dead admitted filled opened advanced closed started frameOn takenIn taken ended blockAt blockBefore frameAt framed blockOn firstUpper firstFrame laterFrame unfoldedIn undoneIn takenBack firstHeld endedBack InRange ReadBefore
+unfolding bytes spelled decimal printed isDigit allDigits valueOf valued leads sized negative positive numberIn refusedTag endTag behindCommas row endLine refusal longer fields numberInFront allNumbers numbersIn same begun inPhase withRun lineBetween lineNumber refused lentOutput takenBy endedBy rowLine lastLine shownRow shownLast badForm widthStarted widthTaken rowGiven rowTaken betweenTaken formed notFormed lineTaken finishGiven endIn inputEnded Input.byteInFront linesOf printedFrom printedOf rowLines textOf framesMade firstLines refusalLine rowsShown byWidth halfWidth halfTurn reflected belowZero signed sines halfTangents halfTangents8 secants secants8 cosineOf sineOf halfTangentOf secantOf round floorDiv tab sum rootLog tangent sine cosine oddOf secant alternate tangentAmount sineAmount rotatedA rotatedB lower held topOf bottomOf amount1 amount2 amount3 stage1 stage2 stage3 stage4 stage5 stages frame unrotatedA unrotatedB unfolded unstage1 unstage2 unstage3 unstage4 unstage5 interleaved unstages firstWhere beyond ask askEach nothing inside allYes sound dead admitted zeroPadded opened advanced closed started frameOn takenIn taken ended blockAt blockBefore frameAt framed blockOn firstUpper firstFrame laterFrame unfoldedIn undoneIn takenBack firstHeld endedBack InRange ReadBefore
 left-printed = refl
 
-left-lines : firstLines 1 8 (shown Forward 8 (ones 1 ∷ [])) ++ refusalLine 13 3 0 ≡ leftPrinted
-unfolding bytes spelled decimal printed isDigit allDigits valueOf valued leads sized negative positive numberIn refusedTag endTag behindCommas row endLine refusal longer fields inFront allNumbers numbersIn same begun inPhase withRun lineBetween lineNumber refused output takenBy endedBy rowLine lastLine shownRow shownLast badForm widthStarted widthTaken rowGiven rowTaken betweenTaken formed notFormed lineTaken finishGiven endIn inputEnded Input.inFront linesOf printedFrom printedOf rowLines textOf framesOf firstLines refusalLine shown byWidth halfWidth halfTurn reflected minus signed sines halfTangents halfTangents8 secants secants8 cosineOf sineOf halfTangentOf secantOf round floorDiv tab sum rootLog tangent sine cosine oddOf secant alternate tangentAmount sineAmount rotatedA rotatedB lower held topOf bottomOf amount1 amount2 amount3 stage1 stage2 stage3 stage4 stage5 stages frame unrotatedA unrotatedB unfolded unstage1 unstage2 unstage3 unstage4 unstage5 interleaved unstages first beyond ask askEach nothing inside every sound dead admitted filled opened advanced closed started frameOn takenIn taken ended blockAt blockBefore frameAt framed blockOn firstUpper firstFrame laterFrame unfoldedIn undoneIn takenBack firstHeld endedBack InRange ReadBefore
+left-lines : firstLines 1 8 (rowsShown Forward 8 (ones 1 ∷ [])) ++ refusalLine 13 3 0 ≡ leftPrinted
+unfolding bytes spelled decimal printed isDigit allDigits valueOf valued leads sized negative positive numberIn refusedTag endTag behindCommas row endLine refusal longer fields numberInFront allNumbers numbersIn same begun inPhase withRun lineBetween lineNumber refused lentOutput takenBy endedBy rowLine lastLine shownRow shownLast badForm widthStarted widthTaken rowGiven rowTaken betweenTaken formed notFormed lineTaken finishGiven endIn inputEnded Input.byteInFront linesOf printedFrom printedOf rowLines textOf framesMade firstLines refusalLine rowsShown byWidth halfWidth halfTurn reflected belowZero signed sines halfTangents halfTangents8 secants secants8 cosineOf sineOf halfTangentOf secantOf round floorDiv tab sum rootLog tangent sine cosine oddOf secant alternate tangentAmount sineAmount rotatedA rotatedB lower held topOf bottomOf amount1 amount2 amount3 stage1 stage2 stage3 stage4 stage5 stages frame unrotatedA unrotatedB unfolded unstage1 unstage2 unstage3 unstage4 unstage5 interleaved unstages firstWhere beyond ask askEach nothing inside allYes sound dead admitted zeroPadded opened advanced closed started frameOn takenIn taken ended blockAt blockBefore frameAt framed blockOn firstUpper firstFrame laterFrame unfoldedIn undoneIn takenBack firstHeld endedBack InRange ReadBefore
 left-lines = refl
 
 left-refused : RefusedBehind Forward leftInput
-unfolding bytes firstLines rowLines rowLine row behindCommas printed decimal spelled ReadBefore numbers among
+unfolding bytes firstLines rowLines rowLine row behindCommas printed decimal spelled ReadBefore refusalNumbers among
 left-refused = record {
   width = 8;
   rows = ones 1 ∷ [];
@@ -166,15 +166,15 @@ abbrev lostPrinted : List ℕ
 lostPrinted = bytes "8\nrefused,11,3,3\n"
 
 lost-printed : printedOf Back lostInput ≡ lostPrinted
-unfolding bytes spelled decimal printed isDigit allDigits valueOf valued leads sized negative positive numberIn refusedTag endTag behindCommas row endLine refusal longer fields inFront allNumbers numbersIn same begun inPhase withRun lineBetween lineNumber refused output takenBy endedBy rowLine lastLine shownRow shownLast badForm widthStarted widthTaken rowGiven rowTaken betweenTaken formed notFormed lineTaken finishGiven endIn inputEnded Input.inFront linesOf printedFrom printedOf rowLines textOf framesOf firstLines refusalLine shown byWidth halfWidth halfTurn reflected minus signed sines halfTangents halfTangents8 secants secants8 cosineOf sineOf halfTangentOf secantOf round floorDiv tab sum rootLog tangent sine cosine oddOf secant alternate tangentAmount sineAmount rotatedA rotatedB lower held topOf bottomOf amount1 amount2 amount3 stage1 stage2 stage3 stage4 stage5 stages frame unrotatedA unrotatedB unfolded unstage1 unstage2 unstage3 unstage4 unstage5 interleaved unstages first beyond ask askEach nothing inside every sound dead admitted filled opened advanced closed started frameOn takenIn taken ended blockAt blockBefore frameAt framed blockOn firstUpper firstFrame laterFrame unfoldedIn undoneIn takenBack firstHeld endedBack InRange ReadBefore
+unfolding bytes spelled decimal printed isDigit allDigits valueOf valued leads sized negative positive numberIn refusedTag endTag behindCommas row endLine refusal longer fields numberInFront allNumbers numbersIn same begun inPhase withRun lineBetween lineNumber refused lentOutput takenBy endedBy rowLine lastLine shownRow shownLast badForm widthStarted widthTaken rowGiven rowTaken betweenTaken formed notFormed lineTaken finishGiven endIn inputEnded Input.byteInFront linesOf printedFrom printedOf rowLines textOf framesMade firstLines refusalLine rowsShown byWidth halfWidth halfTurn reflected belowZero signed sines halfTangents halfTangents8 secants secants8 cosineOf sineOf halfTangentOf secantOf round floorDiv tab sum rootLog tangent sine cosine oddOf secant alternate tangentAmount sineAmount rotatedA rotatedB lower held topOf bottomOf amount1 amount2 amount3 stage1 stage2 stage3 stage4 stage5 stages frame unrotatedA unrotatedB unfolded unstage1 unstage2 unstage3 unstage4 unstage5 interleaved unstages firstWhere beyond ask askEach nothing inside allYes sound dead admitted zeroPadded opened advanced closed started frameOn takenIn taken ended blockAt blockBefore frameAt framed blockOn firstUpper firstFrame laterFrame unfoldedIn undoneIn takenBack firstHeld endedBack InRange ReadBefore
 lost-printed = refl
 
-lost-lines : firstLines 0 8 (shown Back 8 []) ++ refusalLine 11 3 3 ≡ lostPrinted
-unfolding bytes spelled decimal printed isDigit allDigits valueOf valued leads sized negative positive numberIn refusedTag endTag behindCommas row endLine refusal longer fields inFront allNumbers numbersIn same begun inPhase withRun lineBetween lineNumber refused output takenBy endedBy rowLine lastLine shownRow shownLast badForm widthStarted widthTaken rowGiven rowTaken betweenTaken formed notFormed lineTaken finishGiven endIn inputEnded Input.inFront linesOf printedFrom printedOf rowLines textOf framesOf firstLines refusalLine shown byWidth halfWidth halfTurn reflected minus signed sines halfTangents halfTangents8 secants secants8 cosineOf sineOf halfTangentOf secantOf round floorDiv tab sum rootLog tangent sine cosine oddOf secant alternate tangentAmount sineAmount rotatedA rotatedB lower held topOf bottomOf amount1 amount2 amount3 stage1 stage2 stage3 stage4 stage5 stages frame unrotatedA unrotatedB unfolded unstage1 unstage2 unstage3 unstage4 unstage5 interleaved unstages first beyond ask askEach nothing inside every sound dead admitted filled opened advanced closed started frameOn takenIn taken ended blockAt blockBefore frameAt framed blockOn firstUpper firstFrame laterFrame unfoldedIn undoneIn takenBack firstHeld endedBack InRange ReadBefore
+lost-lines : firstLines 0 8 (rowsShown Back 8 []) ++ refusalLine 11 3 3 ≡ lostPrinted
+unfolding bytes spelled decimal printed isDigit allDigits valueOf valued leads sized negative positive numberIn refusedTag endTag behindCommas row endLine refusal longer fields numberInFront allNumbers numbersIn same begun inPhase withRun lineBetween lineNumber refused lentOutput takenBy endedBy rowLine lastLine shownRow shownLast badForm widthStarted widthTaken rowGiven rowTaken betweenTaken formed notFormed lineTaken finishGiven endIn inputEnded Input.byteInFront linesOf printedFrom printedOf rowLines textOf framesMade firstLines refusalLine rowsShown byWidth halfWidth halfTurn reflected belowZero signed sines halfTangents halfTangents8 secants secants8 cosineOf sineOf halfTangentOf secantOf round floorDiv tab sum rootLog tangent sine cosine oddOf secant alternate tangentAmount sineAmount rotatedA rotatedB lower held topOf bottomOf amount1 amount2 amount3 stage1 stage2 stage3 stage4 stage5 stages frame unrotatedA unrotatedB unfolded unstage1 unstage2 unstage3 unstage4 unstage5 interleaved unstages firstWhere beyond ask askEach nothing inside allYes sound dead admitted zeroPadded opened advanced closed started frameOn takenIn taken ended blockAt blockBefore frameAt framed blockOn firstUpper firstFrame laterFrame unfoldedIn undoneIn takenBack firstHeld endedBack InRange ReadBefore
 lost-lines = refl
 
 lost-refused : RefusedBehind Back lostInput
-unfolding bytes firstLines rowLines rowLine row behindCommas printed decimal spelled ReadBefore numbers among InRange
+unfolding bytes firstLines rowLines rowLine row behindCommas printed decimal spelled ReadBefore refusalNumbers among InRange
 lost-refused = record {
   width = 8;
   rows = (pos 39 ∷ less 24 ∷ less 48 ∷ pos 4 ∷ pos 50 ∷ pos 14 ∷ less 44 ∷ less 33 ∷ []) ∷ [];

@@ -14,68 +14,68 @@ use Rattle.text_runs.specs.Decimal.{decimal, numberIn}
 use Rattle.text_runs.specs.Lines.{lineFeed, same, endLine, numbersIn}
 use Rattle.text_runs.specs.declared.state.Phase.{Phase}
 use Rattle.text_runs.specs.declared.state.State.{State}
-use Rattle.text_runs.specs.declared.state.Phase.the-variants.{Width, Between, Ended, Over}
-use Rattle.text_runs.specs.State.{Given, inPhase, withRun, refused}
-use Rattle.text_runs.specs.Way.{output, takenBy, endedBy, shownRow, shownLast}
+use Rattle.text_runs.specs.declared.state.Phase.the-variants.{First, Between, Ended, Over}
+use Rattle.text_runs.specs.State.{LineResult, inPhase, withRun, refused}
+use Rattle.text_runs.specs.Way.{lentOutput, takenBy, endedBy, shownRow, shownLast}
 
 -- the most bytes of a line, its line feed not counted
 abbrev pub lineLimit : ℕ
 lineLimit = 2048
 
 -- the form is refused by 13, which names no place
-unfoldable pub badForm : State → Given
+unfoldable pub badForm : State → LineResult
 badForm state = refused state (13, 0)
 
 -- the first line, which is the width
-unfoldable pub widthStarted : State → ℕ → Given
+unfoldable pub widthStarted : State → ℕ → LineResult
 widthStarted state N = cond (eqb (started N .0 .0) 0) (withRun Between (started N .1) state, decimal N ++ lineFeed ∷ []) (refused state (started N .0))
 
-unfoldable pub widthTaken : State → Field → Given
+unfoldable pub widthTaken : State → Field → LineResult
 widthTaken state (Field.Number (pos N)) = widthStarted state N
 widthTaken state (Field.Number (negsuc n)) = refused state (1, 0)
 widthTaken state Field.Bad = badForm state
 
 -- a line with a block or a frame
-unfoldable pub rowGiven : State → Gate.Given → Given
+unfoldable pub rowGiven : State → Gate.CallResult → LineResult
 rowGiven state given =
     cond (eqb (given .0 .0) 0) (withRun Between (given .1) state, shownRow (state .way) (state .run) (given .2)) (refused state (given .0))
 
-unfoldable pub rowTaken : State → Option (List ℤ) → Given
+unfoldable pub rowTaken : State → Option (List ℤ) → LineResult
 rowTaken state none = badForm state
-rowTaken state (some xs) = rowGiven state (takenBy (state .way) (state .run) xs (output (state .run)))
+rowTaken state (some xs) = rowGiven state (takenBy (state .way) (state .run) xs (lentOutput (state .run)))
 
 -- such a line, or the end line with the right count
-unfoldable pub betweenTaken : State → List ℕ → Given
+unfoldable pub betweenTaken : State → List ℕ → LineResult
 betweenTaken state bytes = cond (same bytes (endLine (state .run .count))) (inPhase Ended state, []) (rowTaken state (numbersIn bytes))
 
 -- a line of good form, by what should come; behind the end line nothing should, so the finish is not worked there
-unfoldable pub formed : Phase → State → List ℕ → Given
-formed Width state bytes = widthTaken state (numberIn bytes)
+unfoldable pub formed : Phase → State → List ℕ → LineResult
+formed First state bytes = widthTaken state (numberIn bytes)
 formed Between state bytes = betweenTaken state bytes
 formed Ended state bytes = badForm state
 formed Over state bytes = (state, [])
 
-unfoldable pub notFormed : Phase → State → Given
-notFormed Width state = badForm state
+unfoldable pub notFormed : Phase → State → LineResult
+notFormed First state = badForm state
 notFormed Between state = badForm state
 notFormed Ended state = badForm state
 notFormed Over state = (state, [])
 
 -- a line, and whether it is whole: it ended in a line feed. That, and its length, are asked before anything else.
-unfoldable pub lineTaken : State → Bool → List ℕ → Given
+unfoldable pub lineTaken : State → Bool → List ℕ → LineResult
 lineTaken state whole bytes = cond (whole && leb (length bytes) lineLimit) (formed (state .phase) state bytes) (notFormed (state .phase) state)
 
 -- ---- the end of the input
-unfoldable pub finishGiven : State → Gate.Given → Given
+unfoldable pub finishGiven : State → Gate.CallResult → LineResult
 finishGiven state given =
     cond (eqb (given .0 .0) 0) (withRun Over (given .1) state, shownLast (state .way) (state .run) (given .2)) (refused state (given .0))
 
 -- Where the end line has not come, text is missing: that is refused at the line that should come next.
-unfoldable pub endIn : Phase → State → Given
-endIn Width state = badForm state
+unfoldable pub endIn : Phase → State → LineResult
+endIn First state = badForm state
 endIn Between state = badForm state
-endIn Ended state = finishGiven state (endedBy (state .way) (state .run) (output (state .run)))
+endIn Ended state = finishGiven state (endedBy (state .way) (state .run) (lentOutput (state .run)))
 endIn Over state = (state, [])
 
-unfoldable pub inputEnded : State → Given
+unfoldable pub inputEnded : State → LineResult
 inputEnded state = endIn (state .phase) state

@@ -51,14 +51,14 @@ fields [] = [] ∷ []
 fields (b ∷ bs) = cond (eqb b comma) ([] ∷ fields bs) (longer b (fields bs))
 
 -- the numbers of all fields, if each is one
-unfoldable pub inFront : Field → Option (List ℤ) → Option (List ℤ)
-inFront (Field.Number x) (some xs) = some (x ∷ xs)
-inFront (Field.Number x) none = none
-inFront Field.Bad rest = none
+unfoldable pub numberInFront : Field → Option (List ℤ) → Option (List ℤ)
+numberInFront (Field.Number x) (some xs) = some (x ∷ xs)
+numberInFront (Field.Number x) none = none
+numberInFront Field.Bad rest = none
 
 unfoldable pub allNumbers : List (List ℕ) → Option (List ℤ)
 allNumbers [] = some []
-allNumbers (field ∷ rest) = inFront (numberIn field) (allNumbers rest)
+allNumbers (field ∷ rest) = numberInFront (numberIn field) (allNumbers rest)
 
 unfoldable pub numbersIn : List ℕ → Option (List ℤ)
 numbersIn bs = allNumbers (fields bs)

@@ -2,15 +2,14 @@
 -- the width as a letter.
 use mathlib.Core.Path.{_≡_}
 use mathlib.Core.List.{List, [], _∷_, _++_}
-use Prim.Native.Nat.{ℕ, suc, _≤_}
+use Prim.Native.Nat.{ℕ, _≤_}
 use lib.IntN.{ℤ}
 use lib.ListN.{length}
 use Rattle.integers.specs.Vectors.{AllAbs, Rows}
-use Rattle.integers.specs.Places.{tab}
 use Rattle.steps.specs.Limits.{readingLimit}
 use Rattle.distance.specs.Statement.{IsWidth}
 use Rattle.runs.specs.Record.{blockLimit}
-use Rattle.runs.specs.Calls.{frameAt}
+unfoldable pub use Rattle.runs.specs.CallsReturn.{framesMade}
 use Rattle.text_runs.specs.Decimal.{decimal}
 use Rattle.text_runs.specs.Lines.{lineFeed}
 use Rattle.text_runs.specs.declared.state.Way.the-variants.{Forward, Back}
@@ -25,17 +24,13 @@ rowLines (xs ∷ rows) = rowLine xs ++ rowLines rows
 unfoldable pub textOf : ℕ → List (List ℤ) → List ℕ
 textOf N rows = decimal N ++ lineFeed ∷ rowLines rows ++ lastLine (length rows)
 
--- the frames that blocks make
-unfoldable pub framesOf : ℕ → List (List ℤ) → List (List ℤ)
-framesOf N blocks = tab (frameAt N blocks) (suc (length blocks)) 0
-
 -- blocks that a run takes
 unfoldable pub InRange : List (List ℤ) → Type 0
 InRange [] = Unit {0}
 InRange (block ∷ blocks) = AllAbs readingLimit block × InRange blocks
 
 pub record TextRun (N : ℕ) (blocks : List (List ℤ)) : Type 0 where
-  pub forward : printedOf Forward (textOf N blocks) ≡ textOf N (framesOf N blocks)
+  pub forward : printedOf Forward (textOf N blocks) ≡ textOf N (framesMade N blocks)
   pub back : printedOf Back (printedOf Forward (textOf N blocks)) ≡ textOf N blocks
 
 abbrev pub EveryTextRun : Type 0

@@ -12,12 +12,12 @@ use lib.ListN.{length}
 use Rattle.integers.specs.Floor.{round, floorDiv}
 use Rattle.integers.specs.Places.{tab, sum}
 use Rattle.tables.specs.Widths.{byWidth, halfWidth}
-use Rattle.tables.specs.Angles.{halfTurn, reflected, minus, signed}
+use Rattle.tables.specs.Angles.{halfTurn, reflected, belowZero, signed}
 use Rattle.tables.specs.Numbers.{sines, halfTangents, halfTangents8, secants, secants8, cosineOf, sineOf, halfTangentOf, secantOf}
 use Rattle.steps.specs.Steps.{rootLog, tangent, sine, cosine, oddOf, secant, alternate, tangentAmount, sineAmount, rotatedA, rotatedB, lower, held, topOf, bottomOf, amount1, amount2, amount3, stage1, stage2, stage3, stage4, stage5, stages, frame, unrotatedA, unrotatedB, unfolded, unstage1, unstage2, unstage3, unstage4, unstage5, interleaved, unstages}
-use Rattle.runs.specs.Answers.{first, beyond}
-use Rattle.runs.specs.Record.{zeros, recordOf, filled, opened, advanced, closed}
-use Rattle.runs.specs.Gate.{ask, askEach, nothing, inside, every, sound, dead, admitted}
+use Rattle.runs.specs.Answers.{firstWhere, beyond}
+use Rattle.runs.specs.Record.{zeros, recordOf, zeroPadded, opened, advanced, closed}
+use Rattle.runs.specs.Gate.{ask, askEach, nothing, inside, allYes, sound, dead, admitted}
 use Rattle.runs.specs.Forward.{started, frameOn, takenIn, taken, ended}
 use Rattle.runs.specs.Calls.{blockAt, blockBefore, frameAt}
 use Rattle.runs.specs.Back.{framed, blockOn, firstUpper, firstFrame, laterFrame, unfoldedIn, undoneIn, takenBack, firstHeld, endedBack}
@@ -28,16 +28,16 @@ use Rattle.text_runs.specs.declared.state.Way.{Way}
 use Rattle.text_runs.specs.declared.state.Phase.{Phase}
 use Rattle.text_runs.specs.declared.state.State.{State}
 use Rattle.text_runs.specs.declared.state.Way.the-variants.{Forward, Back}
-use Rattle.text_runs.specs.declared.state.Phase.the-variants.{Width, Between, Ended, Over}
+use Rattle.text_runs.specs.declared.state.Phase.the-variants.{First, Between, Ended, Over}
 use Rattle.text_runs.specs.Bytes.{bytes}
 use Rattle.text_runs.specs.Decimal.{spelled, decimal, printed, isDigit, allDigits, valueOf, valued, leads, sized, negative, positive, numberIn, bits32, allBits}
-use Rattle.text_runs.specs.Lines.{refusedTag, endTag, behindCommas, row, endLine, refusal, longer, fields, inFront, allNumbers, numbersIn, upTo, same}
-use Rattle.text_runs.specs.State.{Given, given, begun, inPhase, withRun, goesOn, lineBetween, lineNumber, refused}
-use Rattle.text_runs.specs.Way.{output, takenBy, endedBy, rowLine, lastLine, shownRow, shownLast}
+use Rattle.text_runs.specs.Lines.{refusedTag, endTag, behindCommas, row, endLine, refusal, longer, fields, numberInFront, allNumbers, numbersIn, upTo, same}
+use Rattle.text_runs.specs.State.{LineResult, resultOf, begun, inPhase, withRun, goesOn, lineBetween, lineNumber, refused}
+use Rattle.text_runs.specs.Way.{lentOutput, takenBy, endedBy, rowLine, lastLine, shownRow, shownLast}
 use Rattle.text_runs.specs.Line.{badForm, widthStarted, widthTaken, rowGiven, rowTaken, betweenTaken, formed, notFormed, lineTaken, finishGiven, endIn, inputEnded}
 use Rattle.text_runs.specs.Input as Input
 use Rattle.text_runs.specs.Input.{linesOf, printedFrom, printedOf}
-use Rattle.text_runs.specs.Return.{rowLines, textOf, framesOf, InRange}
+use Rattle.text_runs.specs.Return.{rowLines, textOf, framesMade, InRange}
 
 -- a table of what is computed and what it must be: in every row the two are the same
 abbrev Said : {A : Type 0} → List (A × A) → Type 0
@@ -110,7 +110,7 @@ lines-read : Said
     ∷ (numbersIn (bytes "1;2"), none)
     ∷ (numbersIn (bytes "1,x,2"), none)
     ∷ [])
-unfolding bytes isDigit allDigits valueOf valued leads sized negative positive numberIn longer fields inFront allNumbers numbersIn
+unfolding bytes isDigit allDigits valueOf valued leads sized negative positive numberIn longer fields numberInFront allNumbers numbersIn
 lines-read = refl
 
 fields-parted : Said
@@ -129,17 +129,17 @@ lines-compared = refl
 abbrev at : Way → Phase → ℕ → State
 at way phase count = record { way = way; phase = phase; run = opened 8 count [] }
 
-state-begun : begun Back ≡ record { way = Back; phase = Width; run = recordOf 0 0 (zeros 64) false }
-unfolding begun opened filled
+state-begun : begun Back ≡ record { way = Back; phase = First; run = recordOf 0 0 (zeros 64) false }
+unfolding begun opened zeroPadded
 state-begun = refl
 
-phases-go-on : map goesOn (Width ∷ Between ∷ Ended ∷ Over ∷ []) ≡ true ∷ true ∷ true ∷ false ∷ []
+phases-go-on : map goesOn (First ∷ Between ∷ Ended ∷ Over ∷ []) ≡ true ∷ true ∷ true ∷ false ∷ []
 unfolding goesOn
 phases-go-on = refl
 
 -- the number of the line that comes, where the first is 1
 lines-counted : Said
-    ((lineNumber Width (opened 8 9 []), 1)
+    ((lineNumber First (opened 8 9 []), 1)
     ∷ (lineNumber Between (opened 8 0 []), 2)
     ∷ (lineNumber Ended (opened 8 65537 []), 65539)
     ∷ (lineNumber Over (opened 8 65538 []), 0)
@@ -147,13 +147,13 @@ lines-counted : Said
 unfolding lineNumber lineBetween opened
 lines-counted = refl
 
-lent : output (opened 8 0 []) ∷ output (opened 129 0 []) ∷ [] ≡ zeros 8 ∷ zeros 128 ∷ []
-unfolding output opened
+lent : lentOutput (opened 8 0 []) ∷ lentOutput (opened 129 0 []) ∷ [] ≡ zeros 8 ∷ zeros 128 ∷ []
+unfolding lentOutput opened
 lent = refl
 
 -- ---- one line: the state afterwards, and what is printed
-line-given : Said {A = Given}
-    ((given (record { state = at Back Ended 1; text = bytes "1\n\0"; length = 2 }), (at Back Ended 1, bytes "1\n"))
+line-given : Said {A = LineResult}
+    ((resultOf (record { state = at Back Ended 1; text = bytes "1\n\0"; length = 2 }), (at Back Ended 1, bytes "1\n"))
     ∷ (refused (at Back Between 1) (12, 0), (at Back Over 1, bytes "refused,12,3,0\n"))
     ∷ (lineTaken (begun Back) true (bytes "8"), (at Back Between 0, bytes "8\n"))
     ∷ (lineTaken (at Back Between 1) true (bytes "end,1"), (at Back Ended 1, []))
@@ -163,7 +163,7 @@ line-given : Said {A = Given}
     ∷ (lineTaken (at Back Over 1) false (bytes "x"), (at Back Over 1, []))
     ∷ (inputEnded (at Back Ended 1), (record { way = Back; phase = Over; run = recordOf 8 1 (zeros 64) true }, bytes "end,0\n"))
     ∷ [])
-unfolding given bytes spelled decimal printed isDigit allDigits valueOf valued leads sized negative positive numberIn refusedTag endTag behindCommas row endLine refusal longer fields inFront allNumbers numbersIn same begun inPhase withRun lineBetween lineNumber refused output takenBy endedBy rowLine lastLine shownRow shownLast badForm widthStarted widthTaken rowGiven rowTaken betweenTaken formed notFormed lineTaken finishGiven endIn inputEnded byWidth halfWidth first beyond ask askEach nothing inside every sound admitted filled opened closed started takenBack firstHeld endedBack
+unfolding resultOf bytes spelled decimal printed isDigit allDigits valueOf valued leads sized negative positive numberIn refusedTag endTag behindCommas row endLine refusal longer fields numberInFront allNumbers numbersIn same begun inPhase withRun lineBetween lineNumber refused lentOutput takenBy endedBy rowLine lastLine shownRow shownLast badForm widthStarted widthTaken rowGiven rowTaken betweenTaken formed notFormed lineTaken finishGiven endIn inputEnded byWidth halfWidth firstWhere beyond ask askEach nothing inside allYes sound admitted zeroPadded opened closed started takenBack firstHeld endedBack
 line-given = refl
 
 -- a line of 2,048 bytes, and of one more
@@ -177,7 +177,7 @@ inputs-printed : Said
     ∷ (printedOf Back (bytes "8\n39,-24,-48,4,50,14,-44,-33\n-3,4,2,-5,0,5,-3,-3\nend,2\n"), bytes "8\n100,0,0,0,0,0,0,0\nend,1\n")
     ∷ (printedOf Forward (bytes "8\nend,0\n"), bytes "8\n0,0,0,0,0,0,0,0\nend,1\n")
     ∷ [])
-unfolding bytes spelled decimal printed isDigit allDigits valueOf valued leads sized negative positive numberIn refusedTag endTag behindCommas row endLine refusal longer fields inFront allNumbers numbersIn same begun inPhase withRun lineBetween lineNumber refused output takenBy endedBy rowLine lastLine shownRow shownLast badForm widthStarted widthTaken rowGiven rowTaken betweenTaken formed notFormed lineTaken finishGiven endIn inputEnded Input.inFront linesOf printedFrom printedOf byWidth halfWidth halfTurn reflected minus signed sines halfTangents halfTangents8 secants secants8 cosineOf sineOf halfTangentOf secantOf round floorDiv tab sum rootLog tangent sine cosine oddOf secant alternate tangentAmount sineAmount rotatedA rotatedB lower held topOf bottomOf amount1 amount2 amount3 stage1 stage2 stage3 stage4 stage5 stages frame unrotatedA unrotatedB unfolded unstage1 unstage2 unstage3 unstage4 unstage5 interleaved unstages first beyond ask askEach nothing inside every sound dead admitted filled opened advanced closed started frameOn takenIn taken ended framed blockOn firstUpper firstFrame laterFrame unfoldedIn undoneIn takenBack firstHeld endedBack
+unfolding bytes spelled decimal printed isDigit allDigits valueOf valued leads sized negative positive numberIn refusedTag endTag behindCommas row endLine refusal longer fields numberInFront allNumbers numbersIn same begun inPhase withRun lineBetween lineNumber refused lentOutput takenBy endedBy rowLine lastLine shownRow shownLast badForm widthStarted widthTaken rowGiven rowTaken betweenTaken formed notFormed lineTaken finishGiven endIn inputEnded Input.byteInFront linesOf printedFrom printedOf byWidth halfWidth halfTurn reflected belowZero signed sines halfTangents halfTangents8 secants secants8 cosineOf sineOf halfTangentOf secantOf round floorDiv tab sum rootLog tangent sine cosine oddOf secant alternate tangentAmount sineAmount rotatedA rotatedB lower held topOf bottomOf amount1 amount2 amount3 stage1 stage2 stage3 stage4 stage5 stages frame unrotatedA unrotatedB unfolded unstage1 unstage2 unstage3 unstage4 unstage5 interleaved unstages firstWhere beyond ask askEach nothing inside allYes sound dead admitted zeroPadded opened advanced closed started frameOn takenIn taken ended framed blockOn firstUpper firstFrame laterFrame unfoldedIn undoneIn takenBack firstHeld endedBack
 inputs-printed = refl
 
 -- refused: the width; the form, before the gate; missing text; a wrong count; text left over, before the finish; and nothing follows
@@ -198,16 +198,16 @@ inputs-refused : Said
     ∷ (printedOf Back (bytes "8\nend,0\n"), bytes "8\nrefused,5,2,0\n")
     ∷ (printedOf Back (bytes "8\n39,-24,-48,4,50,14,-44,-33\nend,1\n"), bytes "8\nrefused,11,3,3\n")
     ∷ [])
-unfolding bytes spelled decimal printed isDigit allDigits valueOf valued leads sized negative positive numberIn refusedTag endTag behindCommas row endLine refusal longer fields inFront allNumbers numbersIn same begun inPhase withRun lineBetween lineNumber refused output takenBy endedBy rowLine lastLine shownRow shownLast badForm widthStarted widthTaken rowGiven rowTaken betweenTaken formed notFormed lineTaken finishGiven endIn inputEnded Input.inFront linesOf printedFrom printedOf byWidth halfWidth halfTurn reflected minus signed sines halfTangents halfTangents8 secants secants8 cosineOf sineOf halfTangentOf secantOf round floorDiv tab sum rootLog tangent sine cosine oddOf secant alternate tangentAmount sineAmount rotatedA rotatedB lower held topOf bottomOf amount1 amount2 amount3 stage1 stage2 stage3 stage4 stage5 stages frame unrotatedA unrotatedB unfolded unstage1 unstage2 unstage3 unstage4 unstage5 interleaved unstages first beyond ask askEach nothing inside every sound dead admitted filled opened advanced closed started frameOn takenIn taken ended framed blockOn firstUpper firstFrame laterFrame unfoldedIn undoneIn takenBack firstHeld endedBack
+unfolding bytes spelled decimal printed isDigit allDigits valueOf valued leads sized negative positive numberIn refusedTag endTag behindCommas row endLine refusal longer fields numberInFront allNumbers numbersIn same begun inPhase withRun lineBetween lineNumber refused lentOutput takenBy endedBy rowLine lastLine shownRow shownLast badForm widthStarted widthTaken rowGiven rowTaken betweenTaken formed notFormed lineTaken finishGiven endIn inputEnded Input.byteInFront linesOf printedFrom printedOf byWidth halfWidth halfTurn reflected belowZero signed sines halfTangents halfTangents8 secants secants8 cosineOf sineOf halfTangentOf secantOf round floorDiv tab sum rootLog tangent sine cosine oddOf secant alternate tangentAmount sineAmount rotatedA rotatedB lower held topOf bottomOf amount1 amount2 amount3 stage1 stage2 stage3 stage4 stage5 stages frame unrotatedA unrotatedB unfolded unstage1 unstage2 unstage3 unstage4 unstage5 interleaved unstages firstWhere beyond ask askEach nothing inside allYes sound dead admitted zeroPadded opened advanced closed started frameOn takenIn taken ended framed blockOn firstUpper firstFrame laterFrame unfoldedIn undoneIn takenBack firstHeld endedBack
 inputs-refused = refl
 
 -- ---- the text of a block and of its frames
 abbrev block : List ℤ
 block = pos 100 ∷ zeros 7
 
-text-given : textOf 8 (block ∷ []) ∷ textOf 8 (framesOf 8 (block ∷ [])) ∷ []
+text-given : textOf 8 (block ∷ []) ∷ textOf 8 (framesMade 8 (block ∷ [])) ∷ []
     ≡ bytes "8\n100,0,0,0,0,0,0,0\nend,1\n" ∷ bytes "8\n39,-24,-48,4,50,14,-44,-33\n-3,4,2,-5,0,5,-3,-3\nend,2\n" ∷ []
-unfolding bytes textOf rowLines framesOf frameAt blockAt blockBefore rowLine lastLine behindCommas row printed decimal spelled endLine endTag byWidth halfWidth halfTurn reflected minus signed sines halfTangents halfTangents8 secants secants8 cosineOf sineOf halfTangentOf secantOf round floorDiv tab sum rootLog tangent sine cosine oddOf secant alternate tangentAmount sineAmount rotatedA rotatedB lower held topOf bottomOf amount1 amount2 amount3 stage1 stage2 stage3 stage4 stage5 stages frame
+unfolding bytes textOf rowLines framesMade frameAt blockAt blockBefore rowLine lastLine behindCommas row printed decimal spelled endLine endTag byWidth halfWidth halfTurn reflected belowZero signed sines halfTangents halfTangents8 secants secants8 cosineOf sineOf halfTangentOf secantOf round floorDiv tab sum rootLog tangent sine cosine oddOf secant alternate tangentAmount sineAmount rotatedA rotatedB lower held topOf bottomOf amount1 amount2 amount3 stage1 stage2 stage3 stage4 stage5 stages frame
 text-given = refl
 
 -- blocks at both ends of the range

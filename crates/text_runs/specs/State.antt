@@ -11,18 +11,18 @@ use Rattle.text_runs.specs.declared.state.Way.{Way}
 use Rattle.text_runs.specs.declared.state.Phase.{Phase}
 use Rattle.text_runs.specs.declared.state.State.{State}
 use Rattle.text_runs.specs.declared.state.Printed.{Printed}
-use Rattle.text_runs.specs.declared.state.Phase.the-variants.{Width, Between, Ended, Over}
+use Rattle.text_runs.specs.declared.state.Phase.the-variants.{First, Between, Ended, Over}
 
 -- what a line gives: the state afterwards, and the bytes printed
-abbrev pub Given : Type 0
-Given = State × List ℕ
+abbrev pub LineResult : Type 0
+LineResult = State × List ℕ
 
 -- as the code answers it
-unfoldable pub given : Printed → Given
-given r = (r .state, take (r .length) (r .text))
+unfoldable pub resultOf : Printed → LineResult
+resultOf r = (r .state, take (r .length) (r .text))
 
 unfoldable pub begun : Way → State
-begun way = record { way = way; phase = Width; run = opened 0 0 [] }
+begun way = record { way = way; phase = First; run = opened 0 0 [] }
 
 unfoldable pub inPhase : Phase → State → State
 inPhase phase state = record { way = state .way; phase = phase; run = state .run }
@@ -31,7 +31,7 @@ unfoldable pub withRun : Phase → Run → State → State
 withRun phase run state = record { way = state .way; phase = phase; run = run }
 
 unfoldable pub goesOn : Phase → Bool
-goesOn Width = true
+goesOn First = true
 goesOn Between = true
 goesOn Ended = true
 goesOn Over = false
@@ -42,11 +42,11 @@ unfoldable pub lineBetween : ℕ → ℕ
 lineBetween count = cond (leb count frameLimit) (suc (suc count)) 0
 
 unfoldable pub lineNumber : Phase → Run → ℕ
-lineNumber Width run = 1
+lineNumber First run = 1
 lineNumber Between run = lineBetween (run .count)
 lineNumber Ended run = lineBetween (run .count)
 lineNumber Over run = lineBetween (run .count)
 
 -- a refused line: its number, which line it is and the place are printed, and the run is over
-unfoldable pub refused : State → ℕ × ℕ → Given
+unfoldable pub refused : State → ℕ × ℕ → LineResult
 refused state answer = (inPhase Over state, refusal (answer .0) (lineNumber (state .phase) (state .run)) (answer .1) ++ lineFeed ∷ [])

@@ -6,7 +6,7 @@ use lib.Dec.{eqb}
 use lib.IntN.{ℤ}
 use Rattle.runs.specs.declared.record.Run.{Run}
 use Rattle.runs.specs.Record.{zeros}
-use Rattle.runs.specs.Gate.{Given}
+use Rattle.runs.specs.Gate.{CallResult}
 use Rattle.runs.specs.Forward.{taken, ended}
 use Rattle.runs.specs.Back.{takenBack, endedBack}
 use Rattle.text_runs.specs.Lines.{lineFeed, row, endLine}
@@ -14,16 +14,16 @@ use Rattle.text_runs.specs.declared.state.Way.{Way}
 use Rattle.text_runs.specs.declared.state.Way.the-variants.{Forward, Back}
 
 -- the output that a call is lent: as many zeros as the run is wide, and no run is wider than 128
-unfoldable pub output : Run → List ℤ
-output run = zeros (min (run .width) 128)
+unfoldable pub lentOutput : Run → List ℤ
+lentOutput run = zeros (min (run .width) 128)
 
 -- take a block or a frame
-unfoldable pub takenBy : Way → Run → List ℤ → List ℤ → Given
+unfoldable pub takenBy : Way → Run → List ℤ → List ℤ → CallResult
 takenBy Forward run block out = taken run block out
 takenBy Back run frame out = takenBack run frame out
 
 -- finish; back, no output is lent
-unfoldable pub endedBy : Way → Run → List ℤ → Given
+unfoldable pub endedBy : Way → Run → List ℤ → CallResult
 endedBy Forward run out = ended run out
 endedBy Back run out = (endedBack run .0, endedBack run .1, out)
 

@@ -12,7 +12,7 @@ pub enum Way {
 
 // What the next line is.
 pub enum Phase {
-    Width,
+    First,
     Between,
     Ended,
     Over,
@@ -38,7 +38,7 @@ pub fn begin(way: Way) -> State
     let held = record::nothing_held();
     State {
         way: way,
-        phase: Phase::Width,
+        phase: Phase::First,
         run: record::make(0, 0, held, false),
     }
 }
@@ -49,7 +49,7 @@ pub fn goes_on(state: State) -> bool
 {
     let phase = state.phase;
     match phase {
-        Phase::Width => true,
+        Phase::First => true,
         Phase::Between => true,
         Phase::Ended => true,
         Phase::Over => false,
@@ -72,7 +72,7 @@ pub fn line_number(state: State) -> usize
     let phase = state.phase;
     let run = state.run;
     match phase {
-        Phase::Width => 1,
+        Phase::First => 1,
         Phase::Between => line_between(run.count),
         Phase::Ended => line_between(run.count),
         Phase::Over => line_between(run.count),

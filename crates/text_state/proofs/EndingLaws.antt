@@ -16,7 +16,7 @@ use Rattle.text_runs.proofs.UpToLaws.{part-length, part-is}
 use Rattle.decimal.proofs.CompareLaws.{same-length}
 use Rattle.feeding.specs.declared.session.Ending.{Ending}
 use Rattle.feeding.specs.declared.session.Ending.the-variants.{Open, Whole, Refused}
-use Rattle.feeding.specs.Ending.{refusedBy, lastSaid, told}
+use Rattle.feeding.specs.Ending.{refusedBy, lastSaid, endingAfter}
 
 pub refused-as : {a b c a′ b′ c′ : ℤ} → a ≡ a′ → b ≡ b′ → c ≡ c′ → Refused a b c ≡ Refused a′ b′ c′
 refused-as p q r = cc
@@ -49,17 +49,17 @@ pub said-part : (bytes : List ℕ) (end : ℕ) → end ≡ 8 + length (upTo line
 said-part bytes end h =
     let e : end - 8 ≡ length (upTo lineFeed (drop 8 bytes)) = omega arith in ap (λ (n : ℕ). take n (drop 8 bytes)) e ∙ part-is lineFeed (drop 8 bytes)
 
-pub told-none : (before : Ending) (phase : Phase) (bytes : List ℕ) → length bytes ≡ 0 → told before phase bytes ≡ before
-unfolding told
+pub told-none : (before : Ending) (phase : Phase) (bytes : List ℕ) → length bytes ≡ 0 → endingAfter before phase bytes ≡ before
+unfolding endingAfter
 told-none before phase [] e = refl
 told-none before phase (b ∷ bs) e = absurd (omega arith)
 
-pub told-on : (before : Ending) (phase : Phase) (bytes : List ℕ) → goesOn phase ≡ true → told before phase bytes ≡ before
-unfolding told
+pub told-on : (before : Ending) (phase : Phase) (bytes : List ℕ) → goesOn phase ≡ true → endingAfter before phase bytes ≡ before
+unfolding endingAfter
 told-on before phase [] e = refl
 told-on before phase (b ∷ bs) e = rw e
 
-pub told-last : (before : Ending) (phase : Phase) (bytes : List ℕ) → (length bytes ≡ 0 → ⊥) → goesOn phase ≡ false → told before phase bytes ≡ lastSaid bytes
-unfolding told
+pub told-last : (before : Ending) (phase : Phase) (bytes : List ℕ) → (length bytes ≡ 0 → ⊥) → goesOn phase ≡ false → endingAfter before phase bytes ≡ lastSaid bytes
+unfolding endingAfter
 told-last before phase [] h e = absurd (h refl)
 told-last before phase (b ∷ bs) h e = rw e

@@ -9,10 +9,10 @@ use lib.ListN.{take}
 use Rattle.text_runs.specs.Lines.{lineFeed, refusal}
 use Rattle.text_runs.specs.declared.state.State.{State}
 use Rattle.text_runs.specs.declared.state.Phase.the-variants.{Over}
-use Rattle.text_runs.specs.State.{Given, given, inPhase, lineNumber, refused}
+use Rattle.text_runs.specs.State.{LineResult, resultOf, inPhase, lineNumber, refused}
 
-pub given-text : (s : State) (n : ℕ) (text after : List ℕ) → take n after ≡ text → given (record { state = s; text = after; length = n }) ≡ (s, text)
-unfolding given
+pub given-text : (s : State) (n : ℕ) (text after : List ℕ) → take n after ≡ text → resultOf (record { state = s; text = after; length = n }) ≡ (s, text)
+unfolding resultOf
 given-text s n text after e = ap (λ (t : List ℕ). (s, t)) e
 
 pub told-pair : (answer : ℕ × ℕ) {a b : ℕ} → a ≡ answer .0 → b ≡ answer .1 → (a, b) ≡ answer
@@ -24,7 +24,7 @@ unfolding refused inPhase
 refused-by s number line place e = ap (λ n. (record { way = s .way; phase = Over; run = s .run }, refusal number n place ++ (lineFeed ∷ []))) e
 
 -- ---- an answer's number decides
-module _ (n : ℕ) (yes no : Given) where
+module _ (n : ℕ) (yes no : LineResult) where
   pub works : n ≡ 0 → yes ≡ cond (eqb n 0) yes no
   works e = rw (eq-eqb n 0 e)
 

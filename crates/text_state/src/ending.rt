@@ -4,7 +4,7 @@ ghost use Prim.Native.Nat.{_≤_};
 ghost use lib.ListN.{length};
 ghost use Rattle.decimal.specs.Own.Put.{Put};
 ghost use Rattle.text_runs.specs.Lines.{numbersIn};
-ghost use Rattle.feeding.specs.Ending.{refusedBy, lastSaid, told, refusalLine};
+ghost use Rattle.feeding.specs.Ending.{refusedBy, lastSaid, endingAfter, endingLine};
 use crate::lines;
 use decimal::compare;
 use decimal::print;
@@ -48,7 +48,7 @@ fn last_said(text: &[u8]) -> Ending
 // The ending after a line that was printed, and the state that it left.
 pub fn after(before: Ending, state: State, text: &[u8]) -> Ending
     requires { ⌜ length (now text) ≤ 2048 ⌝ }
-    ensures { λ r. ⌜ r ≡ told before (state .phase) (now (text .entry)) ⌝ }
+    ensures { λ r. ⌜ r ≡ endingAfter before (state .phase) (now (text .entry)) ⌝ }
 {
     if text.len() == 0 {
         return before;
@@ -62,7 +62,7 @@ pub fn after(before: Ending, state: State, text: &[u8]) -> Ending
 // The line of a refusal, as it was printed.
 pub fn refusal_line(ending: Ending, text: &mut [u8]) -> usize
     requires { ⌜ 64 ≤ length (now text) ⌝ }
-    ensures { λ r. ⌜ Put 0 (now (text .entry)) (refusalLine ending) r (now (text .exit)) × (r ≤ 64) ⌝ }
+    ensures { λ r. ⌜ Put 0 (now (text .entry)) (endingLine ending) r (now (text .exit)) × (r ≤ 64) ⌝ }
 {
     match ending {
         Ending::Open => 0,

@@ -5,7 +5,7 @@ ghost use lib.ListN.{length, take};
 ghost use Rattle.runs.specs.Answers.{told};
 ghost use Rattle.decimal.specs.Own.Put.{Put};
 ghost use Rattle.text_runs.specs.declared.state.Way.the-variants.{Back};
-ghost use Rattle.text_runs.specs.State.{given};
+ghost use Rattle.text_runs.specs.State.{resultOf};
 ghost use Rattle.text_runs.specs.Way.{rowLine, lastLine, shownRow, shownLast};
 ghost use Rattle.text_runs.specs.Line.{rowGiven, finishGiven};
 ghost use Rattle.text_state.specs.Own.Closing.{Closing};
@@ -46,7 +46,7 @@ fn shown_block(run: Run, out: &[i32], text: &mut [u8]) -> usize
 }
 
 // For a block or frame that a record takes.
-fn shown(way: Way, run: Run, out: &[i32], text: &mut [u8]) -> usize
+fn shown_row(way: Way, run: Run, out: &[i32], text: &mut [u8]) -> usize
     requires { ⌜ 12 * length (now out) + 1 ≤ length (now text) ⌝ }
     ensures { λ r. ⌜ (take r (now (text .exit)) ≡ shownRow way run (now (out .entry))) × (r ≤ length (now (text .entry))) ⌝ }
 {
@@ -74,7 +74,7 @@ fn shown_last(way: Way, run: Run, out: &[i32], text: &mut [u8]) -> usize
 // What is printed for a call that took a block or frame, or for its refusal.
 pub fn given_row(state: State, outcome: Outcome, out: &[i32]) -> Printed
     requires { ⌜ length (now out) ≤ 128 ⌝ }
-    ensures { λ r. ⌜ given r ≡ rowGiven state (told (outcome .answer), outcome .run, now (out .entry)) ⌝ }
+    ensures { λ r. ⌜ resultOf r ≡ rowGiven state (told (outcome .answer), outcome .run, now (out .entry)) ⌝ }
     ensures { λ r. ⌜ r .length ≤ 2048 ⌝ }
 {
     let answer = outcome.answer;
@@ -86,7 +86,7 @@ pub fn given_row(state: State, outcome: Outcome, out: &[i32]) -> Printed
     let before = state.run;
     let run = outcome.run;
     let mut text = [0u8; 2048];
-    let length = shown(way, before, out, &mut text);
+    let length = shown_row(way, before, out, &mut text);
     Printed {
         state: State {
             way: way,
@@ -102,7 +102,7 @@ pub fn given_row(state: State, outcome: Outcome, out: &[i32]) -> Printed
 pub fn given_last(state: State, outcome: Outcome, out: &[i32]) -> Printed
     requires { ⌜ length (now out) ≤ 128 ⌝ }
     requires { ⌜ (told (outcome .answer) .0 ≡ 0 → Closing (state .way) (state .run .count)) ⌝ }
-    ensures { λ r. ⌜ given r ≡ finishGiven state (told (outcome .answer), outcome .run, now (out .entry)) ⌝ }
+    ensures { λ r. ⌜ resultOf r ≡ finishGiven state (told (outcome .answer), outcome .run, now (out .entry)) ⌝ }
     ensures { λ r. ⌜ r .length ≤ 2048 ⌝ }
 {
     let answer = outcome.answer;

@@ -2,7 +2,7 @@
 ghost use mathlib.Core.Path.{_≡_};
 ghost use mathlib.Core.List.{[]};
 ghost use Prim.Native.Nat.{_≤_};
-ghost use Rattle.text_runs.specs.State.{given, refused};
+ghost use Rattle.text_runs.specs.State.{resultOf, refused};
 ghost use Rattle.text_runs.specs.Line.{badForm};
 use decimal::print;
 use text_runs::state;
@@ -11,7 +11,7 @@ use text_runs::state::Printed;
 use text_runs::state::State;
 
 pub fn silent(state: State) -> Printed
-    ensures { λ r. ⌜ given r ≡ (state, []) ⌝ }
+    ensures { λ r. ⌜ resultOf r ≡ (state, []) ⌝ }
     ensures { λ r. ⌜ r .length ≤ 2048 ⌝ }
 {
     Printed {
@@ -22,14 +22,14 @@ pub fn silent(state: State) -> Printed
 }
 
 pub fn by(state: State, number: usize, place: usize) -> Printed
-    ensures { λ r. ⌜ given r ≡ refused state (number, place) ⌝ }
+    ensures { λ r. ⌜ resultOf r ≡ refused state (number, place) ⌝ }
     ensures { λ r. ⌜ r .length ≤ 2048 ⌝ }
 {
     let way = state.way;
     let run = state.run;
     let line = state::line_number(state);
     let mut text = [0u8; 2048];
-    let n = print::refused(&mut text, 0, number, line, place);
+    let n = print::refusal(&mut text, 0, number, line, place);
     let length = print::bytes(&mut text, n, b"\n");
     Printed {
         state: State {
@@ -43,7 +43,7 @@ pub fn by(state: State, number: usize, place: usize) -> Printed
 }
 
 pub fn bad_form(state: State) -> Printed
-    ensures { λ r. ⌜ given r ≡ badForm state ⌝ }
+    ensures { λ r. ⌜ resultOf r ≡ badForm state ⌝ }
     ensures { λ r. ⌜ r .length ≤ 2048 ⌝ }
 {
     by(state, 13, 0)

@@ -18,7 +18,7 @@ use Rattle.runs.specs.declared.record.Run.{Run}
 use Rattle.runs.specs.Record.{frameLimit, zeros}
 use Rattle.runs.specs.Forward.{started}
 use Rattle.gate.specs.Own.Asked.{wholeParts, inParts}
-use Rattle.gate.specs.Own.Ready.{Blocks}
+use Rattle.gate.specs.Own.Ready.{WholeBlocks}
 use Rattle.gate.proofs.GateLaws.{same-answer}
 use Rattle.gate.proofs.AskedLaws as Asked
 use Rattle.gate.proofs.AskedLaws.{all-whole, whole-all}
@@ -28,7 +28,7 @@ use Rattle.runs.proofs.OneByOne.{outputs-next, first-behind, outputs-behind}
 use Rattle.gate.proofs.PartLaws.{written, written-front, written-rest}
 use Rattle.runs.specs.Back.{takenBack}
 use Rattle.runs.specs.WholeBack.{answerFrom, outputsFrom, allOutputs, firstAnswer, wholeBack}
-use Rattle.asking_back.specs.Own.Ready.{Frames}
+use Rattle.asking_back.specs.Own.Ready.{WholeFrames}
 
 -- ---- questions 1 and 6: at least one part of the width is at least one number
 one-part : (N : ℕ) (frames : List ℤ) → 0 < N → wholeParts N (length frames) 1 frameLimit ≡ (eqb (length frames % N) 0 && leb (length frames / N) frameLimit && ltb 0 (length frames))
@@ -52,7 +52,7 @@ unfolding wholeBack
 parts-refused N frames out answer a h = Asked.parts-refused N (length frames) 1 frameLimit answer a _ (λ w. one-part N frames (width-pos N (omega (arith, w)))) out _ h
 
 -- readings are one block less
-module _ (N : ℕ) (frames out : List ℤ) (f : Frames N frames) (r : length out + N ≡ length frames) where
+module _ (N : ℕ) (frames out : List ℤ) (f : WholeFrames N frames) (r : length out + N ≡ length frames) where
   pub one-block-less : length frames / N ≡ suc (length out / N)
   one-block-less = ap (λ (n : ℕ). n / N) (sym r) ∙ add-div-right (length out) (width-pos N (f .wide)) ∙ add-one (length out / N)
 
@@ -66,7 +66,7 @@ module _ (N : ℕ) (frames out : List ℤ) (f : Frames N frames) (r : length out
   rest-count = ap (λ (n : ℕ). n / N) rest-long
 
   -- the frames behind the first one
-  pub rest-blocks : Blocks N (drop N frames)
+  pub rest-blocks : WholeBlocks N (drop N frames)
   rest-blocks = record {
     wide = f .wide;
     whole = rest-long ∙ sym readings-whole ∙ ap (λ (n : ℕ). n * N) (sym rest-count);
@@ -88,7 +88,7 @@ unfolding outputsFrom
 no-blocks N place left run frames out z h = rw (z, append-nil) (take-all place out h)
 
 -- ---- and with readings that are one block less, the frames behind the first as the code counts them
-module _ (N : ℕ) (frames out : List ℤ) (f : Frames N frames) (r : length out + N ≡ length frames) (after : Run) (e : after ≡ takenBack (started N .1) (take N frames) (zeros N) .1) where
+module _ (N : ℕ) (frames out : List ℤ) (f : WholeFrames N frames) (r : length out + N ≡ length frames) (after : Run) (e : after ≡ takenBack (started N .1) (take N frames) (zeros N) .1) where
   pub answer-left : takenBack (started N .1) (take N frames) (zeros N) .0 .0 ≡ 0 → answerFrom N N after (length (drop N frames) / N) (drop N frames) out ≡ firstAnswer N frames out
   answer-left z =
       let d : N ≡ 0 + N = omega arith in

@@ -6,12 +6,12 @@ ghost use Rattle.integers.specs.Places.{Within};
 ghost use Rattle.tables.specs.Widths.{halfWidth};
 ghost use Rattle.steps.specs.Limits.{foldedLimit};
 ghost use Rattle.width_tables.specs.Filled.{Filled};
-ghost use Rattle.width_tables.specs.Own.Parts.{Halves, Room};
+ghost use Rattle.width_tables.specs.Own.Parts.{TwoHalves, Room};
 ghost use Rattle.runs.specs.Answers.{told};
 ghost use Rattle.runs.specs.Record.{opened};
-ghost use Rattle.gate.specs.Own.Ready.{Blocks};
-ghost use Rattle.runs.specs.WholeBack.{answerFrom, outputsFrom, firstAnswer, allOutputs, oneByOne, wholeBack};
-ghost use Rattle.asking_back.specs.Own.Ready.{Frames};
+ghost use Rattle.gate.specs.Own.Ready.{WholeBlocks};
+ghost use Rattle.runs.specs.WholeBack.{answerFrom, outputsFrom, firstAnswer, allOutputs, backOneByOne, wholeBack};
+ghost use Rattle.asking_back.specs.Own.Ready.{WholeFrames};
 use asking_back::asking;
 use frames::undo;
 use gate::limits;
@@ -36,9 +36,9 @@ fn blocks_before(
     z: &mut [i64],
 )
     requires { ⌜ Filled width (now t) ⌝ }
-    requires { ⌜ Blocks width (now frames) ⌝ }
+    requires { ⌜ WholeBlocks width (now frames) ⌝ }
     requires { ⌜ (length (now held) ≡ halfWidth width) × (length (now folded) ≡ width) × (length (now wide) ≡ width) × (length (now readings) ≡ length (now frames)) ⌝ }
-    requires { ⌜ Halves width (now top) (now bottom) ⌝ }
+    requires { ⌜ TwoHalves width (now top) (now bottom) ⌝ }
     requires { ⌜ Room width (now y) (now z) ⌝ }
     requires { ⌜ Within foldedLimit (now held) ⌝ }
     requires { ⌜ answerFrom width width (opened width 1 (now held)) (length (now frames) / width) (now frames) (now readings) .0 ≡ 0 ⌝ }
@@ -69,7 +69,7 @@ fn blocks_before(
 // The readings of a run that is accepted.
 fn readings_of(width: usize, t: &[i64], frames: &[i32], readings: &mut [i32])
     requires { ⌜ Filled width (now t) ⌝ }
-    requires { ⌜ Frames width (now frames) ⌝ }
+    requires { ⌜ WholeFrames width (now frames) ⌝ }
     requires { ⌜ length (now readings) + width ≡ length (now frames) ⌝ }
     requires { ⌜ firstAnswer width (now frames) (now readings) .0 ≡ 0 ⌝ }
     ensures { λ _. ⌜ now (readings .exit) ≡ drop width (allOutputs width (now (frames .entry)) (now (readings .entry))) ⌝ }
@@ -111,9 +111,9 @@ fn readings_of(width: usize, t: &[i64], frames: &[i32], readings: &mut [i32])
 
 // Every frame is asked before a number is written: two passes over the frames.
 fn in_two_passes(width: usize, frames: &[i32], readings: &mut [i32]) -> Answer
-    requires { ⌜ Frames width (now frames) ⌝ }
+    requires { ⌜ WholeFrames width (now frames) ⌝ }
     requires { ⌜ length (now readings) + width ≡ length (now frames) ⌝ }
-    ensures { λ r. ⌜ (told r, now (readings .exit)) ≡ oneByOne width (now (frames .entry)) (now (readings .entry)) ⌝ }
+    ensures { λ r. ⌜ (told r, now (readings .exit)) ≡ backOneByOne width (now (frames .entry)) (now (readings .entry)) ⌝ }
 {
     let long = fill::tables_long(width);
     let mut t = room::of_1906();

@@ -20,7 +20,7 @@ use Rattle.runs.specs.declared.record.Run.{Run}
 use Rattle.gate.specs.declared.questions.Fault.{Fault}
 use Rattle.gate.specs.declared.questions.Fault.the-variants.{Clear}
 use Rattle.runs.specs.Record.{blockLimit, zeros, opened}
-use Rattle.runs.specs.Gate.{askEach, nothing, every, firstDead, firstOut}
+use Rattle.runs.specs.Gate.{askEach, nothing, allYes, firstDead, firstOut}
 use Rattle.runs.specs.Forward.{takenIn}
 use Rattle.runs.specs.Calls.{Call, block, finish, give, made, works, accepted}
 use Rattle.runs.specs.Whole.{callsOf, firstRefusal, outputs, wholeForward, WholeRun}
@@ -58,7 +58,7 @@ module _ (N b : ℕ) (previous : List ℤ) (r : Reached N b previous) (xs out : 
   run = opened N b (held N previous)
 
   clear : firstDead xs 0 ≡ Nothing → firstOut xs 0 ≡ Nothing → accepted N b false (block xs out) ≡ true
-  unfolding accepted every nothing
+  unfolding accepted allYes nothing
   clear d e = rw (lt-ltb b blockLimit h, eq-eqb (length xs) N l, eq-eqb (length out) N m, d, e)
 
   pub clear-accepted : faultOf xs ≡ Clear → accepted N b false (block xs out) ≡ true
@@ -79,7 +79,7 @@ module _ (N b : ℕ) (previous : List ℤ) (r : Reached N b previous) (xs out : 
           ∙ later (reached-next N b previous xs r h (accepted-block N b false xs out a))
 
 finish-refusal : (N b before : ℕ) (previous out : List ℤ) → Reached N b previous → length out ≡ N → firstRefusal N before (made (opened N b (held N previous)) (finish out ∷ [])) ≡ (0, 0)
-unfolding accepted every give made firstRefusal
+unfolding accepted allYes give made firstRefusal
 finish-refusal N b before previous out r m = refusal-later N before (opened N b (held N previous)) (finish out) [] _ _ (ended-decided N b previous r out .when-yes (rw (eq-eqb (length out) N m)))
 
 pub first-refusal : (N b count before : ℕ) (previous readings out : List ℤ) → Reached N count previous → count + b ≤ blockLimit

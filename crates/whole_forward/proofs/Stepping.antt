@@ -18,12 +18,12 @@ use Rattle.steps.proofs.ZeroBlock.{held-zeros}
 use Rattle.runs.specs.declared.record.Run.{Run}
 use Rattle.gate.specs.declared.questions.Fault.the-variants.{Clear}
 use Rattle.runs.specs.Record.{blockLimit, zeros, opened, closed}
-use Rattle.runs.specs.Gate.{Given, every}
+use Rattle.runs.specs.Gate.{CallResult, allYes}
 use Rattle.gate.specs.Own.Faults.{faultOf, firstFault}
 use Rattle.runs.specs.Forward.{started, taken}
 use Rattle.runs.specs.Calls.{block, finish, made, accepted}
 use Rattle.runs.specs.Whole.{callsOf, outputs}
-use Rattle.gate.specs.Own.Ready.{Blocks}
+use Rattle.gate.specs.Own.Ready.{WholeBlocks}
 use Rattle.runs.proofs.RecordLaws.{length-frame, Reached, reached-first, reached-next}
 use Rattle.gate.proofs.ReadyLaws.{none-held}
 use Rattle.runs.proofs.CallLaws.{accepted-block, taken-decided, ended-decided}
@@ -43,7 +43,7 @@ pub record Stepping (N half place left : ℕ) (readings out frames kept : List �
   pub clear : firstFault N place left (drop place readings) ≡ Clear
   pub so-far : outputs (made (started N .1) (callsOf N (length readings / N) readings out)) ≡ take place frames ++ outputs (made (opened N count (held N previous)) (callsOf N left (drop place readings) (drop place frames)))
 
-pub stepping-first : (N half : ℕ) (readings out kept : List ℤ) → half ≡ halfWidth N → Blocks N readings → firstFault N 0 (length readings / N) readings ≡ Clear → kept ≡ zeros 64
+pub stepping-first : (N half : ℕ) (readings out kept : List ℤ) → half ≡ halfWidth N → WholeBlocks N readings → firstFault N 0 (length readings / N) readings ≡ Clear → kept ≡ zeros 64
     → Stepping N half 0 (length readings / N) readings out out kept
 stepping-first N half readings out kept h b c k = record {
   count = 0;
@@ -86,7 +86,7 @@ module _ (N half place left : ℕ) (readings out frames kept : List ℤ) (g : St
     next-accepted =
         clear-accepted N (g .count) (g .previous) (g .reached) next (take N (drop place frames)) (block-long place N readings in-readings) (block-long place N frames in-frames) (omega (arith, g .few)) next-clear
 
-    next-taken : (ys : List ℤ) → ys ≡ frame N (take half kept) next → _≡_ {A = Given} ((0, 0), opened N (suc (g .count)) (held N next), ys) (taken run next (take N (drop place frames)))
+    next-taken : (ys : List ℤ) → ys ≡ frame N (take half kept) next → _≡_ {A = CallResult} ((0, 0), opened N (suc (g .count)) (held N next), ys) (taken run next (take N (drop place frames)))
     next-taken ys e =
         ap (λ (f : List ℤ). ((0, 0), opened N (suc (g .count)) (held N next), f)) (frame-same next ys e)
         ∙ sym (taken-decided N (g .count) (g .previous) (g .reached) next (take N (drop place frames)) .when-yes next-accepted)
@@ -110,7 +110,7 @@ module _ (N half place left : ℕ) (readings out frames kept : List ℤ) (g : St
     last-long = omega (arith, no-block place left N (length readings) whole z, room, length-drop place frames)
 
     end-accepted : accepted N (g .count) false (finish (drop place frames)) ≡ true
-    unfolding accepted every
+    unfolding accepted allYes
     end-accepted = rw (eq-eqb (length (drop place frames)) N last-long)
 
     pub stepping-end : (ys : List ℤ) → ys ≡ frame N (take half kept) (zeros N)

@@ -9,7 +9,7 @@ ghost use Rattle.gate.specs.declared.questions.Fault.the-variants.{Clear};
 ghost use Rattle.runs.specs.Forward.{started};
 ghost use Rattle.runs.specs.Calls.{made};
 ghost use Rattle.runs.specs.Whole.{callsOf, outputs, wholeForward, WholeRun};
-ghost use Rattle.gate.specs.Own.Ready.{Blocks};
+ghost use Rattle.gate.specs.Own.Ready.{WholeBlocks};
 use frames::step;
 use gate::limits;
 use gate::questions;
@@ -21,7 +21,7 @@ use width_tables::fill;
 
 // The search through the blocks of a run that has a fault.
 fn searched(width: usize, readings: &[i32]) -> Fault
-    requires { ⌜ Blocks width (now readings) ⌝ }
+    requires { ⌜ WholeBlocks width (now readings) ⌝ }
     ensures { λ r. ⌜ r ≡ firstFault width 0 (length (now (readings .entry)) / width) (now (readings .entry)) ⌝ }
 {
     let mut at = 0;
@@ -46,7 +46,7 @@ fn searched(width: usize, readings: &[i32]) -> Fault
 
 // The first reading that a block refuses, its place counted through the run.
 fn first_fault(width: usize, readings: &[i32]) -> Fault
-    requires { ⌜ Blocks width (now readings) ⌝ }
+    requires { ⌜ WholeBlocks width (now readings) ⌝ }
     ensures { λ r. ⌜ r ≡ firstFault width 0 (length (now (readings .entry)) / width) (now (readings .entry)) ⌝ }
 {
     if questions::in_range(readings, limits::READING_LIMIT) {
@@ -58,7 +58,7 @@ fn first_fault(width: usize, readings: &[i32]) -> Fault
 // Each block is lent to the block step as it lies; t, the held values and the room are made once.
 fn frames_with(width: usize, t: &[i64], readings: &[i32], frames: &mut [i32])
     requires { ⌜ Filled width (now t) ⌝ }
-    requires { ⌜ Blocks width (now readings) ⌝ }
+    requires { ⌜ WholeBlocks width (now readings) ⌝ }
     requires { ⌜ length (now frames) ≡ length (now readings) + width ⌝ }
     requires { ⌜ firstFault width 0 (length (now readings) / width) (now readings) ≡ Clear ⌝ }
     ensures { λ _. ⌜ now (frames .exit) ≡ outputs (made (started width .1) (callsOf width (length (now (readings .entry)) / width) (now (readings .entry)) (now (frames .entry)))) ⌝ }
@@ -102,7 +102,7 @@ fn frames_with(width: usize, t: &[i64], readings: &[i32], frames: &mut [i32])
 }
 
 fn frames_of(width: usize, readings: &[i32], frames: &mut [i32])
-    requires { ⌜ Blocks width (now readings) ⌝ }
+    requires { ⌜ WholeBlocks width (now readings) ⌝ }
     requires { ⌜ length (now frames) ≡ length (now readings) + width ⌝ }
     requires { ⌜ firstFault width 0 (length (now readings) / width) (now readings) ≡ Clear ⌝ }
     ensures { λ _. ⌜ now (frames .exit) ≡ outputs (made (started width .1) (callsOf width (length (now (readings .entry)) / width) (now (readings .entry)) (now (frames .entry)))) ⌝ }

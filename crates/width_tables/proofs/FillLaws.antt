@@ -13,7 +13,7 @@ use Rattle.tables.specs.Numbers.{sines, cosineOf, sineOf, halfTangentOf}
 use Rattle.steps.specs.Steps.{tangent, sine, alternate}
 use Rattle.products.specs.Own.Whole.{LeafLists}
 use Rattle.width_tables.specs.Orders.{placeIn, signIn, placeOut, Ordered}
-use Rattle.width_tables.specs.Filled.{part, leavesLong, tablesLong, cosineList, secantList, Filled, Lifts, Lists}
+use Rattle.width_tables.specs.Filled.{part, leavesLong, tablesLong, cosineList, secantList, Filled, LiftsFilled, ListsFilled}
 use Rattle.width_tables.proofs.OrderLaws.{out-in}
 use Rattle.width_tables.proofs.PartLaws.{Measured, measured, part-long, part-is, part-same, put-part, put-long, put-before, put-behind}
 
@@ -56,7 +56,7 @@ module _ (N h : ℕ) (t ys : List ℤ) (z : 0 < halfWidth N) (half : h ≡ halfW
   part-half : length (midOf h (N - h) t₁) ≡ M
   part-half = part-long h (N - h) t₁ sines-fit ∙ rest-half
 
-  pub lifts-made : (zs : List ℤ) → zs ≡ places (length (midOf h (N - h) t₁)) (λ e. cosineOf (128 / N + 768 + e * (2 * (128 / N)))) → Lifts N t (putMid h (N - h) t₁ zs)
+  pub lifts-made : (zs : List ℤ) → zs ≡ places (length (midOf h (N - h) t₁)) (λ e. cosineOf (128 / N + 768 + e * (2 * (128 / N)))) → LiftsFilled N t (putMid h (N - h) t₁ zs)
   unfolding tangent
   lifts-made zs d =
       let sines-long = ap length d ∙ length-places _ _ ∙ part-half ∙ sym rest-half in
@@ -92,7 +92,7 @@ module _ (N : ℕ) {a b k l : ℕ} (t xs ys : List ℤ) (long : length t ≡ tab
   all-long : length t₃ ≡ length t
   all-long = put-long b l (putMid a k t xs) ys second-fits ly ∙ first-long
 
-  pub lists-made : LeafLists (halfWidth N) (cosineList N) xs → LeafLists (halfWidth N) (secantList N) ys → Lists N t t₃
+  pub lists-made : LeafLists (halfWidth N) (cosineList N) xs → LeafLists (halfWidth N) (secantList N) ys → ListsFilled N t t₃
   lists-made c s = record {
     long = all-long;
     cosines = subst (LeafLists (halfWidth N) (cosineList N)) (sym
@@ -105,7 +105,7 @@ module _ (N : ℕ) {a b k l : ℕ} (t xs ys : List ℤ) (long : length t ≡ tab
 
 -- ---- the whole list
 module _ (N : ℕ) {t₀ t₁ t₂ t₃ : List ℤ} (z : 0 < halfWidth N) (whole : length t₀ ≡ tablesLong N)
-    (lifts : Lifts N t₀ t₁) (order : Ordered N (halfWidth N) t₁ t₂) (lists : Lists N t₂ t₃) where
+    (lifts : LiftsFilled N t₀ t₁) (order : Ordered N (halfWidth N) t₁ t₂) (lists : ListsFilled N t₂ t₃) where
   abbrev H : ℕ
   H = halfWidth N
 

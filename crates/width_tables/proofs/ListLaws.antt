@@ -16,7 +16,7 @@ use Rattle.integers.proofs.Order.{natAbs-*ℤ}
 use Rattle.integers.proofs.Ring.{*ℤ-negℤ}
 use Rattle.integers.proofs.PlaceLaws.{at-places, by-places, length-places, places-ext, within-places}
 use Rattle.tables.specs.Widths.{byWidth, halfWidth, scale}
-use Rattle.tables.specs.Angles.{halfTurn, reflected, minus, signed}
+use Rattle.tables.specs.Angles.{halfTurn, reflected, belowZero, signed}
 use Rattle.tables.specs.Numbers.{sines, secants, secants8, secants32, secants128, cosineOf, secantOf}
 use Rattle.tables.proofs.ByWidth.{at-each, half-width-le}
 use Rattle.tables.proofs.Sizes.{cosine-size, secant-size}
@@ -38,11 +38,11 @@ secantIn N k = pos (scale N * scale N) *ℤ secantOf N (pos (2 * k + 1))
 
 -- ---- half a turn on, cosines and secants change their signs: computed
 cosines-turned : (N : ℕ) → places (halfWidth N) (λ e. cosineIn N (halfWidth N + e)) ≡ places (halfWidth N) (λ e. negℤ (cosineIn N e))
-unfolding tab cosineOf sines halfWidth byWidth halfTurn reflected minus signed angleAt
+unfolding tab cosineOf sines halfWidth byWidth halfTurn reflected belowZero signed angleAt
 cosines-turned = at-each (λ N M. places M (λ e. cosineIn N (M + e)) ≡ places M (λ e. negℤ (cosineIn N e))) 4 16 64 0 refl refl refl (λ N x y z. refl)
 
 secants-turned : (N : ℕ) → places (halfWidth N) (λ k. secantOf N (pos (2 * (halfWidth N + k) + 1))) ≡ places (halfWidth N) (λ k. negℤ (secantOf N (pos (2 * k + 1))))
-unfolding tab secantOf secants secants8 secants32 secants128 halfWidth byWidth halfTurn reflected minus signed
+unfolding tab secantOf secants secants8 secants32 secants128 halfWidth byWidth halfTurn reflected belowZero signed
 secants-turned = at-each (λ N M. places M (λ k. secantOf N (pos (2 * (M + k) + 1))) ≡ places M (λ k. negℤ (secantOf N (pos (2 * k + 1))))) 4 16 64 0 refl refl refl (λ N x y z. refl)
 
 same-place : (n : ℕ) (f g : ℕ → ℤ) → places n f ≡ places n g → (i : ℕ) → i < n → f i ≡ g i

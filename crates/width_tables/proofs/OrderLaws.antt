@@ -15,26 +15,26 @@ use lib.Seq.{getD-set-same, getD-set-other}
 use mir.Syntax.{w64}
 use mir.Val.{toZ, ofZ}
 use Rattle.integers.specs.Places.{at}
-use Rattle.integers.specs.Tests.{below}
+use Rattle.integers.specs.Tests.{everyBelow}
 use Rattle.integers.proofs.Permutations.{back, back-at}
 use Rattle.integers.proofs.Words.{small}
 use Rattle.integers.proofs.Held.{held, held-ok}
 use Rattle.tables.specs.Widths.{byWidth, halfWidth, scale}
-use Rattle.tables.specs.Angles.{halfTurn, reflected, minus, signed}
+use Rattle.tables.specs.Angles.{halfTurn, reflected, belowZero, signed}
 use Rattle.tables.proofs.ByWidth.{at-each, half-width-le}
 use Rattle.tables.proofs.Reading.{half-is}
 use Rattle.tables.proofs.Quadrants.{same-turn, reflected-le, signed-size}
 use Rattle.steps.specs.Steps.{alternate}
-use Rattle.width_tables.specs.Orders.{angleAt, placeIn, signIn, placesOut, placeOut, stored, Ordered}
+use Rattle.width_tables.specs.Orders.{angleAt, placeIn, signIn, placesOut, placeOut, orderStored, Ordered}
 
 -- ---- the places of one order and of the other, computed
-all-in : (N : ℕ) → T (below (halfWidth N) (back (placeIn N) (placeOut N) (halfWidth N)))
+all-in : (N : ℕ) → T (everyBelow (halfWidth N) (back (placeIn N) (placeOut N) (halfWidth N)))
 unfolding halfWidth byWidth angleAt halfTurn reflected placesOut placeIn placeOut
-all-in = at-each (λ N M. T (below M (back (placeIn N) (placeOut N) M))) 4 16 64 0 tt tt tt (λ N x y z. tt)
+all-in = at-each (λ N M. T (everyBelow M (back (placeIn N) (placeOut N) M))) 4 16 64 0 tt tt tt (λ N x y z. tt)
 
-all-out : (N : ℕ) → T (below (halfWidth N) (back (placeOut N) (placeIn N) (halfWidth N)))
+all-out : (N : ℕ) → T (everyBelow (halfWidth N) (back (placeOut N) (placeIn N) (halfWidth N)))
 unfolding halfWidth byWidth angleAt halfTurn reflected placesOut placeIn placeOut
-all-out = at-each (λ N M. T (below M (back (placeOut N) (placeIn N) M))) 4 16 64 0 tt tt tt (λ N x y z. tt)
+all-out = at-each (λ N M. T (everyBelow M (back (placeOut N) (placeIn N) M))) 4 16 64 0 tt tt tt (λ N x y z. tt)
 
 pub in-out : (N j : ℕ) → j < halfWidth N → (placeIn N j < halfWidth N) × (placeOut N (placeIn N j) ≡ j)
 in-out N = back-at (placeIn N) (placeOut N) (halfWidth N) (all-in N)
@@ -64,13 +64,13 @@ module _ (M : ℕ) (by : ℤ) (e p : ℕ) (b : Bool) (t : List ℤ) where
   abbrev t4 : List ℤ
   t4 = set t3 (5 * M + p) (pos e)
 
-  pub stored-long : length (stored M by e p b t) ≡ length t
-  unfolding stored
+  pub stored-long : length (orderStored M by e p b t) ≡ length t
+  unfolding orderStored
   stored-long = simp length-set
 
   -- elsewhere nothing is
-  pub stored-out : (q : ℕ) → (q ≡ 2 * M + e → ⊥) → (q ≡ 3 * M + e → ⊥) → (q ≡ 4 * M + e → ⊥) → (q ≡ 5 * M + p → ⊥) → (q ≡ 6 * M + p → ⊥) → at (stored M by e p b t) q ≡ at t q
-  unfolding stored
+  pub stored-out : (q : ℕ) → (q ≡ 2 * M + e → ⊥) → (q ≡ 3 * M + e → ⊥) → (q ≡ 4 * M + e → ⊥) → (q ≡ 5 * M + p → ⊥) → (q ≡ 6 * M + p → ⊥) → at (orderStored M by e p b t) q ≡ at t q
+  unfolding orderStored
   stored-out q h2 h3 h4 h5 h6 =
       getD-set-other t4 (6 * M + p) q _ (pos 0) h6
       ∙ getD-set-other t3 (5 * M + p) q _ (pos 0) h5
@@ -79,8 +79,8 @@ module _ (M : ℕ) (by : ℤ) (e p : ℕ) (b : Bool) (t : List ℤ) where
       ∙ getD-set-other t (2 * M + e) q _ (pos 0) h2
 
   module _ (long : 7 * M ≤ length t) (l : e < M) (k : p < M) where
-    pub stored-place : at (stored M by e p b t) (2 * M + e) ≡ pos p
-    unfolding stored
+    pub stored-place : at (orderStored M by e p b t) (2 * M + e) ≡ pos p
+    unfolding orderStored
     stored-place =
         getD-set-other t4 (6 * M + p) (2 * M + e) _ (pos 0) (λ q. omega arith)
         ∙ getD-set-other t3 (5 * M + p) (2 * M + e) _ (pos 0) (λ q. omega arith)
@@ -88,29 +88,29 @@ module _ (M : ℕ) (by : ℤ) (e p : ℕ) (b : Bool) (t : List ℤ) where
         ∙ getD-set-other t1 (3 * M + e) (2 * M + e) _ (pos 0) (λ q. omega arith)
         ∙ getD-set-same t (2 * M + e) (pos p) (pos 0) (omega arith)
 
-    pub stored-sign : at (stored M by e p b t) (3 * M + e) ≡ sign
-    unfolding stored
+    pub stored-sign : at (orderStored M by e p b t) (3 * M + e) ≡ sign
+    unfolding orderStored
     stored-sign =
         getD-set-other t4 (6 * M + p) (3 * M + e) _ (pos 0) (λ q. omega arith)
         ∙ getD-set-other t3 (5 * M + p) (3 * M + e) _ (pos 0) (λ q. omega arith)
         ∙ getD-set-other t2 (4 * M + e) (3 * M + e) _ (pos 0) (λ q. omega arith)
         ∙ getD-set-same t1 (3 * M + e) sign (pos 0) (simp length-set (omega arith))
 
-    pub stored-alternated : at (stored M by e p b t) (4 * M + e) ≡ alternate p sign
-    unfolding stored
+    pub stored-alternated : at (orderStored M by e p b t) (4 * M + e) ≡ alternate p sign
+    unfolding orderStored
     stored-alternated =
         getD-set-other t4 (6 * M + p) (4 * M + e) _ (pos 0) (λ q. omega arith)
         ∙ getD-set-other t3 (5 * M + p) (4 * M + e) _ (pos 0) (λ q. omega arith)
         ∙ getD-set-same t2 (4 * M + e) (alternate p sign) (pos 0) (simp length-set (omega arith))
 
-    pub stored-back : at (stored M by e p b t) (5 * M + p) ≡ pos e
-    unfolding stored
+    pub stored-back : at (orderStored M by e p b t) (5 * M + p) ≡ pos e
+    unfolding orderStored
     stored-back =
         getD-set-other t4 (6 * M + p) (5 * M + p) _ (pos 0) (λ q. omega arith)
         ∙ getD-set-same t3 (5 * M + p) (pos e) (pos 0) (simp length-set (omega arith))
 
-    pub stored-sign-back : at (stored M by e p b t) (6 * M + p) ≡ by *ℤ sign
-    unfolding stored
+    pub stored-sign-back : at (orderStored M by e p b t) (6 * M + p) ≡ by *ℤ sign
+    unfolding orderStored
     stored-sign-back = getD-set-same t4 (6 * M + p) (by *ℤ sign) (pos 0) (simp length-set (omega arith))
 
 -- a number's bits are the number
@@ -122,8 +122,8 @@ pub sign-fits : (b : Bool) (r : ℤ) → mag r < 2 ^ 63 → r ≡ signed b (pos 
 sign-fits b r ok e = rw (held-ok w64 r ok .is, e, signed-size b (pos 1)) (omega arith)
 
 pub put-is : (M : ℕ) (by : ℤ) (e p : ℕ) (b : Bool) (t : List ℤ) {x s a y v : ℤ} → x ≡ pos p → s ≡ signed b (pos 1) → a ≡ alternate p (signed b (pos 1)) → y ≡ pos e → v ≡ by *ℤ signed b (pos 1)
-    → set (set (set (set (set t (2 * M + e) x) (3 * M + e) s) (4 * M + e) a) (5 * M + p) y) (6 * M + p) v ≡ stored M by e p b t
-unfolding stored
+    → set (set (set (set (set t (2 * M + e) x) (3 * M + e) s) (4 * M + e) a) (5 * M + p) y) (6 * M + p) v ≡ orderStored M by e p b t
+unfolding orderStored
 put-is M by e p b t c d f g h = rw (c, d, f, g, h)
 
 -- ---- the loop
@@ -155,7 +155,7 @@ module _ {N e : ℕ} {t₀ t : List ℤ} (o : Ordered N e t₀ t) (fits : 7 * ha
   p = placeIn N e
 
   abbrev t′ : List ℤ
-  t′ = stored M (pos (scale N)) e p (minus 256 (angleAt N e)) t
+  t′ = orderStored M (pos (scale N)) e p (belowZero 256 (angleAt N e)) t
 
   k : p < M
   k = in-out N e l .0
@@ -165,13 +165,13 @@ module _ {N e : ℕ} {t₀ t : List ℤ} (o : Ordered N e t₀ t) (fits : 7 * ha
 
   -- what stands elsewhere still does
   kept : (q : ℕ) → (q ≡ 2 * M + e → ⊥) → (q ≡ 3 * M + e → ⊥) → (q ≡ 4 * M + e → ⊥) → (q ≡ 5 * M + p → ⊥) → (q ≡ 6 * M + p → ⊥) → at t′ q ≡ at t q
-  kept = stored-out M (pos (scale N)) e p (minus 256 (angleAt N e)) t
+  kept = stored-out M (pos (scale N)) e p (belowZero 256 (angleAt N e)) t
 
   pub ordered-next : Ordered N (e + 1) t₀ t′
   unfolding signIn
   ordered-next =
       let by = pos (scale N) in
-      let b = minus 256 (angleAt N e) in
+      let b = belowZero 256 (angleAt N e) in
       record {
         long = stored-long M by e p b t ∙ o .long;
         places = next (λ i. at t′ (2 * M + i) ≡ pos (placeIn N i)) e
@@ -219,7 +219,7 @@ angle-next N e =
     sym (add-mul-mod-self-left (3 * (x % 1024)) 1024 (3 * (x / 1024))) ∙ ap (λ n. n % 1024) q
 
 module _ (N e : ℕ) {h j a : ℕ} (half : h ≡ halfWidth N) (turn : j ≡ angleAt N e % 1024) (angle : a ≡ reflected 256 j) where
-  same : (reflected 256 j ≡ reflected 256 (angleAt N e)) × (minus 256 j ≡ minus 256 (angleAt N e))
+  same : (reflected 256 j ≡ reflected 256 (angleAt N e)) × (belowZero 256 j ≡ belowZero 256 (angleAt N e))
   same = same-turn 256 j (angleAt N e) (ap (λ x. x % 1024) turn ∙ mod-mod (angleAt N e) 1024)
 
   pub place-is : a * h / 256 ≡ placeIn N e
@@ -233,6 +233,6 @@ module _ (N e : ℕ) {h j a : ℕ} (half : h ≡ halfWidth N) (turn : j ≡ angl
       mul-le-mul x y
 
   -- a turn of the loop
-  pub ordered-turn : {t₀ t t′ : List ℤ} {m : Bool} {by : ℤ} → by ≡ pos (scale N) → Ordered N e t₀ t → 7 * halfWidth N ≤ length t₀ → e < halfWidth N → m ≡ minus 256 j → t′ ≡ stored h by e (a * h / 256) m t → Ordered N (e + 1) t₀ t′
+  pub ordered-turn : {t₀ t t′ : List ℤ} {m : Bool} {by : ℤ} → by ≡ pos (scale N) → Ordered N e t₀ t → 7 * halfWidth N ≤ length t₀ → e < halfWidth N → m ≡ belowZero 256 j → t′ ≡ orderStored h by e (a * h / 256) m t → Ordered N (e + 1) t₀ t′
   ordered-turn {t₀ = t₀} {t = t} {m = m} {by = by} r o fits l b s =
-      subst (Ordered N (e + 1) t₀) (sym (s ∙ ap₂ (λ x y. stored x by e y m t) half place-is ∙ ap₂ (λ x y. stored (halfWidth N) x e (placeIn N e) y t) r (b ∙ same .1))) (ordered-next o fits l)
+      subst (Ordered N (e + 1) t₀) (sym (s ∙ ap₂ (λ x y. orderStored x by e y m t) half place-is ∙ ap₂ (λ x y. orderStored (halfWidth N) x e (placeIn N e) y t) r (b ∙ same .1))) (ordered-next o fits l)

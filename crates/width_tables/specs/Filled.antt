@@ -48,13 +48,13 @@ pub record Filled (N : ℕ) (t : List ℤ) : Type 0 where
   pub secants : LeafLists (halfWidth N) (secantList N) (part (7 * halfWidth N + leavesLong N) (leavesLong N) t)
 
 -- ---- on the way: the tangents and sines, and the leaf lists; nothing else changed
-pub record Lifts (N : ℕ) (t₀ t : List ℤ) : Type 0 where
+pub record LiftsFilled (N : ℕ) (t₀ t : List ℤ) : Type 0 where
   pub long : length t ≡ length t₀
   pub tangents : take (halfWidth N) t ≡ places (halfWidth N) (λ m. negℤ (tangent N m))
   pub sines : part (halfWidth N) (halfWidth N) t ≡ places (halfWidth N) (sine N)
   pub behind : (p : ℕ) → N ≤ p → at t p ≡ at t₀ p
 
-pub record Lists (N : ℕ) (t₀ t : List ℤ) : Type 0 where
+pub record ListsFilled (N : ℕ) (t₀ t : List ℤ) : Type 0 where
   pub long : length t ≡ length t₀
   pub cosines : LeafLists (halfWidth N) (cosineList N) (part (7 * halfWidth N) (leavesLong N) t)
   pub secants : LeafLists (halfWidth N) (secantList N) (part (7 * halfWidth N + leavesLong N) (leavesLong N) t)

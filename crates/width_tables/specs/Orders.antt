@@ -8,7 +8,7 @@ use lib.IntN.{ℤ, pos, _*ℤ_}
 use lib.ListN.{length, getD, set}
 use Rattle.integers.specs.Places.{at}
 use Rattle.tables.specs.Widths.{byWidth, halfWidth, scale}
-use Rattle.tables.specs.Angles.{reflected, minus, signed}
+use Rattle.tables.specs.Angles.{reflected, belowZero, signed}
 use Rattle.steps.specs.Steps.{alternate}
 
 -- 3^e·π/(4M), in parts of π/512
@@ -20,7 +20,7 @@ unfoldable pub placeIn : ℕ → ℕ → ℕ
 placeIn N e = reflected 256 (angleAt N e) * halfWidth N / 256
 
 unfoldable pub signIn : ℕ → ℕ → ℤ
-signIn N e = signed (minus 256 (angleAt N e)) (pos 1)
+signIn N e = signed (belowZero 256 (angleAt N e)) (pos 1)
 
 -- where m stands in that order
 unfoldable pub placesOut : ℕ → List ℕ
@@ -35,9 +35,9 @@ unfoldable pub placeOut : ℕ → ℕ → ℕ
 placeOut N m = getD (placesOut N) m 0
 
 -- ---- a place, its sign and its sign times d(place) at e; e and its sign at the place, the sign times 8/√M
-unfoldable pub stored : ℕ → ℤ → ℕ → ℕ → Bool → List ℤ → List ℤ
-stored half scale e place minus t =
-    let sign = signed minus (pos 1) in
+unfoldable pub orderStored : ℕ → ℤ → ℕ → ℕ → Bool → List ℤ → List ℤ
+orderStored half scale e place belowZero t =
+    let sign = signed belowZero (pos 1) in
     set (set (set (set (set t (2 * half + e) (pos place)) (3 * half + e) sign) (4 * half + e) (alternate place sign)) (5 * half + place) (pos e)) (6 * half + place) (scale *ℤ sign)
 
 -- the first e of them

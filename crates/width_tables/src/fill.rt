@@ -8,7 +8,7 @@ ghost use lib.IntN.{pos};
 ghost use lib.ListN.{length};
 ghost use Rattle.tables.specs.Widths.{halfWidth};
 ghost use Rattle.tables.specs.Numbers.{sines};
-ghost use Rattle.width_tables.specs.Filled.{tablesLong, listRoom, Filled, Lifts, Lists};
+ghost use Rattle.width_tables.specs.Filled.{tablesLong, listRoom, Filled, LiftsFilled, ListsFilled};
 use crate::matrices;
 use crate::order;
 use constants::sines;
@@ -32,7 +32,7 @@ pub fn tables_long(width: usize) -> usize
 fn fill_lifts(width: usize, quarter: &[i32], t: &mut [i64])
     requires { ⌜ (0 < halfWidth width) × (length (now t) ≡ tablesLong width) ⌝ }
     requires { ⌜ now quarter ≡ map pos sines ⌝ }
-    ensures { λ _. ⌜ Lifts width (now (t .entry)) (now (t .exit)) ⌝ }
+    ensures { λ _. ⌜ LiftsFilled width (now (t .entry)) (now (t .exit)) ⌝ }
 {
     let half = width / 2;
     let step = (128 / width) as u16;
@@ -44,7 +44,7 @@ fn fill_lifts(width: usize, quarter: &[i32], t: &mut [i64])
 fn fill_lists(width: usize, scale: i64, quarter: &[i32], t: &mut [i64], room: &mut [i64])
     requires { ⌜ (0 < halfWidth width) × (length (now t) ≡ tablesLong width) × (listRoom width ≤ length (now room)) × (scale ≡ pos (Rattle.tables.specs.Widths.scale width)) ⌝ }
     requires { ⌜ now quarter ≡ map pos sines ⌝ }
-    ensures { λ _. ⌜ Lists width (now (t .entry)) (now (t .exit)) ⌝ }
+    ensures { λ _. ⌜ ListsFilled width (now (t .entry)) (now (t .exit)) ⌝ }
 {
     let half = width / 2;
     let from = 7 * half;

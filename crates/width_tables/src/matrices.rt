@@ -34,7 +34,7 @@ fn half_turn_on(room: &mut [i64], half: usize)
 {
     let mut i = 0;
     while i < half {
-        let x = fours::taken(room, i);
+        let x = fours::four_at(room, i);
         fours::put(room, half + i, negated(x));
         i += 4;
     }

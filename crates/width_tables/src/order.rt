@@ -10,7 +10,7 @@ use constants::angles;
 // The place of a power of 3, its sign, and its sign times d(place), at e; and e and its sign, times 8/√M, at the place.
 fn put(t: &mut [i64], half: usize, scale: i64, e: usize, place: usize, minus: bool)
     requires { ⌜ (7 * half ≤ length (now t)) × (e < half) × (place < half) × (half ≤ 64) × (natAbs scale ≤ 4) ⌝ }
-    ensures { λ _. ⌜ now (t .exit) ≡ Rattle.width_tables.specs.Orders.stored half scale e place minus (now (t .entry)) ⌝ }
+    ensures { λ _. ⌜ now (t .exit) ≡ Rattle.width_tables.specs.Orders.orderStored half scale e place minus (now (t .entry)) ⌝ }
 {
     let sign = angles::signed(minus, 1);
     t[2 * half + e] = place as i64;

@@ -9,7 +9,7 @@ use Rattle.runs.specs.declared.answer.Found.{Found}
 use Rattle.runs.specs.declared.answer.Found.the-variants.{At, Nothing}
 use Rattle.runs.specs.Record.{frameLimit}
 
-pub record Frames (N : ℕ) (frames : List ℤ) : Type 0 where
+pub record WholeFrames (N : ℕ) (frames : List ℤ) : Type 0 where
   pub wide : 0 < halfWidth N
   pub whole : length frames ≡ length frames / N * N
   pub some : 0 < length frames / N

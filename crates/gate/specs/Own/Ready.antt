@@ -17,7 +17,7 @@ pub record Ready (run : Run) (half : ℕ) : Type 0 where
   pub within : Within foldedLimit (run .held)
   pub rest : drop (halfWidth (run .width)) (run .held) ≡ zeros (64 - halfWidth (run .width))
 
-pub record Blocks (N : ℕ) (readings : List ℤ) : Type 0 where
+pub record WholeBlocks (N : ℕ) (readings : List ℤ) : Type 0 where
   pub wide : 0 < halfWidth N
   pub whole : length readings ≡ length readings / N * N
   pub some : length readings / N ≤ blockLimit

@@ -16,24 +16,24 @@ abbrev pub movedFour : Bool → List ℤ → ℕ → Four → Four
 movedFour undo y i f = record { a = moved undo (at y i) (f .a); b = moved undo (at y (i + 1)) (f .b); c = moved undo (at y (i + 2)) (f .c); d = moved undo (at y (i + 3)) (f .d) }
 
 -- the rounded products of four numbers and of four others from their end
-abbrev pub products : Four → Four → Four
-products c x = record { a = round 28 (c .a *ℤ x .d); b = round 28 (c .b *ℤ x .c); c = round 28 (c .c *ℤ x .b); d = round 28 (c .d *ℤ x .a) }
+abbrev pub roundedProducts : Four → Four → Four
+roundedProducts c x = record { a = round 28 (c .a *ℤ x .d); b = round 28 (c .b *ℤ x .c); c = round 28 (c .c *ℤ x .b); d = round 28 (c .d *ℤ x .a) }
 
 -- −d(i)·z
 unfoldable pub flipped : ℕ → ℤ → ℤ
 flipped i z = negℤ (alternate i z)
 
 -- stage 2 at a place: −d(i)·x and the amount, or x less the amount, and then −d(i)
-unfoldable pub second : Bool → ℕ → ℤ → ℤ → ℤ
-second true i x amount = flipped i (x -ℤ amount)
-second false i x amount = flipped i x +ℤ amount
+unfoldable pub stage2At : Bool → ℕ → ℤ → ℤ → ℤ
+stage2At true i x amount = flipped i (x -ℤ amount)
+stage2At false i x amount = flipped i x +ℤ amount
 
 -- what stage 3 adds at a place, in parts of 2^34, from the secant sum 64/M times, the cosine sum 8/√M times, and −t·top: the cosine sum counts 16 times
 unfoldable pub amount : ℤ → ℤ → ℤ → ℤ → ℤ
 amount times secants cosines tangent = negℤ secants -ℤ times *ℤ cosines +ℤ pos 64 *ℤ tangent
 
-abbrev pub third : ℤ → ℤ → ℤ → ℤ
-third = amount (pos 16)
+abbrev pub stage3Amount : ℤ → ℤ → ℤ → ℤ
+stage3Amount = amount (pos 16)
 
 -- sums so small that they fit 64 bits at the scale of all widths
 pub record Scaled (back flips y : List ℤ) : Type 0 where

@@ -21,7 +21,7 @@ pub record Tabled (m : ℕ) (room : List ℤ) : Type 0 where
   pub long : 3 ^ power .levels * 8 ≤ length room
 
 -- where the loop over levels stands
-pub record Halved (m : ℕ) (room₀ : List ℤ) (n k : ℕ) (room : List ℤ) : Type 0 where
+pub record TablesHalved (m : ℕ) (room₀ : List ℤ) (n k : ℕ) (room : List ℤ) : Type 0 where
   pub here : Level m n k
   pub long : length room ≡ length room₀
   pub laid : Laid (n + n) k (tables m (take (m + m) room₀) (here .level)) room

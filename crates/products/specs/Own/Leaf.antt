@@ -5,7 +5,7 @@ use Prim.Native.Nat.{ℕ, _+_, _*_, _^_, _≤_, _<_}
 use lib.IntN.{ℤ, natAbs, _+ℤ_, _*ℤ_}
 use lib.ListN.{length}
 use Rattle.integers.specs.Places.{at}
-use Rattle.products.specs.Own.Products.{Lists, Laid, Sized, nine, products}
+use Rattle.products.specs.Own.Products.{Lists, Laid, BothWithin, nine, products}
 use Rattle.products.specs.declared.leaf.Nine.{Nine}
 
 abbrev pub listedNine : Nine → List ℤ
@@ -23,7 +23,7 @@ pub record Leaf (l x : List ℤ) : Type 0 where
   pub list : ℕ → ℤ
   pub is : l ≡ nine list
   pub limit : ℕ
-  pub sized : Sized limit list (at x)
+  pub sized : BothWithin limit list (at x)
   pub fits : 4 * limit < 2 ^ 62
 
 -- the same of k leaves in a room
@@ -33,7 +33,7 @@ pub record Leaves (k : ℕ) (lists room : List ℤ) : Type 0 where
   pub nines : Laid 9 k (λ v. at (nine (tables v))) lists
   pub laid : Laid 4 k numbers room
   pub limit : ℕ
-  pub sized : (v : ℕ) → Sized limit (tables v) (numbers v)
+  pub sized : (v : ℕ) → BothWithin limit (tables v) (numbers v)
   pub fits : 4 * limit < 2 ^ 62
 
 -- the first v of k leaves are multiplied, and nothing else changed

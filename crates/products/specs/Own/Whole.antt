@@ -5,7 +5,7 @@ use Prim.Native.Nat.{ℕ, _*_, _^_, _≤_}
 use lib.IntN.{ℤ}
 use lib.ListN.{length, take}
 use Rattle.integers.specs.Places.{at}
-use Rattle.products.specs.Own.Products.{Power, Sizes, Laid, tables, numbers, products, nine, wide}
+use Rattle.products.specs.Own.Products.{Power, ProductFits, Laid, tables, numbers, products, nine, wide}
 
 -- the joined leaf lists of a table of 2m numbers: nine numbers for each of 3^levels leaves
 pub record LeafLists (m : ℕ) (table lists : List ℤ) : Type 0 where
@@ -15,11 +15,11 @@ pub record LeafLists (m : ℕ) (table lists : List ℤ) : Type 0 where
 -- a room for m numbers on every level, with numbers that are small enough
 pub record Roomy (m : ℕ) (table room : List ℤ) : Type 0 where
   pub power : Power m
-  pub sizes : Sizes m table (take m room)
+  pub sizes : ProductFits m table (take m room)
   pub long : 3 ^ power .levels * 4 ≤ length room
 
 -- and the leaf lists of a table
-pub record Given (m : ℕ) (lists room : List ℤ) : Type 0 where
+pub record ProductInput (m : ℕ) (lists room : List ℤ) : Type 0 where
   pub table : List ℤ
   pub leaves : LeafLists m table lists
   pub roomy : Roomy m table room
@@ -33,7 +33,7 @@ pub record Multiplied (m : ℕ) (table a room : List ℤ) : Type 0 where
 pub record Rising (m k : ℕ) (room : List ℤ) : Type 0 where
   pub table : List ℤ
   pub list : List ℤ
-  pub sizes : Sizes m table list
+  pub sizes : ProductFits m table list
   pub products : Multiplied m table list room
   pub count : k ≡ 3 ^ products .power .levels
 

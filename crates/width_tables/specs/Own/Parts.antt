@@ -17,7 +17,7 @@ pub record Sines (N : ℕ) (xs : List ℤ) : Type 0 where
   pub is : xs ≡ places (halfWidth N) (sine N)
 
 -- the halves of a frame
-pub record Halves (N : ℕ) (top bottom : List ℤ) : Type 0 where
+pub record TwoHalves (N : ℕ) (top bottom : List ℤ) : Type 0 where
   pub top-long : length top ≡ halfWidth N
   pub bottom-long : length bottom ≡ halfWidth N
 

@@ -10,7 +10,7 @@ use Rattle.integers.specs.Places.{Within}
 use Rattle.tables.specs.Widths.{halfWidth}
 use Rattle.slices.proofs.Parts.{part-long, front, front-long, front-le}
 use Rattle.runs.specs.Answers.{told}
-use Rattle.runs.specs.Alone.{Given}
+use Rattle.runs.specs.Alone.{StagesResult}
 use Rattle.runs.proofs.RecordLaws.{width-le}
 use Rattle.runs.proofs.AloneLaws.{output-refused, shape-passed}
 use Rattle.gate.proofs.AskedLaws.{parts-width}
@@ -29,7 +29,7 @@ module _ (s : tie.Start) where
   abbrev out : List ℤ
   out = s .args .out .now
 
-  abbrev next : Given
+  abbrev next : StagesResult
   next = askedWay (s .args .undo) N given out
 
 -- questions 1 and 6 are passed

@@ -11,7 +11,7 @@ use Rattle.tables.proofs.ByWidth.{half-width-le}
 use Rattle.runs.specs.Answers.{told}
 use Rattle.runs.specs.declared.record.Run.{Run}
 use Rattle.runs.specs.Record.{frameLimit, zeros, nextCount, opened}
-use Rattle.runs.specs.Gate.{Given}
+use Rattle.runs.specs.Gate.{CallResult}
 use Rattle.runs.proofs.RecordLaws.{width-pos}
 use Rattle.gate.proofs.FaultLaws.{block-next, block-in, no-block, block-long, part-is}
 use Rattle.runs.specs.Back.{undoneIn, takenBack}
@@ -108,10 +108,10 @@ module _ (a : tie.After-z Inv-loop μ-loop) where
   kept-long : length kept ≡ halfWidth (N (from here))
   kept-long = let at-held = a .before .before .before .before .before .before .before in at-held .held .given ∙ here .loop .inv .2 .long
 
-  undone : _≡_ {A = Given} (told (step .undo .result), after, step .undo .last .1 .1 .1 .1 .1 .0) (undoneIn (run here) part (here .loop .block))
+  undone : _≡_ {A = CallResult} (told (step .undo .result), after, step .undo .last .1 .1 .1 .1 .1 .0) (undoneIn (run here) part (here .loop .block))
   undone = step .undo .ensures ∙ ap (λ (f : List ℤ). undoneIn (run here) f (here .loop .block)) (part-is (place here) (N (from here)) (frames (from here)))
 
-  given : _≡_ {A = Given} (takenBack (run here) part other) (told (step .undo .result), after, takenBack (run here) part other .2)
+  given : _≡_ {A = CallResult} (takenBack (run here) part other) (told (step .undo .result), after, takenBack (run here) part other .2)
   given =
       frame-taken (N (from here)) (here .loop .count) (low here) kept part (here .loop .block) _ (step .undo .result) (here .loop .inv .2) (counted inside) kept-long undone other
       (block-long (place here) (N (from here)) (frames (from here)) (inner inside))
@@ -159,7 +159,7 @@ undo-requires c κs =
 placed-requires : tie.Need-placed-requires Inv-loop μ-loop
 placed-requires c κs =
     let a = c .before .before in
-    (omega (arith, inner (inside a), few (from (here a))), omega (arith, ap (λ (g : Given). g .0 .1) (given a), taken-place (run (here a)) (part a) (other a)))
+    (omega (arith, inner (inside a), few (from (here a))), omega (arith, ap (λ (g : CallResult). g .0 .1) (given a), taken-place (run (here a)) (part a) (other a)))
 
 returns : tie.Need-returns Inv-loop μ-loop
 returns c =
@@ -203,7 +203,7 @@ returns-2 c =
     let e = c .before .before in
     let k = over e in
     let s = from k in
-    c .ended .ensures
+    c .finish-answer .ensures
     ∙ end-told (N s) (k .loop .count) (low k) (k .loop .inv .2) (λ z. omega (arith, z, k .loop .inv .1, none e, s .pre .1 .1 .0 .some)) (place k - N s)
     ∙ answer-end (N s) (place k) (k .loop .left) (run k) (drop (place k) (frames s)) (drop (place k) (others k)) (none e)
     ∙ sym (k .loop .inv .5)

@@ -11,7 +11,7 @@ use Rattle.slices.proofs.Parts.{part-long}
 use Rattle.runs.specs.Answers.{told}
 use Rattle.runs.specs.declared.record.Run.{Run}
 use Rattle.runs.specs.Record.{zeros, nextCount, opened}
-use Rattle.runs.specs.Gate.{Given}
+use Rattle.runs.specs.Gate.{CallResult}
 use Rattle.runs.specs.Forward.{started}
 use Rattle.gate.proofs.FaultLaws.{width-room}
 use Rattle.runs.specs.Back.{takenBack}
@@ -57,7 +57,7 @@ module _ (a : tie.After-z) where
   kept-long : length kept ≡ halfWidth (N start)
   kept-long = let at-held = a .before .before .before .before .before .before .before in at-held .held .given ∙ begun start .long
 
-  given : _≡_ {A = Given} (takenBack (started (N start) .1) (frame start) (zeros (N start)))
+  given : _≡_ {A = CallResult} (takenBack (started (N start) .1) (frame start) (zeros (N start)))
       (told (step .undo .result), opened (N start) (nextCount (told (step .undo .result) .0) 0) kept, takenBack (opened (N start) 0 (low start)) (frame start) (zeros (N start)) .2)
   given =
       ap (λ (r : Run). takenBack r (frame start) (zeros (N start))) (started-is start)
@@ -65,10 +65,10 @@ module _ (a : tie.After-z) where
 
   module _ (z : takenBack (started (N start) .1) (frame start) (zeros (N start)) .0 .0 ≡ 0) where
     none : told (step .undo .result) .0 ≡ 0
-    none = sym (ap (λ (g : Given). g .0 .0) given) ∙ z
+    none = sym (ap (λ (g : CallResult). g .0 .0) given) ∙ z
 
     after : opened (N start) 1 kept ≡ takenBack (started (N start) .1) (frame start) (zeros (N start)) .1
-    after = sym (ap (λ (g : Given). g .1) given ∙ run-after (N start) 0 (low start) kept (frame start) _ _ (step .undo .result) (begun start) (omega arith) kept-long (step .undo .ensures) none)
+    after = sym (ap (λ (g : CallResult). g .1) given ∙ run-after (N start) 0 (low start) kept (frame start) _ _ (step .undo .result) (begun start) (omega arith) kept-long (step .undo .ensures) none)
 
     reached : ReachedBack (N start) 1 kept
     reached = reached-after (N start) 0 (low start) kept (frame start) _ _ (step .undo .result) (begun start) (omega arith) kept-long (step .undo .ensures) none

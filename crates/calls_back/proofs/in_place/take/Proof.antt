@@ -15,7 +15,7 @@ use Rattle.slices.proofs.Parts.{part-long}
 use Rattle.frames.proofs.FrameLaws.{take-within}
 use Rattle.runs.specs.declared.record.Run.{Run}
 use Rattle.runs.specs.Record.{frameLimit, recordOf, nextCount}
-use Rattle.runs.specs.Gate.{Given, sound}
+use Rattle.runs.specs.Gate.{CallResult, sound}
 use Rattle.gate.specs.Own.Ready.{Ready}
 use Rattle.gate.proofs.FaultLaws.{half-room}
 use Rattle.gate.proofs.ReadyLaws.{passed, stored-opened, rest-zero, run-is}
@@ -38,7 +38,7 @@ module _ (s : tie.Start) where
   abbrev out : List ℤ
   out = s .args .block .now
 
-  abbrev next : Given
+  abbrev next : CallResult
   next = undoneIn run frame out
 
 -- questions 2 to 7 are passed

@@ -17,7 +17,7 @@ use Rattle.frames.proofs.FrameLaws.{width-in-fours, take-within}
 use Rattle.runs.specs.declared.record.Run.{Run}
 use Rattle.gate.specs.declared.questions.Fault.the-variants.{Clear}
 use Rattle.runs.specs.Record.{blockLimit, recordOf, nextCount}
-use Rattle.runs.specs.Gate.{Given}
+use Rattle.runs.specs.Gate.{CallResult}
 use Rattle.gate.specs.Own.Faults.{faultOf}
 use Rattle.runs.specs.Forward.{takenIn, taken}
 use Rattle.gate.specs.Own.Ready.{Ready}
@@ -39,7 +39,7 @@ module _ (s : tie.Start) where
   abbrev out : List ℤ
   out = s .args .frame .now
 
-  abbrev next : Given
+  abbrev next : CallResult
   next = takenIn run block out
 
 -- questions 2 to 7 are passed

@@ -11,7 +11,7 @@ use Rattle.integers.specs.Places.{at}
 use Rattle.integers.proofs.Held.{held-ok}
 use Rattle.integers.proofs.Fills.{Filling, filling-none, filling-next, filling-all}
 use Rattle.tables.specs.Widths.{halfWidth}
-use Rattle.tables.specs.Angles.{reflected, minus, signed}
+use Rattle.tables.specs.Angles.{reflected, belowZero, signed}
 use Rattle.tables.specs.Numbers.{secants, secantOf}
 use Rattle.tables.proofs.ByWidth.{half-width-le}
 use Rattle.tables.proofs.Reading.{half-is}
@@ -58,8 +58,8 @@ module _ (c : tie.After-struct-known Inv-loop μ-loop) where
   folded : c .before .first-quadrant .result .angle ≡ reflected (halfWidth width) angle
   folded = c .before .first-quadrant .ensures .0 ∙ ap₂ reflected (half-is width (s .pre .0)) (c .before .before .before .loop .inv .2)
 
-  below : c .before .first-quadrant .result .minus ≡ minus (halfWidth width) angle
-  below = c .before .first-quadrant .ensures .1 ∙ ap₂ minus (half-is width (s .pre .0)) (c .before .before .before .loop .inv .2)
+  below : c .before .first-quadrant .result .minus ≡ belowZero (halfWidth width) angle
+  below = c .before .first-quadrant .ensures .1 ∙ ap₂ belowZero (half-is width (s .pre .0)) (c .before .before .before .loop .inv .2)
 
   inside : place < length (s .args .table .now)
   inside = omega (arith, folded, secant-place width angle (s .pre .0) odd, ap length (s .pre .1), length-map (secants width) pos)

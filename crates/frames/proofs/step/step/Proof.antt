@@ -10,7 +10,7 @@ use Rattle.integers.specs.Places.{Within}
 use Rattle.integers.proofs.PlaceLaws.{within-up}
 use Rattle.tables.specs.Widths.{halfWidth}
 use Rattle.tables.proofs.Reading.{half-is}
-use Rattle.width_tables.specs.Own.Parts.{Halves}
+use Rattle.width_tables.specs.Own.Parts.{TwoHalves}
 use Rattle.stages.specs.Own.Stages.{top4, bottom5}
 use Rattle.stages.proofs.PartLaws.{half-in-fours}
 use Rattle.stages.proofs.FrameSizes.{long4, long5, within4, within5}
@@ -76,7 +76,7 @@ module _ (f : tie.After-fold) where
   folded-bottom : bottom ≡ odds
   folded-bottom = f .fold .ensures .1 .1
 
-  halves : Halves (N source) top bottom
+  halves : TwoHalves (N source) top bottom
   halves = record { top-long = ap length folded-top ∙ length-top (N source) (folded source); bottom-long = ap length folded-bottom ∙ length-bottom (N source) (folded source) }
 
   evens-within : Within foldedLimit evens

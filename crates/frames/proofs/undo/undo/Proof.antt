@@ -84,8 +84,8 @@ unstages-requires c κs =
 returns-2 : tie.Need-returns-2
 returns-2 c = let h = c .before .before .before in let s = source h in folded-refused (N s) (s .args .count) (low s) (frame s) (out s) (none (passed h)) _ (seen2 h ∙ c .before .value .given .1)
 
-unfolded-requires : tie.Need-unfolded-requires
-unfolded-requires c κs =
+unfolded-in-requires : tie.Need-unfolded-in-requires
+unfolded-in-requires c κs =
     let d = c .before .before .before .before in
     let h = d .before .before in
     let s = source h in (
@@ -104,7 +104,7 @@ returns-3 c =
     let d = c .before .before .before .before .before .before .before .before in
     let h = d .before .before in
     let s = source h in
-    c .before .before .before .unfolded .ensures
+    c .before .before .before .unfolded-in .ensures
     ∙ ap (λ (l : List ℤ). unfoldedIn (opened (N s) (s .args .count) (low s)) l (out s)) (made h)
     ∙ folded-passed (N s) (s .args .count) (low s) (frame s) (out s) (none (passed h)) (none2 d)
 
@@ -127,7 +127,7 @@ undo-spec =
     (λ c. let at-z = c .before .before .before .before .before in at-z .z .given)
     returns-2
     (λ c. search needs)
-    unfolded-requires
+    unfolded-in-requires
     (λ c. c .before .before .held .given)
     (λ c. c .block .given)
     (λ c. let at-folded2 = c .before .before .before .before .before .before .before .before .before .before .before .before .before .before .before .before in let at-folded = c .before .before .before .before .before .before .before .before .before .before .before .before .before .before .before .before .before .before .before .before .before .before .before .before .before in at-folded2 .folded2 .given ∙ at-folded .folded .given)

@@ -7,7 +7,7 @@ use lib.ListN.{length}
 use Rattle.integers.specs.Places.{places, at}
 use Rattle.slices.specs.Own.Fours.{listed}
 use Rattle.slices.specs.Own.Moves.{moved}
-use Rattle.slices.proofs.FourLaws.{turned-is}
+use Rattle.slices.proofs.FourLaws.{reversed-is}
 use Rattle.lifts.proofs.FourLaws.{Turns, turns-none, turns-long, turns-left, turns-all, productAt, products-asked, products-next}
 use Rattle.lifts.proofs.lifts.fifth.Statement.{statement}
 use Rattle.lifts.proofs.lifts.fifth.Tie as tie
@@ -29,10 +29,10 @@ left : (b : tie.In-loop Inv-loop μ-loop) → b .before .loop .i + 4 ≤ length 
 left b = turns-left (b .before .loop .inv) (b .before .before .pre .0) (b .loop-test .taken)
 
 -- the factors of a turn
-factors : (c : tie.After-turned Inv-loop μ-loop) → let k = c .before .before .before in listed (c .turned .result) ≡ places 4 (λ j. at (k .before .args .c .now) (place (length (k .loop .y)) (k .loop .i + j)))
+factors : (c : tie.After-reversed Inv-loop μ-loop) → let k = c .before .before .before in listed (c .reversed .result) ≡ places 4 (λ j. at (k .before .args .c .now) (place (length (k .loop .y)) (k .loop .i + j)))
 factors c =
     let b = c .before .before in
-    turned-is (b .before .before .args .c .now) _ _ _ _ (c .before .taken .ensures) (c .turned .ensures) (λ j l. ap (at (b .before .before .args .c .now)) (omega (arith, left b)))
+    reversed-is (b .before .before .args .c .now) _ _ _ _ (c .before .four-at .ensures) (c .reversed .ensures) (λ j l. ap (at (b .before .before .args .c .now)) (omega (arith, left b)))
 
 loop-holds : tie.Need-loop-holds Inv-loop μ-loop
 loop-holds c = turns-none _ _
@@ -43,11 +43,11 @@ sub-far c = omega (arith, left c)
 sub-far-2 : tie.Need-sub-far-2 Inv-loop μ-loop
 sub-far-2 c = omega (arith, left c)
 
-taken-requires : tie.Need-taken-requires Inv-loop μ-loop
-taken-requires c κs = omega (arith, left c, long (c .before), c .before .before .pre .1 .0)
+four-at-requires : tie.Need-four-at-requires Inv-loop μ-loop
+four-at-requires c κs = omega (arith, left c, long (c .before), c .before .before .pre .1 .0)
 
-taken-requires-2 : tie.Need-taken-requires-2 Inv-loop μ-loop
-taken-requires-2 c κs = let b = c .before .before in omega (arith, left b, long (b .before), b .before .before .pre .1 .0)
+four-at-requires-2 : tie.Need-four-at-requires-2 Inv-loop μ-loop
+four-at-requires-2 c κs = let b = c .before .before in omega (arith, left b, long (b .before), b .before .before .pre .1 .0)
 
 move-by-products-requires : tie.Need-move-by-products-requires Inv-loop μ-loop
 move-by-products-requires c κs =
@@ -55,7 +55,7 @@ move-by-products-requires c κs =
     let b = x .before .before .before in
     let k = b .before in
     let s = k .before in
-    products-asked (k .loop .inv) (s .pre .0) (b .loop-test .taken) (s .args .c .now) (s .args .x .now) (s .pre .1) _ _ _ _ (factors (x .before)) (x .taken2 .ensures)
+    products-asked (k .loop .inv) (s .pre .0) (b .loop-test .taken) (s .args .c .now) (s .args .x .now) (s .pre .1) _ _ _ _ (factors (x .before)) (x .four-at2 .ensures)
 
 add-i : tie.Need-add-i Inv-loop μ-loop
 add-i c = let in-loop = c .before .before .before .before .before .before in record { fits = omega (arith, left in-loop) }
@@ -69,7 +69,7 @@ loop-again c =
     let b = x .before .before .before in
     let k = b .before in
     let s = k .before in
-    products-next (s .args .undo) place (s .args .c .now) (s .args .x .now) (k .loop .y) (k .loop .inv) (s .pre .0) (b .loop-test .taken) _ _ (factors (x .before)) (x .taken2 .ensures) (c .before .move-by-products .ensures)
+    products-next (s .args .undo) place (s .args .c .now) (s .args .x .now) (k .loop .y) (k .loop .inv) (s .pre .0) (b .loop-test .taken) _ _ (factors (x .before)) (x .four-at2 .ensures) (c .before .move-by-products .ensures)
 
 same-length : tie.Need-same-length Inv-loop μ-loop
 same-length c = long (c .before)
@@ -86,9 +86,9 @@ fifth-spec =
     loop-holds
     sub-far
     sub-far-2
-    taken-requires
+    four-at-requires
     (λ c κs. search needs)
-    taken-requires-2
+    four-at-requires-2
     move-by-products-requires
     add-i
     loop-less

@@ -16,18 +16,18 @@ use Rattle.lifts.proofs.NumLaws.{num-within}
 use Rattle.lifts.proofs.lifts.first_at.Statement.{statement}
 use Rattle.lifts.proofs.lifts.first_at.Tie as tie
 
-row-requires : tie.Need-row-requires
-row-requires c κs = let s = c .before in (s .pre .0 .0, (s .pre .1 .0, s .pre .1 .1 .0 .small (s .args .i) (s .pre .0 .0)))
+row-at-requires : tie.Need-row-at-requires
+row-at-requires c κs = let s = c .before in (s .pre .0 .0, (s .pre .1 .0, s .pre .1 .1 .0 .small (s .args .i) (s .pre .0 .0)))
 
-module _ (c : tie.After-row) where
+module _ (c : tie.After-row-at) where
   abbrev s : tie.Start
   s = c .before .before
 
   abbrev sum : ℤ
   sum = rowAt (s .args .back .now) (s .args .flips .now) (s .args .y .now) (s .args .i)
 
-  row : Held w64 (ofZ w64 (c .row .result)) sum
-  row = held-eq (held-ok w64 _ (c .row .ok)) (c .row .ensures)
+  row : Held w64 (ofZ w64 (c .row-at .result)) sum
+  row = held-eq (held-ok w64 _ (c .row-at .ok)) (c .row-at .ensures)
 
   small : natAbs sum ≤ 2 ^ 62
   small = s .pre .1 .1 .0 .small (s .args .i) (s .pre .0 .0)
@@ -36,7 +36,7 @@ rounded-requires : tie.Need-rounded-requires
 rounded-requires c κs = (omega arith, omega arith, subst (λ z. natAbs z ≤ 2 ^ 62) (sym (row c .is)) (small c))
 
 module _ (c : tie.After-rounded) where
-  abbrev a : tie.After-row
+  abbrev a : tie.After-row-at
   a = c .before
 
   rounded : Num w64 (2 ^ 32) (ofZ w64 (c .rounded .result)) (round 30 (sum a))
@@ -52,4 +52,4 @@ returns : tie.Need-returns
 returns c = (num-add (top c) (rounded c) tt .holds .is, num-within (num-add (top c) (rounded c) tt) (omega arith))
 
 pub first-at-spec : {M : Type 1} → statement M
-first-at-spec = tie.close (tie.spec (λ c. search needs) (λ c. search needs) row-requires rounded-requires add-result returns)
+first-at-spec = tie.close (tie.spec (λ c. search needs) (λ c. search needs) row-at-requires rounded-requires add-result returns)

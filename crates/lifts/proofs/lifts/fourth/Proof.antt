@@ -33,11 +33,11 @@ sub-far c = omega (arith, left c)
 sub-far-2 : tie.Need-sub-far-2 Inv-loop μ-loop
 sub-far-2 c = omega (arith, left c)
 
-taken-requires : tie.Need-taken-requires Inv-loop μ-loop
-taken-requires c κs = omega (arith, left c, long (c .before), c .before .before .pre .1 .0)
+four-at-requires : tie.Need-four-at-requires Inv-loop μ-loop
+four-at-requires c κs = omega (arith, left c, long (c .before), c .before .before .pre .1 .0)
 
-taken-requires-2 : tie.Need-taken-requires-2 Inv-loop μ-loop
-taken-requires-2 c κs = let b = c .before in omega (arith, left b, long (b .before), b .before .before .pre .1 .0)
+four-at-requires-2 : tie.Need-four-at-requires-2 Inv-loop μ-loop
+four-at-requires-2 c κs = let b = c .before in omega (arith, left b, long (b .before), b .before .before .pre .1 .0)
 
 move-by-products-requires : tie.Need-move-by-products-requires Inv-loop μ-loop
 move-by-products-requires c κs =
@@ -45,7 +45,7 @@ move-by-products-requires c κs =
     let b = x .before .before in
     let k = b .before in
     let s = k .before in
-    products-asked (k .loop .inv) (s .pre .0) (b .loop-test .taken) (s .args .c .now) (s .args .x .now) (s .pre .1) _ _ _ _ (x .before .taken .ensures) (x .taken2 .ensures)
+    products-asked (k .loop .inv) (s .pre .0) (b .loop-test .taken) (s .args .c .now) (s .args .x .now) (s .pre .1) _ _ _ _ (x .before .four-at .ensures) (x .four-at2 .ensures)
 
 add-i : tie.Need-add-i Inv-loop μ-loop
 add-i c = let in-loop = c .before .before .before .before .before in record { fits = omega (arith, left in-loop) }
@@ -59,7 +59,7 @@ loop-again c =
     let b = x .before .before in
     let k = b .before in
     let s = k .before in
-    products-next (s .args .undo) place (s .args .c .now) (s .args .x .now) (k .loop .y) (k .loop .inv) (s .pre .0) (b .loop-test .taken) _ _ (x .before .taken .ensures) (x .taken2 .ensures) (c .before .move-by-products .ensures)
+    products-next (s .args .undo) place (s .args .c .now) (s .args .x .now) (k .loop .y) (k .loop .inv) (s .pre .0) (b .loop-test .taken) _ _ (x .before .four-at .ensures) (x .four-at2 .ensures) (c .before .move-by-products .ensures)
 
 same-length : tie.Need-same-length Inv-loop μ-loop
 same-length c = long (c .before)
@@ -76,8 +76,8 @@ fourth-spec =
     loop-holds
     sub-far
     sub-far-2
-    taken-requires
-    taken-requires-2
+    four-at-requires
+    four-at-requires-2
     move-by-products-requires
     add-i
     loop-less

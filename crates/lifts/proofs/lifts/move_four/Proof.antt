@@ -16,10 +16,10 @@ use Rattle.lifts.specs.Own.Moves.{movedFour}
 use Rattle.lifts.proofs.lifts.move_four.Statement.{statement}
 use Rattle.lifts.proofs.lifts.move_four.Tie as tie
 
-joined-requires : tie.Need-joined-requires
-joined-requires c κs =
+sum-or-difference-requires : tie.Need-sum-or-difference-requires
+sum-or-difference-requires c κs =
     let s = c .before .before in
-    (listed-within _ _ (2 ^ 62 - 1) (c .taken .ensures) (λ j l. omega (arith, s .pre .1 .0 j)), within-up (s .pre .1 .1) (omega arith))
+    (listed-within _ _ (2 ^ 62 - 1) (c .four-at .ensures) (λ j l. omega (arith, s .pre .1 .0 j)), within-up (s .pre .1 .1) (omega arith))
 
 -- four numbers that are listed alike are stored alike
 stored-same : (l : List ℤ) (p : ℕ) (f g : Four) → listed f ≡ listed g → stored l p f ≡ stored l p g
@@ -42,7 +42,7 @@ returns : tie.Need-returns
 returns c =
     let s = c .before .before .before .before .before .before in
     let j = c .before .before .before in
-    c .before .put .ensures ∙ stored-same _ _ _ _ (j .joined .ensures ∙ joined-is (s .args .undo) (s .args .y .now) (s .args .i) (s .args .amounts) _ (j .before .taken .ensures))
+    c .before .put .ensures ∙ stored-same _ _ _ _ (j .sum-or-difference .ensures ∙ joined-is (s .args .undo) (s .args .y .now) (s .args .i) (s .args .amounts) _ (j .before .four-at .ensures))
 
 pub move-four-spec : {M : Type 1} → statement M
-move-four-spec = tie.close (tie.spec (λ c κs. search needs) joined-requires (λ c κs. search needs) (λ c. search needs) returns)
+move-four-spec = tie.close (tie.spec (λ c κs. search needs) sum-or-difference-requires (λ c κs. search needs) (λ c. search needs) returns)

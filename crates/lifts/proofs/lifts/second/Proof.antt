@@ -7,13 +7,13 @@ use lib.ListN.{length}
 use Rattle.integers.specs.Floor.{round}
 use Rattle.integers.specs.Places.{at}
 use Rattle.rows.specs.Orders.{Order, rowAt}
-use Rattle.lifts.specs.Own.Moves.{second, Scaled}
+use Rattle.lifts.specs.Own.Moves.{stage2At, Scaled}
 use Rattle.lifts.proofs.FourLaws.{Turns, turns-none, turns-long, turns-left, turns-size, turns-next, turns-all}
 use Rattle.lifts.proofs.lifts.second.Statement.{statement}
 use Rattle.lifts.proofs.lifts.second.Tie as tie
 
 abbrev Inv-loop : tie.InvT-loop
-Inv-loop undo back flips y top₀ i₀ top i = Turns (λ n j z. second undo j z (round 31 (rowAt back flips y j))) top₀ i top
+Inv-loop undo back flips y top₀ i₀ top i = Turns (λ n j z. stage2At undo j z (round 31 (rowAt back flips y j))) top₀ i top
 
 abbrev μ-loop : tie.MeasureT-loop
 μ-loop undo back flips y top₀ i₀ top i = length top₀ - i

@@ -14,26 +14,26 @@ use Rattle.integers.proofs.Held.{Held, held-ok, held-eq}
 use Rattle.integers.proofs.Num.{Num, num, num-call, num-add, num-sub, add-asks, sub-asks}
 use Rattle.integers.proofs.Rounding.{round-within}
 use Rattle.rows.specs.Orders.{rowAt}
-use Rattle.lifts.specs.Own.Moves.{flipped, second}
+use Rattle.lifts.specs.Own.Moves.{flipped, stage2At}
 use Rattle.lifts.proofs.NumLaws.{num-within}
 use Rattle.lifts.proofs.MoveLaws.{flipped-size}
 use Rattle.lifts.proofs.lifts.second_at.Statement.{statement}
 use Rattle.lifts.proofs.lifts.second_at.Tie as tie
 
-row-requires : tie.Need-row-requires
-row-requires c κs =
+row-at-requires : tie.Need-row-at-requires
+row-at-requires c κs =
     let l : c .args .i < length (c .args .y .now) = omega arith in
     (l, (c .pre .1 .1 .0, c .pre .1 .1 .1 .0 .small (c .args .i) l))
 
-module _ (c : tie.After-row) where
+module _ (c : tie.After-row-at) where
   abbrev s : tie.Start
   s = c .before
 
   abbrev sum : ℤ
   sum = rowAt (s .args .back .now) (s .args .flips .now) (s .args .y .now) (s .args .i)
 
-  row : Held w64 (ofZ w64 (c .row .result)) sum
-  row = held-eq (held-ok w64 _ (c .row .ok)) (c .row .ensures)
+  row : Held w64 (ofZ w64 (c .row-at .result)) sum
+  row = held-eq (held-ok w64 _ (c .row-at .ok)) (c .row-at .ensures)
 
   small : natAbs sum ≤ 2 ^ 62
   small = s .pre .1 .1 .1 .0 .small (s .args .i) (omega arith)
@@ -42,7 +42,7 @@ rounded-requires : tie.Need-rounded-requires
 rounded-requires c κs = (omega arith, omega arith, subst (λ z. natAbs z ≤ 2 ^ 62) (sym (row c .is)) (small c))
 
 module _ (c : tie.After-rounded) where
-  abbrev a : tie.After-row
+  abbrev a : tie.After-row-at
   a = c .before
 
   abbrev amount : ℤ
@@ -61,11 +61,11 @@ flipped-requires : tie.Need-flipped-requires
 flipped-requires c κs = let r = c .before .before in num-within (num-sub (top r) (rounded r) tt) (omega arith)
 
 returns : tie.Need-returns
-unfolding second
+unfolding stage2At
 returns c =
     let r = c .before .before .before in
     let i = s (a r) .args .i in
-    held-ok w64 _ (c .flipped .ok) .is ∙ c .flipped .ensures ∙ ap (flipped i) (num-sub (top r) (rounded r) tt .holds .is) ∙ ap (λ u. second u i (at (s (a r) .args .top .now) i) (amount r)) (sym (c .before .before .if1 .taken))
+    held-ok w64 _ (c .flipped .ok) .is ∙ c .flipped .ensures ∙ ap (flipped i) (num-sub (top r) (rounded r) tt .holds .is) ∙ ap (λ u. stage2At u i (at (s (a r) .args .top .now) i) (amount r)) (sym (c .before .before .if1 .taken))
 
 flipped-requires-2 : tie.Need-flipped-requires-2
 flipped-requires-2 c κs = num-within (top (c .before .before)) (omega arith)
@@ -80,17 +80,17 @@ add-result : tie.Need-add-result
 add-result c = add-asks (flipped-num c) (rounded (c .before .before .before)) tt
 
 returns-2 : tie.Need-returns-2
-unfolding second
+unfolding stage2At
 returns-2 c =
     let r = c .before .before .before in
     let i = s (a r) .args .i in
-    num-add (flipped-num c) (rounded r) tt .holds .is ∙ ap (λ u. second u i (at (s (a r) .args .top .now) i) (amount r)) (sym (c .before .before .if1 .left))
+    num-add (flipped-num c) (rounded r) tt .holds .is ∙ ap (λ u. stage2At u i (at (s (a r) .args .top .now) i) (amount r)) (sym (c .before .before .if1 .left))
 
 pub second-at-spec : {M : Type 1} → statement M
 second-at-spec =
     tie.close
     (tie.spec
-    row-requires
+    row-at-requires
     rounded-requires
     (λ c. search needs)
     (λ c. search needs)

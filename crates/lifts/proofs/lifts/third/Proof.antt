@@ -9,13 +9,13 @@ use Rattle.integers.specs.Floor.{round}
 use Rattle.integers.specs.Places.{at, Within}
 use Rattle.rows.specs.Orders.{Order, rowAt, secantOut}
 use Rattle.slices.specs.Own.Moves.{moved}
-use Rattle.lifts.specs.Own.Moves.{third, Thirds}
+use Rattle.lifts.specs.Own.Moves.{stage3Amount, Thirds}
 use Rattle.lifts.proofs.FourLaws.{Turns, Gaves, turns-none, turns-long, turns-left, moved-asked, turns-moved, turns-all}
 use Rattle.lifts.proofs.lifts.third.Statement.{statement}
 use Rattle.lifts.proofs.lifts.third.Tie as tie
 
 abbrev Inv-loop : tie.InvT-loop
-Inv-loop undo tangents top zs back flips y bottom₀ i₀ bottom i = Turns (λ n j z. moved undo z (round 34 (third (secantOut n (at zs) j) (rowAt back flips y j) (at tangents (n - 1 - j) *ℤ at top (n - 1 - j))))) bottom₀ i bottom
+Inv-loop undo tangents top zs back flips y bottom₀ i₀ bottom i = Turns (λ n j z. moved undo z (round 34 (stage3Amount (secantOut n (at zs) j) (rowAt back flips y j) (at tangents (n - 1 - j) *ℤ at top (n - 1 - j))))) bottom₀ i bottom
 
 abbrev μ-loop : tie.MeasureT-loop
 μ-loop undo tangents top zs back flips y bottom₀ i₀ bottom i = length bottom₀ - i
@@ -35,7 +35,7 @@ module _ (k : tie.At-loop Inv-loop μ-loop) where
 
   -- what a turn adds at a place
   abbrev amount : ℕ → ℕ → ℤ
-  amount n j = round 34 (third (secantOut n (at (s .args .z .now)) j) (rowAt (s .args .back .now) (s .args .flips .now) (s .args .y .now) j) (at (s .args .tangents .now) (n - 1 - j) *ℤ at (s .args .top .now) (n - 1 - j)))
+  amount n j = round 34 (stage3Amount (secantOut n (at (s .args .z .now)) j) (rowAt (s .args .back .now) (s .args .flips .now) (s .args .y .now) j) (at (s .args .tangents .now) (n - 1 - j) *ℤ at (s .args .top .now) (n - 1 - j)))
 
   module _ (l : i < length list) where
     left : i + 4 ≤ length list
@@ -109,13 +109,13 @@ module _ (c : tie.After-third-at4 Inv-loop μ-loop) where
 
   -- the place from the end, and the length
   far : {r : ℤ} (j m : ℕ) → m ≡ length (list k) - 1 - j
-      → r ≡ round 34 (third (secantOut (length (s k .args .y .now)) (at (s k .args .z .now)) j) (rowAt (s k .args .back .now) (s k .args .flips .now) (s k .args .y .now) j) (at (s k .args .tangents .now) m *ℤ at (s k .args .top .now) m))
+      → r ≡ round 34 (stage3Amount (secantOut (length (s k .args .y .now)) (at (s k .args .z .now)) j) (rowAt (s k .args .back .now) (s k .args .flips .now) (s k .args .y .now) j) (at (s k .args .tangents .now) m *ℤ at (s k .args .top .now) m))
       → r ≡ amount k (length (list k)) j
   far j m e q =
       let long-y = s k .pre .1 .0 .3 ∙ sym (long k) in
       q
-      ∙ ap (λ p. round 34 (third (secantOut (length (s k .args .y .now)) (at (s k .args .z .now)) j) (rowAt (s k .args .back .now) (s k .args .flips .now) (s k .args .y .now) j) (at (s k .args .tangents .now) p *ℤ at (s k .args .top .now) p))) e
-      ∙ ap (λ n. round 34 (third (secantOut n (at (s k .args .z .now)) j) (rowAt (s k .args .back .now) (s k .args .flips .now) (s k .args .y .now) j) (at (s k .args .tangents .now) (length (list k) - 1 - j) *ℤ at (s k .args .top .now) (length (list k) - 1 - j)))) long-y
+      ∙ ap (λ p. round 34 (stage3Amount (secantOut (length (s k .args .y .now)) (at (s k .args .z .now)) j) (rowAt (s k .args .back .now) (s k .args .flips .now) (s k .args .y .now) j) (at (s k .args .tangents .now) p *ℤ at (s k .args .top .now) p))) e
+      ∙ ap (λ n. round 34 (stage3Amount (secantOut n (at (s k .args .z .now)) j) (rowAt (s k .args .back .now) (s k .args .flips .now) (s k .args .y .now) j) (at (s k .args .tangents .now) (length (list k) - 1 - j) *ℤ at (s k .args .top .now) (length (list k) - 1 - j)))) long-y
 
   gaves : Gaves (amount k (length (list k))) (i k) (c .before .before .before .third-at .result) (c .before .before .third-at2 .result) (c .before .third-at3 .result) (c .third-at4 .result)
   gaves =

@@ -14,13 +14,13 @@ use Rattle.integers.proofs.Held.{held-ok}
 use Rattle.integers.proofs.Num.{Num, num, num-call, num-mul, mul-asks}
 use Rattle.integers.proofs.Rounding.{round-within}
 use Rattle.rows.specs.Orders.{rowAt, secantOut}
-use Rattle.lifts.specs.Own.Moves.{third}
+use Rattle.lifts.specs.Own.Moves.{stage3Amount}
 use Rattle.lifts.proofs.NumLaws.{num-within}
 use Rattle.lifts.proofs.lifts.third_at.Statement.{statement}
 use Rattle.lifts.proofs.lifts.third_at.Tie as tie
 
-row-requires : tie.Need-row-requires
-row-requires c κs =
+row-at-requires : tie.Need-row-at-requires
+row-at-requires c κs =
     let s = c .before in
     (s .pre .0 .0, (s .pre .1 .1 .0, omega (arith, s .pre .1 .1 .1 .0 .cosine (s .args .i) (s .pre .0 .0))))
 
@@ -41,8 +41,8 @@ module _ (c : tie.After-third-amount-arg2) where
   secant-is : toZ w64 (ofZ w64 (c .before .before .before .secant-row .result)) ≡ secantOut n (at (s .args .z .now)) i
   secant-is = held-ok w64 _ (c .before .before .before .secant-row .ok) .is ∙ c .before .before .before .secant-row .ensures ∙ ap (λ m. secantOut m (at (s .args .z .now)) i) (s .pre .1 .0 .2)
 
-  row-is : toZ w64 (ofZ w64 (c .before .before .row .result)) ≡ rowAt (s .args .back .now) (s .args .flips .now) (s .args .y .now) i
-  row-is = held-ok w64 _ (c .before .before .row .ok) .is ∙ c .before .before .row .ensures
+  row-is : toZ w64 (ofZ w64 (c .before .before .row-at .result)) ≡ rowAt (s .args .back .now) (s .args .flips .now) (s .args .y .now) i
+  row-is = held-ok w64 _ (c .before .before .row-at .ok) .is ∙ c .before .before .row-at .ensures
 
   tangent : Num w64 (2 ^ 28) (ofZ w64 (at (s .args .tangents .now) j)) (at (s .args .tangents .now) j)
   tangent = num w64 _ (s .pre .1 .1 .1 .1 .0 .size j) tt
@@ -65,8 +65,8 @@ third-amount-requires c κs =
       num-within (num-mul (tangent c) (top c) tt) (omega arith),
     )
 
-third-same : {a a′ b b′ t t′ : ℤ} → a ≡ a′ → b ≡ b′ → t ≡ t′ → third a b t ≡ third a′ b′ t′
-third-same {a′ = a′} {b = b} {t = t} p q r = ap (λ x. third x b t) p ∙ ap₂ (third a′) q r
+third-same : {a a′ b b′ t t′ : ℤ} → a ≡ a′ → b ≡ b′ → t ≡ t′ → stage3Amount a b t ≡ stage3Amount a′ b′ t′
+third-same {a′ = a′} {b = b} {t = t} p q r = ap (λ x. stage3Amount x b t) p ∙ ap₂ (stage3Amount a′) q r
 
 rounded-requires : tie.Need-rounded-requires
 rounded-requires c κs = let a = c .third-amount in (omega arith, omega arith, subst (λ z. natAbs z ≤ 2 ^ 62) (sym (held-ok w64 (a .result) (a .ok) .is)) (a .ensures .1))
@@ -77,7 +77,7 @@ module _ (r : tie.After-rounded) where
   c = r .before .before
 
   abbrev amount : ℤ
-  amount = third (secantOut (n c) (at (s c .args .z .now)) (i c)) (rowAt (s c .args .back .now) (s c .args .flips .now) (s c .args .y .now) (i c)) (at (s c .args .tangents .now) (j c) *ℤ at (s c .args .top .now) (j c))
+  amount = stage3Amount (secantOut (n c) (at (s c .args .z .now)) (i c)) (rowAt (s c .args .back .now) (s c .args .flips .now) (s c .args .y .now) (i c)) (at (s c .args .tangents .now) (j c) *ℤ at (s c .args .top .now) (j c))
 
   summed : r .before .third-amount .result ≡ amount
   summed = r .before .third-amount .ensures .0 ∙ third-same (secant-is c) (row-is c) (num-mul (tangent c) (top c) tt .holds .is)
@@ -96,7 +96,7 @@ third-at-spec =
     tie.close
     (tie.spec
     (λ c κs. search needs)
-    row-requires
+    row-at-requires
     (λ c. search needs)
     (λ c. search needs)
     (λ c. search needs)

@@ -27,11 +27,11 @@ module _ (k : tie.At-loop Inv-loop μ-loop) where
 loop-holds : tie.Need-loop-holds Inv-loop μ-loop
 loop-holds c = (omega arith, refl, written-none _ _ _)
 
-add-taken : tie.Need-add-taken Inv-loop μ-loop
-add-taken c = omega (arith, c .before .before .before .pre, within (c .before .before) (c .before .loop-test .taken), long (c .before .before))
+add-four-at : tie.Need-add-four-at Inv-loop μ-loop
+add-four-at c = omega (arith, c .before .before .before .pre, within (c .before .before) (c .before .loop-test .taken), long (c .before .before))
 
-taken-requires : tie.Need-taken-requires Inv-loop μ-loop
-taken-requires c κs = omega (arith, c .before .before .before .pre, within (c .before .before) (c .before .loop-test .taken), long (c .before .before))
+four-at-requires : tie.Need-four-at-requires Inv-loop μ-loop
+four-at-requires c κs = omega (arith, c .before .before .before .pre, within (c .before .before) (c .before .loop-test .taken), long (c .before .before))
 
 add-put : tie.Need-add-put Inv-loop μ-loop
 add-put c = let at-loop = c .before .before .before .before in omega (arith, at-loop .before .pre, within at-loop (c .before .before .before .loop-test .taken), long at-loop)
@@ -53,8 +53,8 @@ loop-again c =
     let k = in-loop .before in
     let l = within k (in-loop .loop-test .taken) in
     let a = k .before .args in
-    let z = c .before .before .before .taken .ensures ∙ places-ext 4 _ _ (λ j q. k .loop .inv .2 .old (a .from + k .loop .i + j) (omega (arith, k .before .pre)) ∙ ap (at (a .room .now)) (let e : a .from + k .loop .i + j ≡ a .from + (k .loop .i + j) = omega arith in e)) in
-    (omega arith, omega arith, subst (Written (λ j. at (a .room .now) (a .from + j)) (a .to) (k .loop .i + 4) (a .room .now)) (sym (c .before .put .ensures)) (written-next (k .loop .inv .2) (omega (arith, k .before .pre)) (c .before .before .before .taken .result) z))
+    let z = c .before .before .before .four-at .ensures ∙ places-ext 4 _ _ (λ j q. k .loop .inv .2 .old (a .from + k .loop .i + j) (omega (arith, k .before .pre)) ∙ ap (at (a .room .now)) (let e : a .from + k .loop .i + j ≡ a .from + (k .loop .i + j) = omega arith in e)) in
+    (omega arith, omega arith, subst (Written (λ j. at (a .room .now) (a .from + j)) (a .to) (k .loop .i + 4) (a .room .now)) (sym (c .before .put .ensures)) (written-next (k .loop .inv .2) (omega (arith, k .before .pre)) (c .before .before .before .four-at .result) z))
 
 same-length : tie.Need-same-length Inv-loop μ-loop
 same-length c = long (c .before)
@@ -73,8 +73,8 @@ copy-list-spec =
     Inv-loop
     μ-loop
     loop-holds
-    add-taken
-    taken-requires
+    add-four-at
+    four-at-requires
     add-put
     put-requires
     add-i

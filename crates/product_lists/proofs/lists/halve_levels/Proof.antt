@@ -1,13 +1,13 @@
 -- `product_lists::lists::halve_levels` meets its contract.
 use native.Mathlib.Omega.{arith}
-use Rattle.product_lists.specs.Own.Tables.{Halved}
+use Rattle.product_lists.specs.Own.Tables.{TablesHalved}
 use Rattle.products.proofs.LevelRooms.{half-fours, count-some}
 use Rattle.product_lists.proofs.TableLaws.{halved-top, halve-room, lists-fit, halve-small, halved-next, halved-end}
 use Rattle.product_lists.proofs.lists.halve_levels.Statement.{statement}
 use Rattle.product_lists.proofs.lists.halve_levels.Tie as tie
 
 abbrev Inv-loop : tie.InvT-loop
-Inv-loop room₀ m k₀ n₀ room k n = Halved m room₀ n k room
+Inv-loop room₀ m k₀ n₀ room k n = TablesHalved m room₀ n k room
 
 abbrev μ-loop : tie.MeasureT-loop
 μ-loop room₀ m k₀ n₀ room k n = n

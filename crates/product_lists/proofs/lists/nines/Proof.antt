@@ -18,20 +18,20 @@ abbrev μ-loop : tie.MeasureT-loop
 loop-holds : tie.Need-loop-holds Inv-loop μ-loop
 loop-holds c = (omega arith, all-written-none _ _ _ _)
 
-mul-taken : tie.Need-mul-taken Inv-loop μ-loop
-mul-taken c = omega (arith, c .before .before .pre .0, c .loop-test .taken, c .before .loop .inv .1 .long)
+mul-four-at : tie.Need-mul-four-at Inv-loop μ-loop
+mul-four-at c = omega (arith, c .before .before .pre .0, c .loop-test .taken, c .before .loop .inv .1 .long)
 
-taken-requires : tie.Need-taken-requires Inv-loop μ-loop
-taken-requires c κs = omega (arith, c .before .before .pre .0, c .loop-test .taken, c .before .loop .inv .1 .long)
+four-at-requires : tie.Need-four-at-requires Inv-loop μ-loop
+four-at-requires c κs = omega (arith, c .before .before .pre .0, c .loop-test .taken, c .before .loop .inv .1 .long)
 
-mul-taken-2 : tie.Need-mul-taken-2 Inv-loop μ-loop
-mul-taken-2 c = omega (arith, c .before .before .before .pre .0, c .before .loop-test .taken, c .before .before .loop .inv .1 .long)
+mul-four-at-2 : tie.Need-mul-four-at-2 Inv-loop μ-loop
+mul-four-at-2 c = omega (arith, c .before .before .before .pre .0, c .before .loop-test .taken, c .before .before .loop .inv .1 .long)
 
-add-taken : tie.Need-add-taken Inv-loop μ-loop
-add-taken c = omega (arith, c .before .before .before .pre .0, c .before .loop-test .taken, c .before .before .loop .inv .1 .long)
+add-four-at : tie.Need-add-four-at Inv-loop μ-loop
+add-four-at c = omega (arith, c .before .before .before .pre .0, c .before .loop-test .taken, c .before .before .loop .inv .1 .long)
 
-taken-requires-2 : tie.Need-taken-requires-2 Inv-loop μ-loop
-taken-requires-2 c κs = omega (arith, c .before .before .before .pre .0, c .before .loop-test .taken, c .before .before .loop .inv .1 .long)
+four-at-requires-2 : tie.Need-four-at-requires-2 Inv-loop μ-loop
+four-at-requires-2 c κs = omega (arith, c .before .before .before .pre .0, c .before .loop-test .taken, c .before .before .loop .inv .1 .long)
 
 mul-put-nine : tie.Need-mul-put-nine Inv-loop μ-loop
 mul-put-nine c = let at-loop = c .before .before .before .before in omega (arith, at-loop .before .pre .0, c .before .before .before .loop-test .taken, at-loop .loop .inv .1 .long)
@@ -40,7 +40,7 @@ nine-of-requires : tie.Need-nine-of-requires Inv-loop μ-loop
 nine-of-requires c κs =
     let k = c .before .before .before .before in
     let l = c .before .before .before .loop-test .taken in
-    (listed-within (c .before .before .taken .result) _ (2 ^ 60) (c .before .before .taken .ensures) (λ j q. k .before .pre .1 _ (omega arith)), listed-within (c .before .taken2 .result) _ (2 ^ 60) (c .before .taken2 .ensures) (λ j q. k .before .pre .1 _ (omega arith)))
+    (listed-within (c .before .before .four-at .result) _ (2 ^ 60) (c .before .before .four-at .ensures) (λ j q. k .before .pre .1 _ (omega arith)), listed-within (c .before .four-at2 .result) _ (2 ^ 60) (c .before .four-at2 .ensures) (λ j q. k .before .pre .1 _ (omega arith)))
 
 put-nine-requires : tie.Need-put-nine-requires Inv-loop μ-loop
 put-nine-requires c κs =
@@ -57,11 +57,11 @@ loop-less c = omega arith
 
 loop-again : tie.Need-loop-again Inv-loop μ-loop
 loop-again c =
-    let at-taken2 = c .before .before .before .before in
-    let k = at-taken2 .before .before .before in
-    let l = at-taken2 .before .before .loop-test .taken in
+    let at-four-at2 = c .before .before .before .before in
+    let k = at-four-at2 .before .before .before in
+    let l = at-four-at2 .before .before .loop-test .taken in
     let a = k .before .args in
-    (omega arith, nines-next (a .lists .now) (k .loop .inv .1) (at-taken2 .before .taken .result) (at-taken2 .taken2 .result) (c .before .before .nine-of .result) (at-taken2 .before .taken .ensures) (at-taken2 .taken2 .ensures) (c .before .before .nine-of .ensures) (c .before .put-nine .ensures))
+    (omega arith, nines-next (a .lists .now) (k .loop .inv .1) (at-four-at2 .before .four-at .result) (at-four-at2 .four-at2 .result) (c .before .before .nine-of .result) (at-four-at2 .before .four-at .ensures) (at-four-at2 .four-at2 .ensures) (c .before .before .nine-of .ensures) (c .before .put-nine .ensures))
 
 same-length : tie.Need-same-length Inv-loop μ-loop
 same-length c = c .before .loop .inv .1 .long
@@ -79,11 +79,11 @@ nines-spec =
     Inv-loop
     μ-loop
     loop-holds
-    mul-taken
-    taken-requires
-    mul-taken-2
-    add-taken
-    taken-requires-2
+    mul-four-at
+    four-at-requires
+    mul-four-at-2
+    add-four-at
+    four-at-requires-2
     mul-put-nine
     nine-of-requires
     put-nine-requires

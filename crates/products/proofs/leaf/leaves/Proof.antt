@@ -27,11 +27,11 @@ module _ (k : tie.At-loop Inv-loop μ-loop) where
 loop-holds : tie.Need-loop-holds Inv-loop μ-loop
 loop-holds c = (omega arith, leafed-none _ _ _)
 
-mul-taken : tie.Need-mul-taken Inv-loop μ-loop
-mul-taken c = let k = c .before .before in omega (arith, c .before .loop-test .taken, long k, room-long k, lists-long k)
+mul-four-at : tie.Need-mul-four-at Inv-loop μ-loop
+mul-four-at c = let k = c .before .before in omega (arith, c .before .loop-test .taken, long k, room-long k, lists-long k)
 
-taken-requires : tie.Need-taken-requires Inv-loop μ-loop
-taken-requires c κs = let k = c .before .before in omega (arith, c .before .loop-test .taken, long k, room-long k, lists-long k)
+four-at-requires : tie.Need-four-at-requires Inv-loop μ-loop
+four-at-requires c κs = let k = c .before .before in omega (arith, c .before .loop-test .taken, long k, room-long k, lists-long k)
 
 mul-put : tie.Need-mul-put Inv-loop μ-loop
 mul-put c = let k = c .before .before .before .before in omega (arith, c .before .before .before .loop-test .taken, long k, room-long k, lists-long k)
@@ -46,7 +46,7 @@ leaf-requires : tie.Need-leaf-requires Inv-loop μ-loop
 leaf-requires c κs =
     let in-loop = c .before .before .before .before in
     let k = in-loop .before in
-    leafed-leaf (k .loop .inv .1) (in-loop .loop-test .taken) (c .before .before .taken .result) (c .nine-at .result) (c .before .before .taken .ensures) (c .nine-at .ensures) (k .before .pre)
+    leafed-leaf (k .loop .inv .1) (in-loop .loop-test .taken) (c .before .before .four-at .result) (c .nine-at .result) (c .before .before .four-at .ensures) (c .nine-at .ensures) (k .before .pre)
 
 put-requires : tie.Need-put-requires Inv-loop μ-loop
 put-requires c κs =
@@ -65,11 +65,11 @@ loop-less c = omega arith
 
 loop-again : tie.Need-loop-again Inv-loop μ-loop
 loop-again c =
-    let at-taken = c .before .before .before .before .before in
-    let k = at-taken .before .before .before in
-    let l = at-taken .before .before .loop-test .taken in
+    let at-four-at = c .before .before .before .before .before in
+    let k = at-four-at .before .before .before in
+    let l = at-four-at .before .before .loop-test .taken in
     let a = k .before .args in
-    (omega arith, subst (Leafed (a .k) (k .loop .v + 1) (a .lists .now) (a .room .now)) (sym (c .before .put .ensures)) (leafed-next (k .loop .inv .1) l (at-taken .taken .result) (c .before .before .before .nine-at .result) (at-taken .taken .ensures) (c .before .before .before .nine-at .ensures) (omega (arith, l, room-long k)) (c .before .before .leaf .result) (c .before .before .leaf .ensures)))
+    (omega arith, subst (Leafed (a .k) (k .loop .v + 1) (a .lists .now) (a .room .now)) (sym (c .before .put .ensures)) (leafed-next (k .loop .inv .1) l (at-four-at .four-at .result) (c .before .before .before .nine-at .result) (at-four-at .four-at .ensures) (c .before .before .before .nine-at .ensures) (omega (arith, l, room-long k)) (c .before .before .leaf .result) (c .before .before .leaf .ensures)))
 
 same-length : tie.Need-same-length Inv-loop μ-loop
 same-length c = long (c .before)
@@ -87,8 +87,8 @@ leaves-spec =
     Inv-loop
     μ-loop
     loop-holds
-    mul-taken
-    taken-requires
+    mul-four-at
+    four-at-requires
     mul-put
     mul-nine-at
     nine-at-requires

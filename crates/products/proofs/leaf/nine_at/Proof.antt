@@ -13,12 +13,12 @@ use Rattle.products.proofs.leaf.nine_at.Tie as tie
 
 returns : tie.Need-returns
 returns c =
-    let at-taken = c .before .before .before .before in
-    let s = at-taken .before in
+    let at-four-at = c .before .before .before .before in
+    let s = at-four-at .before in
     let x = s .args .x .now in
     let p = s .args .p in
-    let low = at-taken .taken in
-    let high = c .before .before .before .taken2 in
+    let low = at-four-at .four-at in
+    let high = c .before .before .before .four-at2 in
     let l = c .before .struct-told .given in
     let h = c .struct-told2 .given in
     nine-read (λ j. at x (p + j)) (low .result) (high .result) (low .ensures)

@@ -31,24 +31,24 @@ module _ (k : tie.At-loop Inv-loop μ-loop) where
 loop-holds : tie.Need-loop-holds Inv-loop μ-loop
 loop-holds c = (omega arith, refl, written-none _ _ _)
 
-add-taken : tie.Need-add-taken Inv-loop μ-loop
-add-taken c = omega (arith, c .before .before .before .pre .0, within (c .before .before) (c .before .loop-test .taken))
+add-four-at : tie.Need-add-four-at Inv-loop μ-loop
+add-four-at c = omega (arith, c .before .before .before .pre .0, within (c .before .before) (c .before .loop-test .taken))
 
-taken-requires : tie.Need-taken-requires Inv-loop μ-loop
-taken-requires c κs = omega (arith, c .before .before .before .pre .0, within (c .before .before) (c .before .loop-test .taken), long (c .before .before))
+four-at-requires : tie.Need-four-at-requires Inv-loop μ-loop
+four-at-requires c κs = omega (arith, c .before .before .before .pre .0, within (c .before .before) (c .before .loop-test .taken), long (c .before .before))
 
-add-taken-2 : tie.Need-add-taken-2 Inv-loop μ-loop
-add-taken-2 c =
+add-four-at-2 : tie.Need-add-four-at-2 Inv-loop μ-loop
+add-four-at-2 c =
     let at-loop = c .before .before .before .before in
     omega (arith, at-loop .before .pre .0, within at-loop (c .before .before .before .loop-test .taken))
 
-add-taken-3 : tie.Need-add-taken-3 Inv-loop μ-loop
-add-taken-3 c =
+add-four-at-3 : tie.Need-add-four-at-3 Inv-loop μ-loop
+add-four-at-3 c =
     let at-loop = c .before .before .before .before in
     omega (arith, at-loop .before .pre .0, within at-loop (c .before .before .before .loop-test .taken))
 
-taken-requires-2 : tie.Need-taken-requires-2 Inv-loop μ-loop
-taken-requires-2 c κs =
+four-at-requires-2 : tie.Need-four-at-requires-2 Inv-loop μ-loop
+four-at-requires-2 c κs =
     let at-loop = c .before .before .before .before in
     omega (arith, at-loop .before .pre .0, within at-loop (c .before .before .before .loop-test .taken), long at-loop)
 
@@ -62,8 +62,8 @@ plus-requires c κs =
     let in-loop = c .before .before .before .before .before in
     let k = in-loop .before in
     let l = within k (in-loop .loop-test .taken) in (
-      listed-within (c .before .before .before .taken .result) _ (2 ^ 62 - 1) (c .before .before .before .taken .ensures) (λ j q. read-within k _ (omega arith) (omega arith)),
-      listed-within (c .before .taken2 .result) _ (2 ^ 62 - 1) (c .before .taken2 .ensures) (λ j q. read-within k _ (omega arith) (omega arith)),
+      listed-within (c .before .before .before .four-at .result) _ (2 ^ 62 - 1) (c .before .before .before .four-at .ensures) (λ j q. read-within k _ (omega arith) (omega arith)),
+      listed-within (c .before .four-at2 .result) _ (2 ^ 62 - 1) (c .before .four-at2 .ensures) (λ j q. read-within k _ (omega arith) (omega arith)),
     )
 
 put-requires : tie.Need-put-requires Inv-loop μ-loop
@@ -81,14 +81,14 @@ loop-less c = omega arith
 
 loop-again : tie.Need-loop-again Inv-loop μ-loop
 loop-again c =
-    let at-taken2 = c .before .before .before .before in
-    let in-loop = at-taken2 .before .before .before .before in
+    let at-four-at2 = c .before .before .before .before in
+    let in-loop = at-four-at2 .before .before .before .before in
     let k = in-loop .before in
     let l = within k (in-loop .loop-test .taken) in
     let a = k .before .args in
     let f : ℕ → ℤ = λ j. at (a .room .now) (a .from + j) +ℤ at (a .room .now) (a .from + a .h + j) in
     let read : (p : ℕ) → p < a .to → at (k .loop .room) p ≡ at (a .room .now) p = k .loop .inv .2 .old in
-    let z = op-is _+ℤ_ (at-taken2 .before .before .taken .result) (at-taken2 .taken2 .result) (c .before .before .plus .result) _ _ (at-taken2 .before .before .taken .ensures) (at-taken2 .taken2 .ensures) (c .before .before .plus .ensures) in
+    let z = op-is _+ℤ_ (at-four-at2 .before .before .four-at .result) (at-four-at2 .four-at2 .result) (c .before .before .plus .result) _ _ (at-four-at2 .before .before .four-at .ensures) (at-four-at2 .four-at2 .ensures) (c .before .before .plus .ensures) in
     let y = z ∙ places-ext 4 _ _ (λ j q. ap₂ _+ℤ_ (read (a .from + k .loop .i + j) (omega (arith, k .before .pre .0)) ∙ ap (at (a .room .now)) (let e : a .from + k .loop .i + j ≡ a .from + (k .loop .i + j) = omega arith in e)) (read (a .from + a .h + k .loop .i + j) (omega (arith, k .before .pre .0)) ∙ ap (at (a .room .now)) (let e : a .from + a .h + k .loop .i + j ≡ a .from + a .h + (k .loop .i + j) = omega arith in e))) in
     (omega arith, omega arith, subst (Written f (a .to) (k .loop .i + 4) (a .room .now)) (sym (c .before .put .ensures)) (written-next (k .loop .inv .2) (omega (arith, k .before .pre .0)) (c .before .before .plus .result) y))
 
@@ -109,11 +109,11 @@ append-list-spec =
     Inv-loop
     μ-loop
     loop-holds
-    add-taken
-    taken-requires
-    add-taken-2
-    add-taken-3
-    taken-requires-2
+    add-four-at
+    four-at-requires
+    add-four-at-2
+    add-four-at-3
+    four-at-requires-2
     add-put
     plus-requires
     put-requires

@@ -39,34 +39,34 @@ module _ (k : tie.At-loop Inv-loop μ-loop) where
 loop-holds : tie.Need-loop-holds Inv-loop μ-loop
 loop-holds c = (omega arith, refl, spread-none _ _ _ _ _)
 
-add-taken : tie.Need-add-taken Inv-loop μ-loop
-add-taken c = omega (arith, c .before .before .before .pre .0, within (c .before .before) (c .before .loop-test .taken), long (c .before .before))
+add-four-at : tie.Need-add-four-at Inv-loop μ-loop
+add-four-at c = omega (arith, c .before .before .before .pre .0, within (c .before .before) (c .before .loop-test .taken), long (c .before .before))
 
-taken-requires : tie.Need-taken-requires Inv-loop μ-loop
-taken-requires c κs = omega (arith, c .before .before .before .pre .0, within (c .before .before) (c .before .loop-test .taken), long (c .before .before))
+four-at-requires : tie.Need-four-at-requires Inv-loop μ-loop
+four-at-requires c κs = omega (arith, c .before .before .before .pre .0, within (c .before .before) (c .before .loop-test .taken), long (c .before .before))
 
-add-taken-2 : tie.Need-add-taken-2 Inv-loop μ-loop
-add-taken-2 c =
+add-four-at-2 : tie.Need-add-four-at-2 Inv-loop μ-loop
+add-four-at-2 c =
     let at-loop = c .before .before .before .before in
     omega (arith, at-loop .before .pre .0, within at-loop (c .before .before .before .loop-test .taken), long at-loop)
 
-taken-requires-2 : tie.Need-taken-requires-2 Inv-loop μ-loop
-taken-requires-2 c κs =
+four-at-requires-2 : tie.Need-four-at-requires-2 Inv-loop μ-loop
+four-at-requires-2 c κs =
     let at-loop = c .before .before .before .before in
     omega (arith, at-loop .before .pre .0, within at-loop (c .before .before .before .loop-test .taken), long at-loop)
 
-add-taken-3 : tie.Need-add-taken-3 Inv-loop μ-loop
-add-taken-3 c =
+add-four-at-3 : tie.Need-add-four-at-3 Inv-loop μ-loop
+add-four-at-3 c =
     let in-loop = c .before .before .before .before .before in
     omega (arith, in-loop .before .before .pre .0, within (in-loop .before) (in-loop .loop-test .taken), long (in-loop .before))
 
-add-taken-4 : tie.Need-add-taken-4 Inv-loop μ-loop
-add-taken-4 c =
+add-four-at-4 : tie.Need-add-four-at-4 Inv-loop μ-loop
+add-four-at-4 c =
     let in-loop = c .before .before .before .before .before in
     omega (arith, in-loop .before .before .pre .0, within (in-loop .before) (in-loop .loop-test .taken), long (in-loop .before))
 
-taken-requires-3 : tie.Need-taken-requires-3 Inv-loop μ-loop
-taken-requires-3 c κs =
+four-at-requires-3 : tie.Need-four-at-requires-3 Inv-loop μ-loop
+four-at-requires-3 c κs =
     let in-loop = c .before .before .before .before .before in
     omega (arith, in-loop .before .before .pre .0, within (in-loop .before) (in-loop .loop-test .taken), long (in-loop .before))
 
@@ -75,12 +75,12 @@ add-put c =
     let in-loop = c .before .before .before .before .before .before .before in
     omega (arith, in-loop .before .before .pre .0, within (in-loop .before) (in-loop .loop-test .taken), long (in-loop .before))
 
-joined-requires : tie.Need-joined-requires Inv-loop μ-loop
-joined-requires c κs =
-    let at-taken = c .before .before .before .before .before in
-    let k = at-taken .before .before .before in
-    let l = at-taken .before .before .loop-test .taken in
-    (listed-within (c .before .before .before .taken2 .result) _ (2 ^ 62 - 1) (c .before .before .before .taken2 .ensures) (first-within k l), listed-within (at-taken .taken .result) _ (2 ^ 62 - 1) (at-taken .taken .ensures) (middle-within k l))
+sum-or-difference-requires : tie.Need-sum-or-difference-requires Inv-loop μ-loop
+sum-or-difference-requires c κs =
+    let at-four-at = c .before .before .before .before .before in
+    let k = at-four-at .before .before .before in
+    let l = at-four-at .before .before .loop-test .taken in
+    (listed-within (c .before .before .before .four-at2 .result) _ (2 ^ 62 - 1) (c .before .before .before .four-at2 .ensures) (first-within k l), listed-within (at-four-at .four-at .result) _ (2 ^ 62 - 1) (at-four-at .four-at .ensures) (middle-within k l))
 
 put-requires : tie.Need-put-requires Inv-loop μ-loop
 put-requires c κs =
@@ -97,20 +97,20 @@ add-put-3 c =
     let in-loop = c .before .before .before .before .before .before .before .before .before .before .before in
     omega (arith, in-loop .before .before .pre .0, within (in-loop .before) (in-loop .loop-test .taken), long (in-loop .before))
 
-joined-requires-2 : tie.Need-joined-requires-2 Inv-loop μ-loop
-joined-requires-2 c κs =
-    let at-taken3 = c .before .before .before .before .before in
-    let at-taken = at-taken3 .before .before .before .before in
-    let k = at-taken .before .before .before in
-    let l = at-taken .before .before .loop-test .taken in
-    (listed-within (at-taken3 .taken3 .result) _ (2 ^ 62 - 1) (at-taken3 .taken3 .ensures) (second-within k l), listed-within (at-taken .taken .result) _ (2 ^ 62 - 1) (at-taken .taken .ensures) (middle-within k l))
+sum-or-difference-requires-2 : tie.Need-sum-or-difference-requires-2 Inv-loop μ-loop
+sum-or-difference-requires-2 c κs =
+    let at-four-at3 = c .before .before .before .before .before in
+    let at-four-at = at-four-at3 .before .before .before .before in
+    let k = at-four-at .before .before .before in
+    let l = at-four-at .before .before .loop-test .taken in
+    (listed-within (at-four-at3 .four-at3 .result) _ (2 ^ 62 - 1) (at-four-at3 .four-at3 .ensures) (second-within k l), listed-within (at-four-at .four-at .result) _ (2 ^ 62 - 1) (at-four-at .four-at .ensures) (middle-within k l))
 
 put-requires-2 : tie.Need-put-requires-2 Inv-loop μ-loop
 put-requires-2 c κs =
-    let at-joined = c .before .before .before .before in
-    let in-loop = at-joined .before .before .before .before .before .before .before .before in
+    let at-sum-or-difference = c .before .before .before .before in
+    let in-loop = at-sum-or-difference .before .before .before .before .before .before .before .before in
     let k = in-loop .before in
-    let e = ap length (c .before .before .before .put .ensures) ∙ length-stored (k .loop .room) (k .before .args .to + k .loop .i) (at-joined .joined .result) in
+    let e = ap length (c .before .before .before .put .ensures) ∙ length-stored (k .loop .room) (k .before .args .to + k .loop .i) (at-sum-or-difference .sum-or-difference .result) in
     omega (arith, k .before .pre .0, within k (in-loop .loop-test .taken), long k, e)
 
 add-i : tie.Need-add-i Inv-loop μ-loop
@@ -124,17 +124,17 @@ loop-less c = omega arith
 loop-again : tie.Need-loop-again Inv-loop μ-loop
 loop-again c =
     let at-put = c .before .before .before .before .before in
-    let at-taken2 = at-put .before .before .before .before .before in
-    let in-loop = at-taken2 .before .before .before .before in
+    let at-four-at2 = at-put .before .before .before .before .before in
+    let in-loop = at-four-at2 .before .before .before .before in
     let k = in-loop .before in
     let a = k .before .args in
     let l = within k (in-loop .loop-test .taken) in
-    let x = op-is (moved (a .less)) (at-taken2 .taken2 .result) (at-taken2 .before .before .taken .result) (at-put .before .joined .result) _ _ (at-taken2 .taken2 .ensures) (at-taken2 .before .before .taken .ensures) (at-put .before .joined .ensures) in
-    let y = op-is (moved (a .less)) (at-put .before .before .before .taken3 .result) (at-taken2 .before .before .taken .result) (c .before .before .joined2 .result) _ _ (at-put .before .before .before .taken3 .ensures) (at-taken2 .before .before .taken .ensures) (c .before .before .joined2 .ensures) in
-    let e = c .before .put2 .ensures ∙ ap (λ t. stored t (a .to + a .h + k .loop .i) (c .before .before .joined2 .result)) (at-put .put .ensures) in (
+    let x = op-is (moved (a .less)) (at-four-at2 .four-at2 .result) (at-four-at2 .before .before .four-at .result) (at-put .before .sum-or-difference .result) _ _ (at-four-at2 .four-at2 .ensures) (at-four-at2 .before .before .four-at .ensures) (at-put .before .sum-or-difference .ensures) in
+    let y = op-is (moved (a .less)) (at-put .before .before .before .four-at3 .result) (at-four-at2 .before .before .four-at .result) (c .before .before .sum-or-difference2 .result) _ _ (at-put .before .before .before .four-at3 .ensures) (at-four-at2 .before .before .four-at .ensures) (c .before .before .sum-or-difference2 .ensures) in
+    let e = c .before .put2 .ensures ∙ ap (λ t. stored t (a .to + a .h + k .loop .i) (c .before .before .sum-or-difference2 .result)) (at-put .put .ensures) in (
       omega (arith, l),
       omega (arith, k .loop .inv .1),
-      subst (Spread (moved (a .less)) (a .to) (a .h) (a .from) (k .loop .i + 4) (a .room .now)) (sym e) (spread-next (k .loop .inv .2) (k .before .pre .0 .1) l (omega (arith, k .before .pre .0)) (at-put .before .joined .result) (c .before .before .joined2 .result) x y),
+      subst (Spread (moved (a .less)) (a .to) (a .h) (a .from) (k .loop .i + 4) (a .room .now)) (sym e) (spread-next (k .loop .inv .2) (k .before .pre .0 .1) l (omega (arith, k .before .pre .0)) (at-put .before .sum-or-difference .result) (c .before .before .sum-or-difference2 .result) x y),
     )
 
 same-length : tie.Need-same-length Inv-loop μ-loop
@@ -153,19 +153,19 @@ spread-list-spec =
     Inv-loop
     μ-loop
     loop-holds
-    add-taken
-    taken-requires
-    add-taken-2
-    taken-requires-2
-    add-taken-3
-    add-taken-4
-    taken-requires-3
+    add-four-at
+    four-at-requires
+    add-four-at-2
+    four-at-requires-2
+    add-four-at-3
+    add-four-at-4
+    four-at-requires-3
     add-put
-    joined-requires
+    sum-or-difference-requires
     put-requires
     add-put-2
     add-put-3
-    joined-requires-2
+    sum-or-difference-requires-2
     put-requires-2
     add-i
     loop-less

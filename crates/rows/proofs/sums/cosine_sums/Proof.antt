@@ -75,7 +75,7 @@ module _ (a : tie.After-signs-at) where
   in-fours = omega (arith, begun .pre .1 .1 .0 .0, known begun .half, cosine-lists (begun .pre .0) (begun .pre .1 .0) .power .is)
 
 -- the front is filled
-module _ (p : tie.After-gather) where
+module _ (p : tie.After-in-order) where
   abbrev before : tie.After-signs-at
   before = p .before .before .before .before
 
@@ -83,16 +83,16 @@ module _ (p : tie.After-gather) where
   start = before .before
 
   abbrev new : List ℤ
-  new = p .gather .last .1 .1 .1 .0
+  new = p .in-order .last .1 .1 .1 .0
 
   abbrev rest : List ℤ
   rest = drop (N start / 2) (room start)
 
   new-is : new ≡ places (N start / 2) (rowAt (places-in before) (signs before) (x start))
-  new-is = p .gather .ensures ∙ ap (λ n. places n (rowAt (places-in before) (signs before) (x start))) (sym (front-long start))
+  new-is = p .in-order .ensures ∙ ap (λ n. places n (rowAt (places-in before) (signs before) (x start))) (sym (front-long start))
 
   enough : productRoom (N start) ≤ length (new ++ rest)
-  enough = omega (arith, start .pre .1 .1 .0 .1, length-front (room start) new (N start / 2) (ap length (p .gather .ensures) ∙ length-places _ _))
+  enough = omega (arith, start .pre .1 .1 .0 .1, length-front (room start) new (N start / 2) (ap length (p .in-order .ensures) ∙ length-places _ _))
 
 mul-from : tie.Need-mul-from
 mul-from c = let w = known c in omega arith
@@ -109,34 +109,34 @@ signs-at-requires c κs = let w = known c in omega arith
 add-end : tie.Need-add-end
 add-end c = let w = known (c .before) in omega (arith, between c)
 
-mul-gather : tie.Need-mul-gather
-mul-gather c = let w = known (c .before) in omega arith
+mul-in-order : tie.Need-mul-in-order
+mul-in-order c = let w = known (c .before) in omega arith
 
-sub-gather : tie.Need-sub-gather
-sub-gather c = let w = known (c .before) in omega arith
+sub-in-order : tie.Need-sub-in-order
+sub-in-order c = let w = known (c .before) in omega arith
 
-part-gather-start : tie.Need-part-gather-start
-part-gather-start c = sub-gather c
+part-in-order-start : tie.Need-part-in-order-start
+part-in-order-start c = sub-in-order c
 
-part-gather-end : tie.Need-part-gather-end
-part-gather-end c = let w = known (c .before) in search needs
+part-in-order-end : tie.Need-part-in-order-end
+part-in-order-end c = let w = known (c .before) in search needs
 
-mul-gather-2 : tie.Need-mul-gather-2
-mul-gather-2 c = let w = known (c .before .before) in omega (arith, between (c .before))
+mul-in-order-2 : tie.Need-mul-in-order-2
+mul-in-order-2 c = let w = known (c .before .before) in omega (arith, between (c .before))
 
-part-gather-end-2 : tie.Need-part-gather-end-2
-part-gather-end-2 c = let w = known (c .before .before) in let b = between (c .before) in search needs
+part-in-order-end-2 : tie.Need-part-in-order-end-2
+part-in-order-end-2 c = let w = known (c .before .before) in let b = between (c .before) in search needs
 
-slice-relend-prefix-gather : tie.Need-slice-relend-prefix-gather
-slice-relend-prefix-gather c = front-le (c .before .before .before)
+slice-relend-prefix-in-order : tie.Need-slice-relend-prefix-in-order
+slice-relend-prefix-in-order c = front-le (c .before .before .before)
 
-slice-aggregate-gather : tie.Need-slice-aggregate-gather
-slice-aggregate-gather c =
+slice-aggregate-in-order : tie.Need-slice-aggregate-in-order
+slice-aggregate-in-order c =
     let start′ = c .before .before .before .before in
     front-long start′
 
-gather-requires : tie.Need-gather-requires
-gather-requires c κs =
+in-order-requires : tie.Need-in-order-requires
+in-order-requires c κs =
     let a = c .before .before .before in
     let s = begun a in
     ((sym (front-long s) ∙ known s .half ∙ sym (s .pre .1 .1 .0 .0), in-fours a), (order a, λ m h. row-size (s .args .alternated) (N s) (places-are a) (signs-are a) (within-up (s .pre .1 .1 .1) (omega arith)) m))
@@ -185,17 +185,17 @@ cosine-sums-spec =
     mul-plain
     signs-at-requires
     add-end
-    mul-gather
-    sub-gather
-    part-gather-start
-    part-gather-end
-    mul-gather-2
+    mul-in-order
+    sub-in-order
+    part-in-order-start
+    part-in-order-end
+    mul-in-order-2
     (λ c. search needs)
     (λ c. search needs)
-    part-gather-end-2
-    slice-relend-prefix-gather
-    slice-aggregate-gather
-    gather-requires
+    part-in-order-end-2
+    slice-relend-prefix-in-order
+    slice-aggregate-in-order
+    in-order-requires
     mul-product
     sub-product
     part-product-start

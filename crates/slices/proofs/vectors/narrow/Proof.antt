@@ -23,13 +23,13 @@ four-left k l = omega (arith, k .before .pre .0, k .loop .inv .1, k .loop .inv .
 loop-holds : tie.Need-loop-holds Inv-loop μ-loop
 loop-holds c = (omega arith, refl, filling-none _ _)
 
-taken-requires : tie.Need-taken-requires Inv-loop μ-loop
-taken-requires c κs = let k = c .before .before in omega (arith, k .before .pre .0 .0, k .loop .inv .2 .long, four-left k (c .before .loop-test .taken))
+four-at-requires : tie.Need-four-at-requires Inv-loop μ-loop
+four-at-requires c κs = let k = c .before .before in omega (arith, k .before .pre .0 .0, k .loop .inv .2 .long, four-left k (c .before .loop-test .taken))
 
 put-narrow-requires : tie.Need-put-narrow-requires Inv-loop μ-loop
 put-narrow-requires c κs =
     let k = c .before .before .before in
-    (four-left k (c .before .before .loop-test .taken), listed-within _ _ (2 ^ 30) (c .taken .ensures) (λ j l. k .before .pre .1 .size (k .loop .i + j)))
+    (four-left k (c .before .before .loop-test .taken), listed-within _ _ (2 ^ 30) (c .four-at .ensures) (λ j l. k .before .pre .1 .size (k .loop .i + j)))
 
 add-i : tie.Need-add-i Inv-loop μ-loop
 add-i c =
@@ -51,7 +51,7 @@ loop-again c =
     let x = k .before .args .x .now in (
       omega (arith, l, k .loop .inv .2 .long),
       omega (arith, k .loop .inv .1),
-      subst (Filling (at x) (k .before .args .out .now) (k .loop .i + 4)) (sym (c .before .put-narrow .ensures)) (filling-listed (k .loop .inv .2) _ (c .before .before .taken .ensures)),
+      subst (Filling (at x) (k .before .args .out .now) (k .loop .i + 4)) (sym (c .before .put-narrow .ensures)) (filling-listed (k .loop .inv .2) _ (c .before .before .four-at .ensures)),
     )
 
 same-length : tie.Need-same-length Inv-loop μ-loop
@@ -69,7 +69,7 @@ narrow-spec =
     Inv-loop
     μ-loop
     loop-holds
-    taken-requires
+    four-at-requires
     put-narrow-requires
     add-i
     loop-less

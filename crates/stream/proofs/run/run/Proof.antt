@@ -37,31 +37,31 @@ loop-holds c = (turns-first textProgram _ _ _ (c .begin .ensures) tt refl (searc
 refill-requires : tie.Need-refill-requires Inv-loop μ-loop
 refill-requires c κs = let k = c .before .before .loop .inv .0 in (omega (arith, k .place), k .within)
 
-slice-reshare-prefix-take : tie.Need-slice-reshare-prefix-take Inv-loop μ-loop
-slice-reshare-prefix-take c = omega (arith, c .before .before .refill .ensures .fits, c .before .buffer .given)
+slice-reshare-prefix-take-piece : tie.Need-slice-reshare-prefix-take-piece Inv-loop μ-loop
+slice-reshare-prefix-take-piece c = omega (arith, c .before .before .refill .ensures .fits, c .before .buffer .given)
 
-slice-aggregate-take : tie.Need-slice-aggregate-take Inv-loop μ-loop
-slice-aggregate-take c =
+slice-aggregate-take-piece : tie.Need-slice-aggregate-take-piece Inv-loop μ-loop
+slice-aggregate-take-piece c =
     let at-refill = c .before .before .before in
     part-long _ _ (omega (arith, at-refill .refill .ensures .fits, c .before .before .buffer .given))
 
-slice-aggregate-take-2 : tie.Need-slice-aggregate-take-2 Inv-loop μ-loop
-slice-aggregate-take-2 c = search needs
+slice-aggregate-take-piece-2 : tie.Need-slice-aggregate-take-piece-2 Inv-loop μ-loop
+slice-aggregate-take-piece-2 c = search needs
 
-slice-aggregate-take-3 : tie.Need-slice-aggregate-take-3 Inv-loop μ-loop
-slice-aggregate-take-3 c = search needs
+slice-aggregate-take-piece-3 : tie.Need-slice-aggregate-take-piece-3 Inv-loop μ-loop
+slice-aggregate-take-piece-3 c = search needs
 
-take-requires : tie.Need-take-requires Inv-loop μ-loop
-take-requires c κs =
+take-piece-requires : tie.Need-take-piece-requires Inv-loop μ-loop
+take-piece-requires c κs =
     let at-buffer = c .before .before .before .before in
     let f = at-buffer .before in
     turn-begins textProgram (f .before .before .before .loop .inv .0) (f .refill .ensures) (at-buffer .buffer .given)
 
 array-share-prefix-out : tie.Need-array-share-prefix-out Inv-loop μ-loop
-array-share-prefix-out c = omega (arith, c .before .before .take .ensures .within .room, c .out2 .given)
+array-share-prefix-out c = omega (arith, c .before .before .take-piece .ensures .within .room, c .out2 .given)
 
 slice-aggregate-write : tie.Need-slice-aggregate-write Inv-loop μ-loop
-slice-aggregate-write c = part-long _ _ (omega (arith, c .before .before .before .take .ensures .within .room))
+slice-aggregate-write c = part-long _ _ (omega (arith, c .before .before .before .take-piece .ensures .within .room))
 
 write-requires : tie.Need-write-requires Inv-loop μ-loop
 write-requires c κs = tt
@@ -72,27 +72,27 @@ lost-requires c κs = tt
 is-over-requires : tie.Need-is-over-requires Inv-loop μ-loop
 is-over-requires c κs = tt
 
-goes-on-requires : tie.Need-goes-on-requires Inv-loop μ-loop
-goes-on-requires c κs = tt
+reads-on-requires : tie.Need-reads-on-requires Inv-loop μ-loop
+reads-on-requires c κs = tt
 
 -- the step, and the read before it
-abbrev turned : tie.After-goes-on Inv-loop μ-loop → tie.After-take Inv-loop μ-loop
+abbrev turned : tie.After-reads-on Inv-loop μ-loop → tie.After-take-piece Inv-loop μ-loop
 turned c = c .before .before .before .before .before .before .before
 
-abbrev filled : tie.After-take Inv-loop μ-loop → tie.After-refill Inv-loop μ-loop
+abbrev filled : tie.After-take-piece Inv-loop μ-loop → tie.After-refill Inv-loop μ-loop
 filled t = t .before .before .before .before .before .before
 
 -- why no further turn comes
-stopped-why : (c : tie.After-goes-on Inv-loop μ-loop) → c .goes-on .result ≡ false → (c .before .before .lost .result ≡ true) ⊎ (filled (turned c) .refill .result .count ≡ 0) ⊎ (isOver (turned c .take .result .session) ≡ true)
-stopped-why c e = ⊎-elim inl (λ r. inr (⊎-elim inl (λ o. inr (sym (c .before .is-over .ensures) ∙ o)) r)) (c .goes-on .ensures .1 e)
+stopped-why : (c : tie.After-reads-on Inv-loop μ-loop) → c .reads-on .result ≡ false → (c .before .before .lost .result ≡ true) ⊎ (filled (turned c) .refill .result .count ≡ 0) ⊎ (isOver (turned c .take-piece .result .session) ≡ true)
+stopped-why c e = ⊎-elim inl (λ r. inr (⊎-elim inl (λ o. inr (sym (c .before .is-over .ensures) ∙ o)) r)) (c .reads-on .ensures .1 e)
 
 loop-less : tie.Need-loop-less Inv-loop μ-loop
 loop-less c =
     let t = turned c in
     let at-buffer = t .before .before .before .before .before in
     let f = filled t in
-    turn-less textProgram (f .before .before .before .loop .inv .0) (f .refill .ensures) (at-buffer .buffer .given) (f .before .before .loop-test .taken) (t .take .ensures) text-bounded
-    (λ e. let g = c .goes-on .ensures .0 e in (g .0, sym (c .before .is-over .ensures) ∙ g .2))
+    turn-less textProgram (f .before .before .before .loop .inv .0) (f .refill .ensures) (at-buffer .buffer .given) (f .before .before .loop-test .taken) (t .take-piece .ensures) text-bounded
+    (λ e. let g = c .reads-on .ensures .0 e in (g .0, sym (c .before .is-over .ensures) ∙ g .2))
 
 loop-again : tie.Need-loop-again Inv-loop μ-loop
 loop-again c =
@@ -102,7 +102,7 @@ loop-again c =
     let k = f .before .before .before .loop .inv in
     let at-out = c .before .before .before .before .before in
     let at-line = at-out .before in (
-      turn-again textProgram (k .0) (f .refill .ensures) (at-buffer .buffer .given) (f .before .before .loop-test .taken) (t .take .ensures) (at-line .line2 .given ∙ sym (k .0 .long)) (at-out .out2 .given ∙ sym (k .2)) (λ e. c .goes-on .ensures .0 e .1),
+      turn-again textProgram (k .0) (f .refill .ensures) (at-buffer .buffer .given) (f .before .before .loop-test .taken) (t .take-piece .ensures) (at-line .line2 .given ∙ sym (k .0 .long)) (at-out .out2 .given ∙ sym (k .2)) (λ e. c .reads-on .ensures .0 e .1),
       at-buffer .buffer .given ∙ k .1,
       at-out .out2 .given,
       λ e. record { why = stopped-why c e; whole = λ l. c .before .before .lost .ensures .0 l },
@@ -114,14 +114,14 @@ same-length c = c .before .before .loop .inv .1
 returns : tie.Need-returns Inv-loop μ-loop
 returns c = inl refl
 
-slice-aggregate-finish : tie.Need-slice-aggregate-finish Inv-loop μ-loop
-slice-aggregate-finish c = search needs
+slice-aggregate-end-input : tie.Need-slice-aggregate-end-input Inv-loop μ-loop
+slice-aggregate-end-input c = search needs
 
-slice-aggregate-finish-2 : tie.Need-slice-aggregate-finish-2 Inv-loop μ-loop
-slice-aggregate-finish-2 c = search needs
+slice-aggregate-end-input-2 : tie.Need-slice-aggregate-end-input-2 Inv-loop μ-loop
+slice-aggregate-end-input-2 c = search needs
 
-finish-requires : tie.Need-finish-requires Inv-loop μ-loop
-finish-requires c κs =
+end-input-requires : tie.Need-end-input-requires Inv-loop μ-loop
+end-input-requires c κs =
     let k = c .before .before .before .before .loop .inv .0 in
     (turns-came textProgram k (c .before .before .if1 .left), (k .long, k .fits, k .none, k .free))
 
@@ -129,7 +129,7 @@ same-length-2 : tie.Need-same-length-2 Inv-loop μ-loop
 same-length-2 c = c .before .before .before .before .before .before .loop .inv .1
 
 returns-2 : tie.Need-returns-2 Inv-loop μ-loop
-returns-2 c = ⊎-elim inl (λ e. inr (_, e)) (c .before .finish .ensures .ending)
+returns-2 c = ⊎-elim inl (λ e. inr (_, e)) (c .before .end-input .ensures .ending)
 
 pub run-spec : {M : Type 1} → statement M
 run-spec =
@@ -141,23 +141,23 @@ run-spec =
     begin-requires
     loop-holds
     refill-requires
-    slice-reshare-prefix-take
-    slice-aggregate-take
-    slice-aggregate-take-2
-    slice-aggregate-take-3
-    take-requires
+    slice-reshare-prefix-take-piece
+    slice-aggregate-take-piece
+    slice-aggregate-take-piece-2
+    slice-aggregate-take-piece-3
+    take-piece-requires
     array-share-prefix-out
     slice-aggregate-write
     write-requires
     lost-requires
     is-over-requires
-    goes-on-requires
+    reads-on-requires
     loop-less
     loop-again
     same-length
     returns
-    slice-aggregate-finish
-    slice-aggregate-finish-2
-    finish-requires
+    slice-aggregate-end-input
+    slice-aggregate-end-input-2
+    end-input-requires
     same-length-2
     returns-2)

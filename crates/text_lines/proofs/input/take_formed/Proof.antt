@@ -11,14 +11,14 @@ enum-told c = search needs
 number-requires : tie.Need-number-requires
 number-requires c κs = search needs
 
-take-requires : tie.Need-take-requires
-take-requires c κs = search needs
+take-width-requires : tie.Need-take-width-requires
+take-width-requires c κs = search needs
 
 enum-told-2 : tie.Need-enum-told-2
 enum-told-2 c = search needs
 
-take-requires-2 : tie.Need-take-requires-2
-take-requires-2 c κs = search needs
+take-between-requires : tie.Need-take-between-requires
+take-between-requires c κs = search needs
 
 enum-told-3 : tie.Need-enum-told-3
 enum-told-3 c = search needs
@@ -36,13 +36,13 @@ returns : tie.Need-returns
 unfolding formed
 returns c =
     let start = c .before .before .before .before .before in
-    (c .take .ensures .0 ∙ ap (widthTaken (start .args .state)) (c .before .number .ensures) ∙ sym (ap (λ p. formed p (start .args .state) (start .args .line .now)) (c .before .before .enum-told .given .1)), c .take .ensures .1)
+    (c .take-width .ensures .0 ∙ ap (widthTaken (start .args .state)) (c .before .number .ensures) ∙ sym (ap (λ p. formed p (start .args .state) (start .args .line .now)) (c .before .before .enum-told .given .1)), c .take-width .ensures .1)
 
 returns-2 : tie.Need-returns-2
 unfolding formed
 returns-2 c =
     let start = c .before .before .before .before in
-    (c .take2 .ensures .0 ∙ sym (ap (λ p. formed p (start .args .state) (start .args .line .now)) (c .before .enum-told2 .given .1)), c .take2 .ensures .1)
+    (c .take-between .ensures .0 ∙ sym (ap (λ p. formed p (start .args .state) (start .args .line .now)) (c .before .enum-told2 .given .1)), c .take-between .ensures .1)
 
 returns-3 : tie.Need-returns-3
 unfolding formed
@@ -62,9 +62,9 @@ take-formed-spec =
     (tie.spec
     enum-told
     number-requires
-    take-requires
+    take-width-requires
     enum-told-2
-    take-requires-2
+    take-between-requires
     enum-told-3
     bad-form-requires
     enum-told-4

@@ -3,7 +3,7 @@ use borrow.Author.Needs.{needs}
 use native.Mathlib.Omega.{arith}
 use mathlib.Core.Path.{_≡_, refl, ap}
 use lib.ListN.{length}
-use Rattle.text_runs.specs.State.{given}
+use Rattle.text_runs.specs.State.{resultOf}
 use Rattle.feeding.specs.Text.{sessionAfter}
 use Rattle.text_pieces.proofs.TextLaws.{text-part}
 use Rattle.text_pieces.proofs.piece.put.Statement.{statement}
@@ -12,29 +12,29 @@ use Rattle.text_pieces.proofs.piece.put.Tie as tie
 text-long : (c : tie.After-text) → length (c .before .before .args .given .text) ≡ 2048
 text-long c = search needs
 
-part : (c : tie.After-text) → c .before .before .args .given .length ≡ length (given (c .before .before .args .given) .1)
+part : (c : tie.After-text) → c .before .before .args .given .length ≡ length (resultOf (c .before .before .args .given) .1)
 part c = text-part (c .before .before .args .given) (omega (arith, text-long c))
 
 array-share-prefix-text : tie.Need-array-share-prefix-text
 array-share-prefix-text c = omega (arith, text-long (c .before .before))
 
 slice-aggregate-printed : tie.Need-slice-aggregate-printed
-unfolding given
+unfolding resultOf
 slice-aggregate-printed c = part (c .before .before .before)
 
 after-requires : tie.Need-after-requires
-unfolding given
+unfolding resultOf
 after-requires c κs = omega (arith, part (c .before .before .before))
 
 bytes-requires : tie.Need-bytes-requires
-unfolding given
+unfolding resultOf
 bytes-requires c κs = let at-text = c .before .before .before .before .before in omega (arith, part at-text)
 
 same-length : tie.Need-same-length
 same-length c = c .before .out .given
 
 returns : tie.Need-returns
-unfolding given sessionAfter
+unfolding resultOf sessionAfter
 returns c =
     let at-after = c .before .before .before .before in
     let t = at-after .before .before .before .before in

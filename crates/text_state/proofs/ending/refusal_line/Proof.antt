@@ -7,7 +7,7 @@ use Rattle.integers.proofs.Held.{held-ok}
 use Rattle.decimal.proofs.PutLaws.{put-none, put-as, put-then}
 use Rattle.text_runs.specs.Lines.{refusedTag}
 use Rattle.text_runs.specs.Way.{rowLine}
-use Rattle.feeding.specs.Ending.{refusalLine}
+use Rattle.feeding.specs.Ending.{endingLine}
 use Rattle.text_state.proofs.EndingLaws.{refused-as}
 use Rattle.text_state.proofs.ending.refusal_line.Statement.{statement}
 use Rattle.text_state.proofs.ending.refusal_line.Tie as tie
@@ -34,25 +34,25 @@ row-line-requires : tie.Need-row-line-requires
 row-line-requires c κs = search needs
 
 returns : tie.Need-returns
-unfolding refusalLine
-returns c = (put-as _ _ _ _ (sym (ap refusalLine (c .enum-told .given .1))) (put-none _ _), omega arith)
+unfolding endingLine
+returns c = (put-as _ _ _ _ (sym (ap endingLine (c .enum-told .given .1))) (put-none _ _), omega arith)
 
 returns-2 : tie.Need-returns-2
-unfolding refusalLine
-returns-2 c = (put-as _ _ _ _ (sym (ap refusalLine (c .enum-told2 .given .1))) (put-none _ _), omega arith)
+unfolding endingLine
+returns-2 c = (put-as _ _ _ _ (sym (ap endingLine (c .enum-told2 .given .1))) (put-none _ _), omega arith)
 
 same-length : tie.Need-same-length
 same-length c = c .before .text2 .given ∙ c .before .before .before .before .before .before .text .given
 
 returns-3 : tie.Need-returns-3
-unfolding refusalLine refusedTag rowLine
+unfolding endingLine refusedTag rowLine
 returns-3 c =
     let n = c .before .before in
     let b = n .before .before .before .before .before in
     let t = b .before .before .before in
     let x = t .before .ending .given in
     let same = refused-as (held-ok w32 _ (t .known-told .given .0 .1) .is) (held-ok w32 _ (t .known-told .given .1 .0 .1) .is) (held-ok w32 _ (t .known-told .given .1 .1 .0 .1) .is) in (
-      put-as _ _ _ _ (ap refusalLine same ∙ sym (ap refusalLine (x .1))) (put-then (b .bytes .ensures) (n .row-line .ensures .0)),
+      put-as _ _ _ _ (ap endingLine same ∙ sym (ap endingLine (x .1))) (put-then (b .bytes .ensures) (n .row-line .ensures .0)),
       omega (arith, b .bytes .ensures .count, n .row-line .ensures .1),
     )
 

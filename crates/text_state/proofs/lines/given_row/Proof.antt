@@ -23,17 +23,17 @@ returns c =
     let s = c .before .before .before .before in
     (c .by .ensures .0 ∙ ap (refused (s .args .state)) (told-pair _ (c .before .before .before .number .ensures) (c .before .place .ensures)) ∙ works-not _ _ _ (λ e. c .before .before .if1 .taken (c .before .before .before .number .ensures ∙ e)), c .by .ensures .1)
 
-slice-aggregate-shown : tie.Need-slice-aggregate-shown
-slice-aggregate-shown c = search needs
+slice-aggregate-shown-row : tie.Need-slice-aggregate-shown-row
+slice-aggregate-shown-row c = search needs
 
-shown-requires : tie.Need-shown-requires
-shown-requires c κs = search needs
+shown-row-requires : tie.Need-shown-row-requires
+shown-row-requires c κs = search needs
 
 returns-2 : tie.Need-returns-2
 unfolding rowGiven withRun
 returns-2 c =
     let at-if1 = c .before .before .before .before .before in
-    (given-text _ _ _ _ (c .before .shown .ensures .0) ∙ works _ _ _ (sym (at-if1 .before .number .ensures) ∙ at-if1 .if1 .left), omega (arith, c .before .shown .ensures .1))
+    (given-text _ _ _ _ (c .before .shown-row .ensures .0) ∙ works _ _ _ (sym (at-if1 .before .number .ensures) ∙ at-if1 .if1 .left), omega (arith, c .before .shown-row .ensures .1))
 
 pub given-row-spec : {M : Type 1} → statement M
 given-row-spec =
@@ -43,6 +43,6 @@ given-row-spec =
     place-requires
     by-requires
     returns
-    slice-aggregate-shown
-    shown-requires
+    slice-aggregate-shown-row
+    shown-row-requires
     returns-2)

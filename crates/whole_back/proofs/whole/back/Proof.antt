@@ -12,7 +12,7 @@ use Rattle.runs.specs.Record.{frameLimit}
 use Rattle.runs.proofs.RecordLaws.{width-pos}
 use Rattle.runs.proofs.WholeLaws.{whole-blocks}
 use Rattle.gate.proofs.AskedLaws.{parts-width, parts-whole, parts-most, parts-least}
-use Rattle.asking_back.specs.Own.Ready.{Frames}
+use Rattle.asking_back.specs.Own.Ready.{WholeFrames}
 use Rattle.asking_back.proofs.FrameCounts.{one-frame}
 use Rattle.whole_back.proofs.LoopLaws.{parts-refused}
 use Rattle.runs.proofs.WholeBackLaws.{whole-output-refused, lengths-passed}
@@ -46,7 +46,7 @@ module _ (e : tie.Else1) where
   remainder : length (frames start) % N start ≡ 0
   remainder = parts-whole (N start) (length (frames start)) _ _ _ (asked .in-parts .ensures) none
 
-  whole : Frames (N start) (frames start)
+  whole : WholeFrames (N start) (frames start)
   whole = record {
     wide = omega (arith, has-width);
     whole = whole-blocks (N start) (frames start) remainder;

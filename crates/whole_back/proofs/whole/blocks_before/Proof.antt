@@ -11,7 +11,7 @@ use Rattle.tables.specs.Widths.{halfWidth}
 use Rattle.steps.specs.Steps.{unstages, unfolded}
 use Rattle.runs.specs.declared.record.Run.{Run}
 use Rattle.runs.specs.Record.{blockLimit, frameLimit, opened}
-use Rattle.runs.specs.Gate.{Given}
+use Rattle.runs.specs.Gate.{CallResult}
 use Rattle.runs.proofs.Searches.{all-within}
 use Rattle.runs.proofs.RecordLaws.{width-pos}
 use Rattle.gate.proofs.FaultLaws.{few-readings, block-next, block-in, no-block, block-long, part-is}
@@ -142,7 +142,7 @@ module _ (h : tie.After-z Inv-loop μ-loop) where
       step .give-back .ensures .1
       ∙ ap (λ (l : List ℤ). unfolded (N (from here)) (low here) (drop (halfWidth (N (from here))) (unstages (N (from here)) l))) (part-is (place here) (N (from here)) (frames (from here)))
 
-  given : _≡_ {A = Given} ((0, 0), after, block) (takenBack (run here) (part here) (out here))
+  given : _≡_ {A = CallResult} ((0, 0), after, block) (takenBack (run here) (part here) (out here))
   given = ap₂ (λ (l w : List ℤ). ((0, 0), opened (N (from here)) (suc (suc (before here))) l, w)) kept-is block-is ∙ sym (accepted inside .given)
 
   next : suc (before here) ≡ behind (N (from here)) (frames (from here)) (here .loop .blocks - 1)

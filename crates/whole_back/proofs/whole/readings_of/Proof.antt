@@ -12,7 +12,7 @@ use Rattle.tables.proofs.Reading.{half-is}
 use Rattle.steps.specs.Limits.{foldedLimit}
 use Rattle.slices.proofs.Parts.{part-long, front, front-long, front-le}
 use Rattle.runs.specs.Record.{zeros, opened}
-use Rattle.gate.specs.Own.Ready.{Blocks}
+use Rattle.gate.specs.Own.Ready.{WholeBlocks}
 use Rattle.runs.specs.Forward.{started}
 use Rattle.gate.proofs.GateLaws.{rest-part}
 use Rattle.gate.proofs.FaultLaws.{width-room, half-room}
@@ -161,7 +161,7 @@ blocks-before-requires c κs =
     let s = start a in (
       s .pre .0,
       (
-        subst (Blocks (N s)) (sym (rest s)) (rest-blocks (N s) (frames s) (out s) (s .pre .1 .0) (s .pre .1 .1 .0)),
+        subst (WholeBlocks (N s)) (sym (rest s)) (rest-blocks (N s) (frames s) (out s) (s .pre .1 .0) (s .pre .1 .1 .0)),
         (
           (
             ap length (stored a) ∙ held-long a ∙ half-wide s,

@@ -10,7 +10,7 @@ use Rattle.tables.specs.Widths.{halfWidth}
 use Rattle.runs.specs.Answers.{told}
 use Rattle.gate.specs.declared.questions.Fault.the-variants.{Clear}
 use Rattle.gate.specs.Own.Faults.{toldFault, firstFault}
-use Rattle.gate.specs.Own.Ready.{Blocks}
+use Rattle.gate.specs.Own.Ready.{WholeBlocks}
 use Rattle.runs.specs.Whole.{WholeRun}
 use Rattle.runs.specs.Record.{blockLimit}
 use Rattle.runs.proofs.RecordLaws.{width-le}
@@ -54,7 +54,7 @@ module _ (e : tie.Else1) where
   few : length (readings start) / N start ≤ blockLimit
   few = parts-most (N start) (length (readings start)) _ _ _ (asked .in-parts .ensures) none
 
-  blocks : Blocks (N start) (readings start)
+  blocks : WholeBlocks (N start) (readings start)
   blocks = record { wide = wide; whole = whole-blocks (N start) (readings start) whole; some = few }
 
 -- the lengths are right

@@ -34,17 +34,17 @@ module _ (p : tie.After-put-arg Inv-loop μ-loop) where
   left : turn .loop .i + 4 ≤ turn .before .args .half
   left = within turn (p .before .before .before .loop-test .taken)
 
-  first-are : listed (p .before .taken .result) ≡ places 4 (λ j. at (turn .before .args .room .now) (turn .loop .i + j))
-  first-are = p .before .taken .ensures ∙ places-ext 4 _ _ (λ j l. turn .loop .inv .2 .old (turn .loop .i + j) (omega (arith, left)))
+  first-are : listed (p .before .four-at .result) ≡ places 4 (λ j. at (turn .before .args .room .now) (turn .loop .i + j))
+  first-are = p .before .four-at .ensures ∙ places-ext 4 _ _ (λ j l. turn .loop .inv .2 .old (turn .loop .i + j) (omega (arith, left)))
 
-  first-small : Within (2 ^ 62 - 1) (listed (p .before .taken .result))
+  first-small : Within (2 ^ 62 - 1) (listed (p .before .four-at .result))
   first-small = subst (Within (2 ^ 62 - 1)) (sym first-are) (within-places 4 _ _ (λ j l. turn .before .pre .2 .small (turn .loop .i + j) (omega arith) (omega (arith, left))))
 
 loop-holds : tie.Need-loop-holds Inv-loop μ-loop
 loop-holds c = (omega arith, refl, written-none _ _ _)
 
-taken-requires : tie.Need-taken-requires Inv-loop μ-loop
-taken-requires c κs = let k = c .before .before in omega (arith, k .before .pre .1, within k (c .before .loop-test .taken), long k)
+four-at-requires : tie.Need-four-at-requires Inv-loop μ-loop
+four-at-requires c κs = let k = c .before .before in omega (arith, k .before .pre .1, within k (c .before .loop-test .taken), long k)
 
 add-put : tie.Need-add-put Inv-loop μ-loop
 add-put c = omega (arith, turn c .before .pre .1, left c, long (turn c))
@@ -86,7 +86,7 @@ half-turn-on-spec =
     Inv-loop
     μ-loop
     loop-holds
-    taken-requires
+    four-at-requires
     add-put
     negated-requires
     put-requires
