@@ -3,3 +3,4 @@ pub mod Products
 pub mod Rooms
 pub mod Leaf
 pub mod Whole
+pub mod Tables

@@ -23,7 +23,7 @@ use Rattle.tables.proofs.Sizes.{cosine-size, secant-size}
 use Rattle.products.specs.Own.Products.{Power}
 use Rattle.products.specs.Own.Rooms.{Small, Written}
 use Rattle.products.specs.Own.Whole.{LeafLists}
-use Rattle.product_lists.specs.Own.Tables.{Tabled}
+use Rattle.products.specs.Own.Tables.{Tabled}
 use Rattle.products.proofs.LevelRooms.{power-same}
 use Rattle.width_tables.specs.Orders.{angleAt}
 use Rattle.width_tables.specs.Filled.{leavesLong, listRoom, cosineList, secantList}

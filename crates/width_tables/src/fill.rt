@@ -14,7 +14,7 @@ use crate::order;
 use constants::sines;
 use constants::tangents;
 use constants::widths;
-use product_lists::lists;
+use products::lists;
 
 // How many numbers that is.
 pub fn tables_long(width: usize) -> usize

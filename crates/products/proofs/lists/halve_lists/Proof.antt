@@ -1,11 +1,11 @@
--- `product_lists::lists::halve_lists` meets its contract.
+-- `products::lists::halve_lists` meets its contract.
 use native.Mathlib.Omega.{arith}
 use native.Mathlib.Nat.{mul-le-mul-right}
 use Prim.Native.Nat.{_+_, _*_, _≤_}
-use Rattle.product_lists.proofs.TableLaws.{middles-small, halved-laid}
+use Rattle.products.proofs.TableLaws.{middles-small, halved-laid}
 use borrow.Author.Needs.{needs}
-use Rattle.product_lists.proofs.lists.halve_lists.Statement.{statement}
-use Rattle.product_lists.proofs.lists.halve_lists.Tie as tie
+use Rattle.products.proofs.lists.halve_lists.Statement.{statement}
+use Rattle.products.proofs.lists.halve_lists.Tie as tie
 
 add-subtract : tie.Need-add-subtract
 add-subtract c =

@@ -1,16 +1,16 @@
--- `product_lists::lists::put_nine` meets its contract.
+-- `products::lists::put_nine` meets its contract.
 use mathlib.Core.Path.{_∙_}
 use Prim.Native.Nat.{_+_}
 use lib.ListN.{length-set}
 use mir.Syntax.{w64}
 use Rattle.integers.specs.Places.{at}
 use Rattle.integers.proofs.Held.{held-ok}
 use Rattle.products.specs.Own.Leaf.{listedNine}
 use Rattle.slices.proofs.FourLaws.{four-places}
-use Rattle.product_lists.proofs.TableLaws.{written-nine}
+use Rattle.products.proofs.TableLaws.{written-nine}
 use borrow.Author.Needs.{needs}
-use Rattle.product_lists.proofs.lists.put_nine.Statement.{statement}
-use Rattle.product_lists.proofs.lists.put_nine.Tie as tie
+use Rattle.products.proofs.lists.put_nine.Statement.{statement}
+use Rattle.products.proofs.lists.put_nine.Tie as tie
 
 same-length : tie.Need-same-length
 same-length c = let at-put = c .before .before .before .before in length-set (c .before .put2 .last .0) _ _ ∙ c .before .put2 .kept .0 ∙ at-put .put .kept .0

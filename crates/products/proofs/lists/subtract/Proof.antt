@@ -1,8 +1,8 @@
--- `product_lists::lists::subtract` meets its contract.
+-- `products::lists::subtract` meets its contract.
 use borrow.Author.Needs.{needs}
 use Rattle.slices.specs.Own.Moves.{moved}
-use Rattle.product_lists.proofs.lists.subtract.Statement.{statement}
-use Rattle.product_lists.proofs.lists.subtract.Tie as tie
+use Rattle.products.proofs.lists.subtract.Statement.{statement}
+use Rattle.products.proofs.lists.subtract.Tie as tie
 
 returns : tie.Need-returns
 unfolding moved

@@ -1,13 +1,13 @@
--- `product_lists::lists::nines` meets its contract.
+-- `products::lists::nines` meets its contract.
 use native.Mathlib.Omega.{arith}
 use mathlib.Core.Path.{_≡_, subst}
 use Prim.Native.Nat.{_-_, _^_, _≤_}
 use Rattle.products.specs.Own.Rooms.{AllWritten}
 use Rattle.slices.proofs.FourLaws.{listed-within}
 use Rattle.products.proofs.RoomLaws.{all-written-none}
-use Rattle.product_lists.proofs.TableLaws.{ninesOf, nines-next, nines-laid}
-use Rattle.product_lists.proofs.lists.nines.Statement.{statement}
-use Rattle.product_lists.proofs.lists.nines.Tie as tie
+use Rattle.products.proofs.TableLaws.{ninesOf, nines-next, nines-laid}
+use Rattle.products.proofs.lists.nines.Statement.{statement}
+use Rattle.products.proofs.lists.nines.Tie as tie
 
 abbrev Inv-loop : tie.InvT-loop
 Inv-loop lists out₀ k v₀ out v = (v ≤ k) × AllWritten (ninesOf lists) 0 9 v out₀ out

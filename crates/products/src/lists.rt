@@ -5,14 +5,14 @@ ghost use Prim.Native.Nat.{ℕ, _+_, _-_, _*_, _%_, _^_, _≤_, _<_};
 ghost use lib.IntN.{natAbs, _-ℤ_};
 ghost use lib.ListN.{length, take};
 ghost use Rattle.integers.specs.Places.{at, Within};
 ghost use Rattle.products.specs.Own.Products.{Lists, Laid, Power, downL, tables};
 ghost use Rattle.products.specs.Own.Rooms.{Small, Written, AllWritten, AllSpread};
 ghost use Rattle.slices.specs.Own.Fours.{listed};
 ghost use Rattle.products.specs.Own.Leaf.{listedNine};
 ghost use Rattle.products.specs.Own.Whole.{LeafLists};
-ghost use Rattle.product_lists.specs.Own.Tables.{middles, Tabled};
-use products::leaf::Nine;
-use products::levels;
+ghost use Rattle.products.specs.Own.Tables.{middles, Tabled};
+use crate::leaf::Nine;
+use crate::levels;
 use slices::fours;
 use slices::fours::Four;
 

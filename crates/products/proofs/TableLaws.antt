@@ -13,17 +13,17 @@ use lib.Seq.{getD-set-same, getD-set-other, getD-append-add, getD-take}
 use Rattle.integers.specs.Places.{at, places, Within}
 use Rattle.integers.proofs.PlaceLaws.{at-places, places-ext}
 use Rattle.slices.specs.declared.fours.Four.{Four}
 use Rattle.products.specs.declared.leaf.Nine.{Nine}
 use Rattle.products.specs.Own.Leaf.{listedNine}
 use Rattle.slices.specs.Own.Fours.{listed, stored}
 use Rattle.products.specs.Own.Products.{Lists, Laid, Power, downL, wide, tables, nine}
 use Rattle.products.specs.Own.Rooms.{Small, Written, AllWritten, AllSpread}
 use Rattle.products.specs.Own.Whole.{LeafLists}
-use Rattle.product_lists.specs.Own.Tables.{middles, Tabled, TablesHalved}
+use Rattle.products.specs.Own.Tables.{middles, Tabled, TablesHalved}
 use Rattle.slices.proofs.FourLaws.{next-four, length-stored}
 use Rattle.products.proofs.RoomLaws.{written-none, written-next, next-one, all-written-next}
 use Rattle.products.proofs.LevelLaws.{wide-top, wide-leaf, wide-times, differing-size}
 use Rattle.products.proofs.LevelRooms.{level-room, wide-some, laid-small, top-level, half-is, half, next-level, next-room, next-count, last-level}
 
 -- ---- nine numbers stored one behind the other: four, four and one
 pub written-nine : (f : ℕ → ℤ) {r r′ r″ : List ℤ} {p : ℕ} {low high : Four} {z : ℤ} → r′ ≡ stored r p low → r″ ≡ stored r′ (p + 4) high → p + 9 ≤ length r

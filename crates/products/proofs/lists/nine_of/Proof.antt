@@ -1,14 +1,14 @@
--- `product_lists::lists::nine_of` meets its contract.
+-- `products::lists::nine_of` meets its contract.
 use Prim.Native.Nat.{ℕ, _^_}
 use mir.Syntax.{w64}
 use mir.Val.{ofZ}
 use Rattle.integers.specs.Places.{at}
 use Rattle.integers.proofs.Num.{Num, num, num-sub, sub-asks}
 use Rattle.products.specs.Own.Products.{nine}
 use Rattle.slices.specs.Own.Fours.{listed}
-use Rattle.product_lists.proofs.TableLaws.{nine-same}
-use Rattle.product_lists.proofs.lists.nine_of.Statement.{statement}
-use Rattle.product_lists.proofs.lists.nine_of.Tie as tie
+use Rattle.products.proofs.TableLaws.{nine-same}
+use Rattle.products.proofs.lists.nine_of.Statement.{statement}
+use Rattle.products.proofs.lists.nine_of.Tie as tie
 
 module _ (s : tie.Start) where
   x : (i : ℕ) → Num w64 (2 ^ 60) (ofZ w64 (at (listed (s .args .x)) i)) (at (listed (s .args .x)) i)

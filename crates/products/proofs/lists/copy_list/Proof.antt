@@ -1,14 +1,14 @@
--- `product_lists::lists::copy_list` meets its contract.
+-- `products::lists::copy_list` meets its contract.
 use native.Mathlib.Omega.{arith}
 use mathlib.Core.Path.{_≡_, refl, sym, ap, subst, _∙_}
 use Prim.Native.Nat.{_+_, _-_, _%_, _≤_, _<_}
 use lib.ListN.{length}
 use Rattle.integers.specs.Places.{at}
 use Rattle.integers.proofs.PlaceLaws.{places-ext}
 use Rattle.products.specs.Own.Rooms.{Written}
 use Rattle.products.proofs.RoomLaws.{written-none, written-next}
-use Rattle.product_lists.proofs.lists.copy_list.Statement.{statement}
-use Rattle.product_lists.proofs.lists.copy_list.Tie as tie
+use Rattle.products.proofs.lists.copy_list.Statement.{statement}
+use Rattle.products.proofs.lists.copy_list.Tie as tie
 
 abbrev Inv-loop : tie.InvT-loop
 Inv-loop room₀ from to h i₀ room i = (i ≤ h) × (i % 4 ≡ 0) × Written (λ j. at room₀ (from + j)) to i room₀ room

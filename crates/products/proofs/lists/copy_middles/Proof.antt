@@ -1,15 +1,15 @@
--- `product_lists::lists::copy_middles` meets its contract.
+-- `products::lists::copy_middles` meets its contract.
 use native.Mathlib.Omega.{arith}
 use native.Mathlib.Nat.{mul-le-mul-right}
 use mathlib.Core.Path.{_≡_, subst, subst₂}
 use Prim.Native.Nat.{_+_, _-_, _*_, _≤_, _<_}
 use lib.ListN.{length}
 use Rattle.integers.specs.Places.{at}
 use Rattle.products.specs.Own.Rooms.{Written, AllWritten}
-use Rattle.product_lists.specs.Own.Tables.{middles}
+use Rattle.products.specs.Own.Tables.{middles}
 use Rattle.products.proofs.RoomLaws.{all-written-none, all-written-next}
-use Rattle.product_lists.proofs.lists.copy_middles.Statement.{statement}
-use Rattle.product_lists.proofs.lists.copy_middles.Tie as tie
+use Rattle.products.proofs.lists.copy_middles.Statement.{statement}
+use Rattle.products.proofs.lists.copy_middles.Tie as tie
 
 abbrev Inv-loop : tie.InvT-loop
 Inv-loop room₀ k q h n from₀ to₀ v₀ room from to v = (v ≤ k) × (from ≡ v * (q + q + (q + q)) + q) × (to ≡ k * (q + q + (q + q)) + v * (q + q)) × AllWritten (middles q room₀) (k * (q + q + (q + q))) (q + q) v room₀ room

@@ -1,11 +1,11 @@
--- `product_lists::lists::leaf_lists` meets its contract.
+-- `products::lists::leaf_lists` meets its contract.
 use mathlib.Core.Path.{sym, subst}
 use Prim.Native.Nat.{_*_, _≤_}
 use lib.ListN.{length}
-use Rattle.product_lists.proofs.TableLaws.{leaves-small, leaf-lists}
+use Rattle.products.proofs.TableLaws.{leaves-small, leaf-lists}
 use borrow.Author.Needs.{needs}
-use Rattle.product_lists.proofs.lists.leaf_lists.Statement.{statement}
-use Rattle.product_lists.proofs.lists.leaf_lists.Tie as tie
+use Rattle.products.proofs.lists.leaf_lists.Statement.{statement}
+use Rattle.products.proofs.lists.leaf_lists.Tie as tie
 
 nines-requires : tie.Need-nines-requires
 nines-requires c κs =
