@@ -7,13 +7,13 @@ ghost use Rattle.integers.specs.Places.{Within};
 ghost use Rattle.tables.specs.Widths.{halfWidth};
 ghost use Rattle.steps.specs.Limits.{foldedLimit};
 ghost use Rattle.width_tables.specs.Filled.{Filled};
-ghost use Rattle.width_tables.specs.Own.Parts.{TwoHalves, Room};
 ghost use Rattle.runs.specs.Answers.{told, firstBeyond};
 ghost use Rattle.runs.specs.Record.{frameLimit, zeros, opened};
 ghost use Rattle.runs.specs.Forward.{started};
 ghost use Rattle.runs.specs.Back.{takenBack};
 ghost use Rattle.runs.specs.Answers;
 ghost use Rattle.runs.specs.WholeBack.{firstAnswer};
+ghost use Rattle.frames.specs.Own.WideRoom.{WideRoom};
 ghost use Rattle.asking_back.specs.Own.Ready.{WholeFrames, toldHeld};
 use frames::step;
 use frames::undo;
@@ -69,8 +69,6 @@ fn answer_of(
     frames: &[i32],
     held: &mut [i64],
     block: &mut [i32],
-    folded: &mut [i64],
-    wide: &mut [i64],
     top: &mut [i64],
     bottom: &mut [i64],
     y: &mut [i64],
@@ -79,9 +77,8 @@ fn answer_of(
     requires { ⌜ Filled width (now t) ⌝ }
     requires { ⌜ now held ≡ zeros (halfWidth width) ⌝ }
     requires { ⌜ WholeFrames width (now frames) ⌝ }
-    requires { ⌜ (length (now folded) ≡ width) × (length (now wide) ≡ width) × (length (now block) ≡ width) ⌝ }
-    requires { ⌜ TwoHalves width (now top) (now bottom) ⌝ }
-    requires { ⌜ Room width (now y) (now z) ⌝ }
+    requires { ⌜ length (now block) ≡ width ⌝ }
+    requires { ⌜ WideRoom width (now top) (now bottom) (now y) (now z) ⌝ }
     ensures { λ r. ⌜ told r ≡ firstAnswer width (now (frames .entry)) (zeros (length (now (frames .entry)) - width)) ⌝ }
 {
     let mut at = 0;
@@ -96,8 +93,6 @@ fn answer_of(
             &frames[at..end],
             held,
             block,
-            folded,
-            wide,
             top,
             bottom,
             y,
@@ -122,8 +117,6 @@ pub fn first_answer(width: usize, t: &[i64], frames: &[i32]) -> Answer
     let half = width / 2;
     let mut held = record::nothing_held();
     let mut block = step::zero_block();
-    let mut folded = room::of_128();
-    let mut wide = room::of_128();
     let mut top = room::of_64();
     let mut bottom = room::of_64();
     let mut y = room::of_648();
@@ -134,8 +127,6 @@ pub fn first_answer(width: usize, t: &[i64], frames: &[i32]) -> Answer
         frames,
         &mut held[..half],
         &mut block[..width],
-        &mut folded[..width],
-        &mut wide[..width],
         &mut top[..half],
         &mut bottom[..half],
         &mut y,
@@ -149,8 +140,6 @@ pub fn first_frame(
     t: &[i64],
     frame: &[i32],
     held: &mut [i64],
-    folded: &mut [i64],
-    wide: &mut [i64],
     top: &mut [i64],
     bottom: &mut [i64],
     y: &mut [i64],
@@ -159,9 +148,7 @@ pub fn first_frame(
     requires { ⌜ 0 < halfWidth width ⌝ }
     requires { ⌜ Filled width (now t) ⌝ }
     requires { ⌜ (length (now frame) ≡ width) × (now held ≡ zeros (halfWidth width)) ⌝ }
-    requires { ⌜ (length (now folded) ≡ width) × (length (now wide) ≡ width) ⌝ }
-    requires { ⌜ TwoHalves width (now top) (now bottom) ⌝ }
-    requires { ⌜ Room width (now y) (now z) ⌝ }
+    requires { ⌜ WideRoom width (now top) (now bottom) (now y) (now z) ⌝ }
     ensures { λ _. ⌜ (takenBack (started width .1) (now (frame .entry)) (zeros width) .0 .0 ≡ 0 → (opened width 1 (now (held .exit)) ≡ takenBack (started width .1) (now (frame .entry)) (zeros width) .1) × Within foldedLimit (now (held .exit))) ⌝ }
 {
     let mut block = step::zero_block();
@@ -172,8 +159,6 @@ pub fn first_frame(
         frame,
         held,
         &mut block[..width],
-        folded,
-        wide,
         top,
         bottom,
         y,

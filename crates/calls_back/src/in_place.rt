@@ -32,8 +32,6 @@ fn in_small_room(
     let half = width / 2;
     let long = fill::tables_long(width);
     let mut t = room::of_274();
-    let mut folded = room::of_36();
-    let mut wide = room::of_36();
     let mut top = room::of_16();
     let mut bottom = room::of_16();
     let mut y = room::of_72();
@@ -46,8 +44,6 @@ fn in_small_room(
         frame,
         held,
         block,
-        &mut folded[..width],
-        &mut wide[..width],
         &mut top[..half],
         &mut bottom[..half],
         &mut y,
@@ -62,7 +58,6 @@ fn in_large_room(
     held: &mut [i64],
     block: &mut [i32],
 ) -> Answer
-    requires { ⌜ width ≤ 128 ⌝ }
     requires { ⌜ 0 < halfWidth width ⌝ }
     requires { ⌜ (length (now frame) ≡ width) × (length (now held) ≡ halfWidth width) × (length (now block) ≡ width) ⌝ }
     requires { ⌜ Within foldedLimit (now held) ⌝ }
@@ -71,8 +66,6 @@ fn in_large_room(
     let half = width / 2;
     let long = fill::tables_long(width);
     let mut t = room::of_1906();
-    let mut folded = room::of_128();
-    let mut wide = room::of_128();
     let mut top = room::of_64();
     let mut bottom = room::of_64();
     let mut y = room::of_648();
@@ -85,8 +78,6 @@ fn in_large_room(
         frame,
         held,
         block,
-        &mut folded[..width],
-        &mut wide[..width],
         &mut top[..half],
         &mut bottom[..half],
         &mut y,

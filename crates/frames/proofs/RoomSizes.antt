@@ -1,31 +1,34 @@
 -- Room to work in: how much each width takes, and the parts of it that are lent.
-use mathlib.Core.Path.{_≡_, sym, _∙_}
-use mathlib.Core.List.{List}
-use Prim.Native.Nat.{ℕ, _/_, _≤_, _<_}
+use mathlib.Core.Path.{_≡_, sym, ap, _∙_}
+use mathlib.Core.List.{List, _++_}
+use Prim.Native.Nat.{ℕ, _+_, _/_, _≤_, _<_}
 use native.Mathlib.Omega.{arith}
 use lib.IntN.{ℤ}
-use lib.ListN.{length, take}
+use lib.ListN.{length, take, drop, length-append, take-append-drop}
 use Rattle.tables.specs.Widths.{halfWidth}
 use Rattle.tables.proofs.ByWidth.{half-width-le}
 use Rattle.tables.proofs.Reading.{half-is}
 use Rattle.width_tables.specs.Filled.{tablesLong, listRoom, productRoom}
 use Rattle.width_tables.specs.Own.Parts.{TwoHalves, Room}
 use Rattle.slices.proofs.Parts.{part-long}
+use Rattle.runs.proofs.RecordLaws.{width-le}
+use Rattle.frames.specs.Own.WideRoom.{WideRoom}
 use Rattle.frames.proofs.RoomLaws.{half-small, tables-small, tables-le, lists-small, lists-le, product-small, product-le, halves-lent}
 
--- arrays of these lengths have room for all that a width takes, for half of it, and for a list or a product
+-- arrays of these lengths have room for all that a width takes, for half of it, and for a list, a product or a block
 pub record Wide (N tables half list : ℕ) : Type 0 where
   pub wide : 0 < halfWidth N
   pub for-tables : tablesLong N ≤ tables
   pub for-half : halfWidth N ≤ half
   pub for-list : listRoom N ≤ list
   pub for-product : productRoom N ≤ list
+  pub for-block : N ≤ list
 
 pub small-room : (N : ℕ) → 0 < halfWidth N → N ≤ 32 → Wide N 274 16 72
-small-room N w h = record { wide = w; for-tables = tables-small N h; for-half = half-small N h; for-list = lists-small N h; for-product = product-small N h }
+small-room N w h = record { wide = w; for-tables = tables-small N h; for-half = half-small N h; for-list = lists-small N h; for-product = product-small N h; for-block = omega (arith, h) }
 
 pub large-room : (N : ℕ) → 0 < halfWidth N → Wide N 1906 64 648
-large-room N w = record { wide = w; for-tables = tables-le N; for-half = half-width-le N; for-list = lists-le N; for-product = product-le N }
+large-room N w = record { wide = w; for-tables = tables-le N; for-half = half-width-le N; for-list = lists-le N; for-product = product-le N; for-block = omega (arith, width-le N w) }
 
 -- what the width takes is filled into the front of an array
 module _ {N tables half list : ℕ} (r : Wide N tables half list) (long : ℕ) (e : long ≡ tablesLong N) where
@@ -34,6 +37,10 @@ module _ {N tables half list : ℕ} (r : Wide N tables half list) (long : ℕ) (
 
   pub fill-asks : (t room : List ℤ) → tables ≡ length t → list ≡ length room → (0 < halfWidth N) × (length (take long t) ≡ tablesLong N) × (listRoom N ≤ length room)
   fill-asks t room l k = (r .wide, sym (part-long long t (tables-in t l)) ∙ e, omega (arith, r .for-list))
+
+-- a list of which the front was lent is as long afterwards
+pub front-kept : (n : ℕ) (xs front : List ℤ) → length front ≡ length (take n xs) → length xs ≡ length (front ++ drop n xs)
+front-kept n xs front h = ap length (sym (take-append-drop n xs)) ∙ length-append (take n xs) (drop n xs) ∙ ap (λ (k : ℕ). k + length (drop n xs)) (sym h) ∙ sym (length-append front (drop n xs))
 
 -- ---- the room that a step is lent: halves, from the front of two arrays, and two arrays for a product each
 pub record Lent (half list : ℕ) (top bottom y z : List ℤ) : Type 0 where
@@ -54,3 +61,6 @@ module _ {N tables half list : ℕ} (r : Wide N tables half list) {top bottom y 
 
   pub lent-room : Room N y z
   lent-room = record { y-long = omega (arith, r .for-product, l .y-long); z-long = omega (arith, r .for-product, l .z-long) }
+
+  pub lent-wide : WideRoom N (take (N / 2) top) (take (N / 2) bottom) y z
+  lent-wide = record { halves = lent-halves; products = lent-room; y-wide = omega (arith, r .for-block, l .y-long); z-wide = omega (arith, r .for-block, l .z-long) }

@@ -1,16 +1,16 @@
 // A frame to its folded values: question 9, and the five stages undone. t has what the width takes; top and bottom are room for the halves, y and z
-// for a product each.
+// for a product each. The folded values lie in the front of y, where nothing is needed once the products are made.
 ghost use mathlib.Core.Path.{_≡_};
 ghost use Prim.Native.Nat.{_%_, _≤_, _<_};
 ghost use lib.IntN.{pos};
-ghost use lib.ListN.{length};
+ghost use lib.ListN.{length, take};
 ghost use Rattle.integers.specs.Places.{Within};
 ghost use Rattle.tables.specs.Widths.{halfWidth};
 ghost use Rattle.width_tables.specs.Filled.{Filled};
 ghost use Rattle.steps.specs.Limits.{coefficientLimit};
 ghost use Rattle.steps.specs.Steps.{unstages};
-ghost use Rattle.width_tables.specs.Own.Parts.{TwoHalves, Room};
 ghost use Rattle.runs.specs.Answers.{firstBeyond};
+ghost use Rattle.frames.specs.Own.WideRoom.{WideRoom};
 use gate::limits;
 use gate::questions;
 use runs::answer::Found;
@@ -28,7 +28,6 @@ pub fn unstages(
     width: usize,
     t: &[i64],
     given: &[i32],
-    out: &mut [i64],
     top: &mut [i64],
     bottom: &mut [i64],
     y: &mut [i64],
@@ -36,15 +35,14 @@ pub fn unstages(
 )
     requires { ⌜ 0 < halfWidth width ⌝ }
     requires { ⌜ Filled width (now t) ⌝ }
-    requires { ⌜ TwoHalves width (now top) (now bottom) ⌝ }
-    requires { ⌜ Room width (now y) (now z) ⌝ }
-    requires { ⌜ (length (now given) ≡ width) × (length (now out) ≡ width) ⌝ }
+    requires { ⌜ WideRoom width (now top) (now bottom) (now y) (now z) ⌝ }
+    requires { ⌜ length (now given) ≡ width ⌝ }
     requires { ⌜ Within coefficientLimit (now given) ⌝ }
-    ensures { λ _. ⌜ now (out .exit) ≡ Rattle.steps.specs.Steps.unstages width (now (given .entry)) ⌝ }
+    ensures { λ _. ⌜ take width (now (y .exit)) ≡ Rattle.steps.specs.Steps.unstages width (now (given .entry)) ⌝ }
 {
     let half = width / 2;
     vectors::widen(&given[..half], top);
     vectors::widen(&given[half..], bottom);
     stages::stages::backward(width, t, top, bottom, y, z);
-    vectors::interleave(top, bottom, out);
+    vectors::interleave(top, bottom, &mut y[..width]);
 }

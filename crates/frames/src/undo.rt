@@ -7,10 +7,10 @@ ghost use Rattle.tables.specs.Widths.{halfWidth};
 ghost use Rattle.steps.specs.Limits.{foldedLimit};
 ghost use Rattle.steps.specs.Steps;
 ghost use Rattle.width_tables.specs.Filled.{Filled};
-ghost use Rattle.width_tables.specs.Own.Parts.{TwoHalves, Room};
 ghost use Rattle.runs.specs.Answers.{told};
 ghost use Rattle.runs.specs.Record.{nextCount, opened};
 ghost use Rattle.runs.specs.Back.{unfoldedIn, undoneIn};
+ghost use Rattle.frames.specs.Own.WideRoom.{WideRoom};
 ghost use Rattle.frames.specs.Own.Unrefused.{Unrefused};
 use crate::transform;
 use fold::folding;
@@ -94,8 +94,6 @@ pub fn undo(
     frame: &[i32],
     held: &mut [i64],
     block: &mut [i32],
-    folded: &mut [i64],
-    wide: &mut [i64],
     top: &mut [i64],
     bottom: &mut [i64],
     y: &mut [i64],
@@ -103,22 +101,22 @@ pub fn undo(
 ) -> Answer
     requires { ⌜ 0 < halfWidth width ⌝ }
     requires { ⌜ Filled width (now t) ⌝ }
-    requires { ⌜ (length (now frame) ≡ width) × (length (now held) ≡ halfWidth width) × (length (now folded) ≡ width) × (length (now wide) ≡ width) × (length (now block) ≡ width) ⌝ }
-    requires { ⌜ TwoHalves width (now top) (now bottom) ⌝ }
-    requires { ⌜ Room width (now y) (now z) ⌝ }
+    requires { ⌜ (length (now frame) ≡ width) × (length (now held) ≡ halfWidth width) × (length (now block) ≡ width) ⌝ }
+    requires { ⌜ WideRoom width (now top) (now bottom) (now y) (now z) ⌝ }
     requires { ⌜ Within foldedLimit (now held) ⌝ }
     ensures { λ r. ⌜ (told r, opened width (nextCount (told r .0) count) (now (held .exit)), now (block .exit)) ≡ undoneIn (opened width count (now (held .entry))) (now (frame .entry)) (now (block .entry)) ⌝ }
 {
-    let coefficient = transform::coefficient_beyond(frame, folded);
+    let coefficient = transform::coefficient_beyond(frame, &mut y[..width]);
     if let Found::At(place) = coefficient {
         return Answer::Range(place);
     }
-    transform::unstages(width, t, frame, folded, top, bottom, y, z);
+    transform::unstages(width, t, frame, top, bottom, y, z);
+    let folded = &y[..width];
     let value = questions::first_beyond(folded, limits::FOLDED_LIMIT);
     if let Found::At(place) = value {
         return Answer::Folded(place);
     }
-    unfolded_in(width, count, t, folded, held, wide, block)
+    unfolded_in(width, count, t, folded, held, &mut z[..width], block)
 }
 
 // The same of a frame behind others of which it is known that no question refuses it: nothing is asked.
@@ -128,8 +126,6 @@ pub fn give_back(
     frame: &[i32],
     held: &mut [i64],
     block: &mut [i32],
-    folded: &mut [i64],
-    wide: &mut [i64],
     top: &mut [i64],
     bottom: &mut [i64],
     y: &mut [i64],
@@ -137,14 +133,14 @@ pub fn give_back(
 )
     requires { ⌜ 0 < halfWidth width ⌝ }
     requires { ⌜ Filled width (now t) ⌝ }
-    requires { ⌜ (length (now frame) ≡ width) × (length (now held) ≡ halfWidth width) × (length (now folded) ≡ width) × (length (now wide) ≡ width) × (length (now block) ≡ width) ⌝ }
-    requires { ⌜ TwoHalves width (now top) (now bottom) ⌝ }
-    requires { ⌜ Room width (now y) (now z) ⌝ }
+    requires { ⌜ (length (now frame) ≡ width) × (length (now held) ≡ halfWidth width) × (length (now block) ≡ width) ⌝ }
+    requires { ⌜ WideRoom width (now top) (now bottom) (now y) (now z) ⌝ }
     requires { ⌜ Within foldedLimit (now held) ⌝ }
     requires { ⌜ Unrefused width (now held) (now frame) ⌝ }
     ensures { λ _. ⌜ (now (held .exit) ≡ take (halfWidth width) (Steps.unstages width (now (frame .entry)))) × (now (block .exit) ≡ Steps.unfolded width (now (held .entry)) (drop (halfWidth width) (Steps.unstages width (now (frame .entry))))) ⌝ }
 {
-    transform::unstages(width, t, frame, folded, top, bottom, y, z);
-    block_between(width, t, folded, held, wide);
-    write(folded, wide, held, block);
+    transform::unstages(width, t, frame, top, bottom, y, z);
+    let folded = &y[..width];
+    block_between(width, t, folded, held, &mut z[..width]);
+    write(folded, &z[..width], held, block);
 }

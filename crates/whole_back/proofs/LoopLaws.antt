@@ -11,6 +11,7 @@ use lib.Dec.{eqb, ltb, leb}
 use lib.IntN.{ℤ}
 use lib.ListN.{length, take, drop, length-drop}
 use lib.Seq.{take-all, drop-drop}
+use Rattle.integers.proofs.PlaceLaws.{within-all}
 use Rattle.tables.specs.Widths.{halfWidth}
 use Rattle.runs.specs.Answers.{told}
 use Rattle.runs.specs.declared.answer.Answer.{Answer}
@@ -24,10 +25,12 @@ use Rattle.gate.proofs.AskedLaws as Asked
 use Rattle.gate.proofs.AskedLaws.{all-whole, whole-all}
 use Rattle.runs.proofs.RecordLaws.{width-le, width-pos}
 use Rattle.runs.proofs.WholeLaws.{whole-blocks, some-blocks}
+use Rattle.runs.proofs.AcceptedLaws.{LaterAccepted}
 use Rattle.runs.proofs.OneByOne.{outputs-next, first-behind, outputs-behind}
 use Rattle.gate.proofs.PartLaws.{written, written-front, written-rest}
 use Rattle.runs.specs.Back.{takenBack}
 use Rattle.runs.specs.WholeBack.{answerFrom, outputsFrom, allOutputs, firstAnswer, wholeBack}
+use Rattle.frames.specs.Own.Unrefused.{Unrefused}
 use Rattle.asking_back.specs.Own.Ready.{WholeFrames}
 
 -- ---- questions 1 and 6: at least one part of the width is at least one number
@@ -96,3 +99,7 @@ module _ (N : ℕ) (frames out : List ℤ) (f : WholeFrames N frames) (r : lengt
 
   pub outputs-left : outputsFrom N after (length (drop N frames) / N) (drop N frames) out ≡ drop N (allOutputs N frames out)
   outputs-left = ap (λ (n : ℕ). outputsFrom N after n (drop N frames) out) (rest-count N frames out f r) ∙ sym (outputs-behind N _ frames out (one-block-less N frames out f r) after e)
+
+-- ---- a frame that a call accepts is refused by no question
+pub accepted-unrefused : {N b : ℕ} {low frame out : List ℤ} → LaterAccepted N b low frame out → Unrefused N low frame
+accepted-unrefused a = record { coefficients = within-all _ _ (a .coefficients); values = within-all _ _ (a .values); readings = within-all _ _ (a .readings .within) }

@@ -6,11 +6,11 @@ ghost use Rattle.integers.specs.Places.{Within};
 ghost use Rattle.tables.specs.Widths.{halfWidth};
 ghost use Rattle.steps.specs.Limits.{foldedLimit};
 ghost use Rattle.width_tables.specs.Filled.{Filled};
-ghost use Rattle.width_tables.specs.Own.Parts.{TwoHalves, Room};
 ghost use Rattle.runs.specs.Answers.{told};
 ghost use Rattle.runs.specs.Record.{opened};
 ghost use Rattle.gate.specs.Own.Ready.{WholeBlocks};
 ghost use Rattle.runs.specs.WholeBack.{answerFrom, outputsFrom, firstAnswer, allOutputs, backOneByOne, wholeBack};
+ghost use Rattle.frames.specs.Own.WideRoom.{WideRoom};
 ghost use Rattle.asking_back.specs.Own.Ready.{WholeFrames};
 use asking_back::asking;
 use frames::undo;
@@ -28,8 +28,6 @@ fn blocks_before(
     frames: &[i32],
     held: &mut [i64],
     readings: &mut [i32],
-    folded: &mut [i64],
-    wide: &mut [i64],
     top: &mut [i64],
     bottom: &mut [i64],
     y: &mut [i64],
@@ -37,9 +35,8 @@ fn blocks_before(
 )
     requires { ⌜ Filled width (now t) ⌝ }
     requires { ⌜ WholeBlocks width (now frames) ⌝ }
-    requires { ⌜ (length (now held) ≡ halfWidth width) × (length (now folded) ≡ width) × (length (now wide) ≡ width) × (length (now readings) ≡ length (now frames)) ⌝ }
-    requires { ⌜ TwoHalves width (now top) (now bottom) ⌝ }
-    requires { ⌜ Room width (now y) (now z) ⌝ }
+    requires { ⌜ (length (now held) ≡ halfWidth width) × (length (now readings) ≡ length (now frames)) ⌝ }
+    requires { ⌜ WideRoom width (now top) (now bottom) (now y) (now z) ⌝ }
     requires { ⌜ Within foldedLimit (now held) ⌝ }
     requires { ⌜ answerFrom width width (opened width 1 (now held)) (length (now frames) / width) (now frames) (now readings) .0 ≡ 0 ⌝ }
     ensures { λ _. ⌜ now (readings .exit) ≡ outputsFrom width (opened width 1 (now (held .entry))) (length (now (frames .entry)) / width) (now (frames .entry)) (now (readings .entry)) ⌝ }
@@ -54,8 +51,6 @@ fn blocks_before(
             &frames[at..end],
             held,
             &mut readings[at..end],
-            folded,
-            wide,
             top,
             bottom,
             y,
@@ -76,8 +71,6 @@ fn readings_of(width: usize, t: &[i64], frames: &[i32], readings: &mut [i32])
 {
     let half = width / 2;
     let mut held = record::nothing_held();
-    let mut folded = room::of_128();
-    let mut wide = room::of_128();
     let mut top = room::of_64();
     let mut bottom = room::of_64();
     let mut y = room::of_648();
@@ -87,8 +80,6 @@ fn readings_of(width: usize, t: &[i64], frames: &[i32], readings: &mut [i32])
         t,
         &frames[..width],
         &mut held[..half],
-        &mut folded[..width],
-        &mut wide[..width],
         &mut top[..half],
         &mut bottom[..half],
         &mut y,
@@ -100,8 +91,6 @@ fn readings_of(width: usize, t: &[i64], frames: &[i32], readings: &mut [i32])
         &frames[width..],
         &mut held[..half],
         readings,
-        &mut folded[..width],
-        &mut wide[..width],
         &mut top[..half],
         &mut bottom[..half],
         &mut y,

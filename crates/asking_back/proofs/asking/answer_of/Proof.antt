@@ -20,7 +20,7 @@ use Rattle.runs.proofs.AnswerLaws.{taken-place}
 use Rattle.runs.proofs.BackLaws.{started-back, ReachedBack, back-first}
 use Rattle.asking_back.proofs.FrameCounts.{few-numbers, one-frame}
 use Rattle.runs.proofs.OneByOne.{answer-here, answer-next, answer-end}
-use Rattle.asking_back.proofs.RoomLaws.{SameRoom, halves-same, room-same}
+use Rattle.asking_back.proofs.RoomLaws.{SameRoom, still-room}
 use Rattle.asking_back.proofs.Undoing.{low-within, frame-taken, run-after, reached-after, end-told}
 use Rattle.asking_back.proofs.asking.answer_of.Statement.{statement}
 use Rattle.asking_back.proofs.asking.answer_of.Tie as tie
@@ -30,16 +30,16 @@ abbrev outs : ℕ → List ℤ → List ℤ
 outs width frames = zeros width ++ zeros (length frames - width)
 
 abbrev Inv-loop : tie.InvT-loop
-Inv-loop width t frames held₀ block₀ folded₀ wide₀ top₀ bottom₀ y₀ z₀ at₀ count₀ left₀ held block folded wide top bottom y z at count left =
+Inv-loop width t frames held₀ block₀ top₀ bottom₀ y₀ z₀ at₀ count₀ left₀ held block top bottom y z at count left =
     (at + left * width ≡ length frames)
     × (count + left ≡ length frames / width)
     × ReachedBack width count held
     × (length block ≡ length block₀)
-    × SameRoom folded₀ wide₀ top₀ bottom₀ y₀ z₀ folded wide top bottom y z
+    × SameRoom top₀ bottom₀ y₀ z₀ top bottom y z
     × (firstAnswer width frames (zeros (length frames - width)) ≡ answerFrom width at (opened width count held) left (drop at frames) (drop at (outs width frames)))
 
 abbrev μ-loop : tie.MeasureT-loop
-μ-loop width t frames held₀ block₀ folded₀ wide₀ top₀ bottom₀ y₀ z₀ at₀ count₀ left₀ held block folded wide top bottom y z at count left =
+μ-loop width t frames held₀ block₀ top₀ bottom₀ y₀ z₀ at₀ count₀ left₀ held block top bottom y z at count left =
     left
 
 module _ (s : tie.Start Inv-loop μ-loop) where
@@ -85,10 +85,10 @@ module _ (i : tie.In-loop Inv-loop μ-loop) where
 -- the frame step on the part lent: its answer and its record, whatever its output
 module _ (a : tie.After-z Inv-loop μ-loop) where
   abbrev step : tie.After-undo Inv-loop μ-loop
-  step = a .before .before .before .before .before .before .before .before
+  step = a .before .before .before .before .before .before
 
   abbrev inside : tie.In-loop Inv-loop μ-loop
-  inside = step .before .before .before .before .before .before .before .before .before .before
+  inside = step .before .before .before .before .before .before .before .before
 
   abbrev here : tie.At-loop Inv-loop μ-loop
   here = inside .before
@@ -106,7 +106,7 @@ module _ (a : tie.After-z Inv-loop μ-loop) where
   after = opened (N (from here)) (nextCount (told (step .undo .result) .0) (here .loop .count)) kept
 
   kept-long : length kept ≡ halfWidth (N (from here))
-  kept-long = let at-held = a .before .before .before .before .before .before .before in at-held .held .given ∙ here .loop .inv .2 .long
+  kept-long = let at-held = a .before .before .before .before .before in at-held .held .given ∙ here .loop .inv .2 .long
 
   undone : _≡_ {A = CallResult} (told (step .undo .result), after, step .undo .last .1 .1 .1 .1 .1 .0) (undoneIn (run here) part (here .loop .block))
   undone = step .undo .ensures ∙ ap (λ (f : List ℤ). undoneIn (run here) f (here .loop .block)) (part-is (place here) (N (from here)) (frames (from here)))
@@ -116,6 +116,9 @@ module _ (a : tie.After-z Inv-loop μ-loop) where
       frame-taken (N (from here)) (here .loop .count) (low here) kept part (here .loop .block) _ (step .undo .result) (here .loop .inv .2) (counted inside) kept-long undone other
       (block-long (place here) (N (from here)) (frames (from here)) (inner inside))
       (block-long (place here) (N (from here)) (others here) (omega (arith, outs-long (from here), inner inside)))
+
+  abbrev at-block : tie.After-block Inv-loop μ-loop
+  at-block = a .before .before .before .before
 
   more : here .loop .left ≡ suc (here .loop .left - 1)
   more = omega (arith, inside .loop-test .taken)
@@ -138,23 +141,18 @@ loop-holds c = (
   omega arith,
   subst (ReachedBack (N c) 0) (sym (c .pre .1 .0)) (back-first (N c) (c .pre .1 .1 .0 .wide)),
   refl,
-  record { folded-same = refl; wide-same = refl; top-same = refl; bottom-same = refl; y-same = refl; z-same = refl },
+  record { top-same = refl; bottom-same = refl; y-same = refl; z-same = refl },
   ap (λ (r : Run). answerFrom (N c) 0 r (length (frames c) / N c) (frames c) (outs (N c) (frames c))) (started-back (N c) (c .pre .1 .1 .0 .wide) ∙ ap (opened (N c) 0) (sym (c .pre .1 .0))),
 )
 
 undo-requires : tie.Need-undo-requires Inv-loop μ-loop
 undo-requires c κs =
-    let i = c .before .before .before .before .before .before .before .before .before in
+    let i = c .before .before .before .before .before .before .before in
     let k = at i in
     let s = from k in
-    let same = k .loop .inv .4 in
-    let long = s .pre .1 .1 .1 .0 in
     let frame-long = ap length (part-is (place k) (N s) (frames s)) ∙ block-long (place k) (N s) (frames s) (inner i) in
-    let folded-long = same .folded-same ∙ long .0 in
-    let wide-long = same .wide-same ∙ long .1 in
-    let halves = halves-same same (N s) (s .pre .1 .1 .1 .1 .0) in
-    let room = room-same same (N s) (s .pre .1 .1 .1 .1 .1) in
-    (s .pre .1 .1 .0 .wide, (s .pre .0, ((frame-long, k .loop .inv .2 .long, folded-long, wide-long, k .loop .inv .3 ∙ long .2), (halves, (room, low-within (k .loop .inv .2))))))
+    let room = still-room (k .loop .inv .4) (N s) (s .pre .1 .1 .1 .1) in
+    (s .pre .1 .1 .0 .wide, (s .pre .0, ((frame-long, k .loop .inv .2 .long, k .loop .inv .3 ∙ s .pre .1 .1 .1 .0), (room, low-within (k .loop .inv .2)))))
 
 placed-requires : tie.Need-placed-requires Inv-loop μ-loop
 placed-requires c κs =
@@ -182,10 +180,8 @@ loop-again c =
       block-next (place k) (k .loop .left) (N s) _ (k .loop .inv .0) (i .loop-test .taken),
       omega (arith, k .loop .inv .1, i .loop-test .taken),
       reached-after (N s) (k .loop .count) (low k) (kept a) (part a) (k .loop .block) _ (step a .undo .result) (k .loop .inv .2) (counted i) (kept-long a) (undone a) zero,
-      a .before .before .before .before .before .before .block .given ∙ k .loop .inv .3,
+      at-block a .block .given ∙ k .loop .inv .3,
       record {
-        folded-same = let at-folded = a .before .before .before .before .before in at-folded .folded .given ∙ k .loop .inv .4 .folded-same;
-        wide-same = let at-wide = a .before .before .before .before in at-wide .wide .given ∙ k .loop .inv .4 .wide-same;
         top-same = a .before .before .before .top .given ∙ k .loop .inv .4 .top-same;
         bottom-same = a .before .before .bottom .given ∙ k .loop .inv .4 .bottom-same;
         y-same = a .before .y .given ∙ k .loop .inv .4 .y-same;
@@ -225,9 +221,7 @@ answer-of-spec =
     (λ c κs. tt)
     placed-requires
     (λ c. let a = c .before .before .before in kept-long a ∙ sym (held-long (from (here a))))
-    (λ c. let a = c .before .before .before in let at-block = a .before .before .before .before .before .before in at-block .block .given ∙ here a .loop .inv .3)
-    (λ c. let a = c .before .before .before in let at-folded = a .before .before .before .before .before in at-folded .folded .given ∙ here a .loop .inv .4 .folded-same)
-    (λ c. let a = c .before .before .before in let at-wide = a .before .before .before .before in at-wide .wide .given ∙ here a .loop .inv .4 .wide-same)
+    (λ c. let a = c .before .before .before in at-block a .block .given ∙ here a .loop .inv .3)
     (λ c. let a = c .before .before .before in a .before .before .before .top .given ∙ here a .loop .inv .4 .top-same)
     (λ c. let a = c .before .before .before in a .before .before .bottom .given ∙ here a .loop .inv .4 .bottom-same)
     (λ c. let a = c .before .before .before in a .before .y .given ∙ here a .loop .inv .4 .y-same)
@@ -241,8 +235,6 @@ answer-of-spec =
     (λ c κs. let k = over (c .before) in (omega (arith, k .loop .inv .0, few (from k)), omega (arith, k .loop .inv .2 .long, half-width-le (N (from k)))))
     (λ c. let k = c .before .before .before in k .loop .inv .2 .long ∙ sym (held-long (from k)))
     (λ c. c .before .before .before .loop .inv .3)
-    (λ c. c .before .before .before .loop .inv .4 .folded-same)
-    (λ c. c .before .before .before .loop .inv .4 .wide-same)
     (λ c. c .before .before .before .loop .inv .4 .top-same)
     (λ c. c .before .before .before .loop .inv .4 .bottom-same)
     (λ c. c .before .before .before .loop .inv .4 .y-same)

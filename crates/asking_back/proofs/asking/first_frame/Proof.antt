@@ -46,16 +46,16 @@ module _ (c : tie.After-zero-block) where
 -- the frame undone
 module _ (a : tie.After-z) where
   abbrev step : tie.After-undo
-  step = a .before .before .before .before .before .before .before .before
+  step = a .before .before .before .before .before .before
 
   abbrev start : tie.Start
-  start = let earlier = step .before .before .before .before .before .before .before .before .before in from earlier
+  start = let earlier = step .before .before .before .before .before .before .before in from earlier
 
   abbrev kept : List ℤ
   kept = step .undo .last .1 .1 .1 .1 .0
 
   kept-long : length kept ≡ halfWidth (N start)
-  kept-long = let at-held = a .before .before .before .before .before .before .before in at-held .held .given ∙ begun start .long
+  kept-long = let at-held = a .before .before .before .before .before in at-held .held .given ∙ begun start .long
 
   given : _≡_ {A = CallResult} (takenBack (started (N start) .1) (frame start) (zeros (N start)))
       (told (step .undo .result), opened (N start) (nextCount (told (step .undo .result) .0) 0) kept, takenBack (opened (N start) 0 (low start)) (frame start) (zeros (N start)) .2)
@@ -81,14 +81,14 @@ slice-aggregate-undo c = let m = c .before .before in part-long _ (m .zero-block
 
 undo-requires : tie.Need-undo-requires
 undo-requires c κs =
-    let m = c .before .before .before .before .before .before .before .before in
+    let m = c .before .before .before .before .before .before in
     let s = from m in (
       s .pre .0,
       (
         s .pre .1 .0,
         (
-          (s .pre .1 .1 .0 .0, begun s .long, s .pre .1 .1 .1 .0 .0, s .pre .1 .1 .1 .0 .1, sym (part-long _ (m .zero-block .result) (block-in m))),
-          (s .pre .1 .1 .1 .1 .0, (s .pre .1 .1 .1 .1 .1, low-within (begun s))),
+          (s .pre .1 .1 .0 .0, begun s .long, sym (part-long _ (m .zero-block .result) (block-in m))),
+          (s .pre .1 .1 .1, low-within (begun s)),
         ),
       ),
     )
@@ -104,9 +104,7 @@ first-frame-spec =
     array-borrow-prefix-block
     slice-aggregate-undo
     undo-requires
-    (λ c. let at-held = c .before .before .before .before .before .before .before in at-held .held .given)
-    (λ c. let at-folded = c .before .before .before .before .before in at-folded .folded .given)
-    (λ c. let at-wide = c .before .before .before .before in at-wide .wide .given)
+    (λ c. let at-held = c .before .before .before .before .before in at-held .held .given)
     (λ c. c .before .before .before .top .given)
     (λ c. c .before .before .bottom .given)
     (λ c. c .before .y .given)

@@ -1,11 +1,10 @@
 -- `calls_back::in_place::undo_in` meets its contract.
 use borrow.Author.Needs.{needs}
-use Rattle.runs.proofs.RecordLaws.{width-le}
 use Rattle.calls_back.proofs.in_place.undo_in.Statement.{statement}
 use Rattle.calls_back.proofs.in_place.undo_in.Tie as tie
 
 in-large-room-requires : tie.Need-in-large-room-requires
-in-large-room-requires c κs = let s = c .before .before .before in (width-le (s .args .width) (s .pre .0), s .pre)
+in-large-room-requires c κs = c .before .before .before .pre
 
 returns-2 : tie.Need-returns-2
 returns-2 c = search needs

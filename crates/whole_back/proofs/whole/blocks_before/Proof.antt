@@ -6,7 +6,6 @@ use Prim.Native.Nat.{ℕ, suc, _+_, _-_, _*_, _/_, _≤_, _<_}
 use lib.IntN.{ℤ}
 use lib.ListN.{length, take, drop}
 use lib.Seq.{drop-drop}
-use Rattle.integers.proofs.PlaceLaws.{within-all}
 use Rattle.tables.specs.Widths.{halfWidth}
 use Rattle.steps.specs.Steps.{unstages, unfolded}
 use Rattle.runs.specs.declared.record.Run.{Run}
@@ -22,8 +21,8 @@ use Rattle.runs.proofs.BackLaws.{ReachedBack}
 use Rattle.runs.proofs.AcceptedLaws.{LaterAccepted, later-accepted}
 use Rattle.runs.proofs.OneByOne.{answer-next, here-taken}
 use Rattle.frames.specs.Own.Unrefused.{Unrefused}
-use Rattle.whole_back.proofs.LoopLaws.{blocks-next, no-blocks}
-use Rattle.asking_back.proofs.RoomLaws.{SameRoom, halves-same, room-same}
+use Rattle.whole_back.proofs.LoopLaws.{blocks-next, no-blocks, accepted-unrefused}
+use Rattle.asking_back.proofs.RoomLaws.{SameRoom, still-room}
 use Rattle.asking_back.proofs.Undoing.{low-within}
 use Rattle.whole_back.proofs.whole.blocks_before.Statement.{statement}
 use Rattle.whole_back.proofs.whole.blocks_before.Tie as tie
@@ -33,25 +32,24 @@ abbrev behind : ℕ → List ℤ → ℕ → ℕ
 behind N frames left = length frames / N - left
 
 abbrev Inv-loop : tie.InvT-loop
-Inv-loop width t frames held₀ readings₀ folded₀ wide₀ top₀ bottom₀ y₀ z₀ at₀ blocks₀ held readings folded wide top bottom y z at blocks =
+Inv-loop width t frames held₀ readings₀ top₀ bottom₀ y₀ z₀ at₀ blocks₀ held readings top bottom y z at blocks =
     (at + blocks * width ≡ length frames)
     × (blocks ≤ length frames / width)
     × ReachedBack width (suc (behind width frames blocks)) held
     × (length readings ≡ length frames)
-    × SameRoom folded₀ wide₀ top₀ bottom₀ y₀ z₀ folded wide top bottom y z
+    × SameRoom top₀ bottom₀ y₀ z₀ top bottom y z
     × (answerFrom width (at + width) (opened width (suc (behind width frames blocks)) held) blocks (drop at frames) (drop at readings) .0 ≡ 0)
     × (outputsFrom width (opened width 1 held₀) (length frames / width) frames readings₀
     ≡ take at readings ++ outputsFrom width (opened width (suc (behind width frames blocks)) held) blocks (drop at frames) (drop at readings))
 
 abbrev μ-loop : tie.MeasureT-loop
-μ-loop width t frames held₀ readings₀ folded₀ wide₀ top₀ bottom₀ y₀ z₀ at₀ blocks₀ held readings folded wide top bottom y z at blocks = blocks
+μ-loop width t frames held₀ readings₀ top₀ bottom₀ y₀ z₀ at₀ blocks₀ held readings top bottom y z at blocks = blocks
 
-module _ (s : tie.Start Inv-loop μ-loop) where
-  abbrev N : ℕ
-  N = s .args .width
+abbrev N : tie.Start Inv-loop μ-loop → ℕ
+N s = s .args .width
 
-  abbrev frames : List ℤ
-  frames = s .args .frames .now
+abbrev frames : tie.Start Inv-loop μ-loop → List ℤ
+frames s = s .args .frames .now
 
 module _ (k : tie.At-loop Inv-loop μ-loop) where
   abbrev from : tie.Start Inv-loop μ-loop
@@ -107,20 +105,13 @@ module _ (i : tie.In-loop Inv-loop μ-loop) where
       counted
       (here-taken (N (from at)) _ (run at) (drop (place at) (frames (from at))) (drop (place at) (readings at)) more refl (place at + N (from at)) (at .loop .inv .5))
 
-  unrefused : Unrefused (N (from at)) (low at) (part at)
-  unrefused = record {
-    coefficients = within-all _ _ (accepted .coefficients);
-    values = within-all _ _ (accepted .values);
-    readings = within-all _ _ (accepted .readings .within);
-  }
-
 -- the frame step on the parts lent
 module _ (h : tie.After-z Inv-loop μ-loop) where
   abbrev step : tie.After-give-back Inv-loop μ-loop
-  step = h .before .before .before .before .before .before .before .before
+  step = h .before .before .before .before .before .before
 
   abbrev inside : tie.In-loop Inv-loop μ-loop
-  inside = step .before .before .before .before .before .before .before .before .before .before
+  inside = step .before .before .before .before .before .before .before .before
 
   abbrev here : tie.At-loop Inv-loop μ-loop
   here = inside .before
@@ -160,23 +151,21 @@ loop-holds c =
         wide = c .pre .1 .0 .wide;
         counted = omega arith;
         long = c .pre .1 .1 .0 .0;
-        within = all-within _ _ (c .pre .1 .1 .1 .1 .1 .0);
+        within = all-within _ _ (c .pre .1 .1 .1 .1 .0);
         fresh = λ e. absurd (omega (arith, e));
       },
-      c .pre .1 .1 .0 .3,
-      record { folded-same = refl; wide-same = refl; top-same = refl; bottom-same = refl; y-same = refl; z-same = refl },
+      c .pre .1 .1 .0 .1,
+      record { top-same = refl; bottom-same = refl; y-same = refl; z-same = refl },
       subst (λ (n : ℕ). answerFrom (N c) (0 + N c) (opened (N c) n (c .args .held .now)) (length (frames c) / N c) (frames c) (c .args .readings .now) .0 ≡ 0) none
-          (subst (λ (n : ℕ). answerFrom (N c) n (opened (N c) 1 (c .args .held .now)) (length (frames c) / N c) (frames c) (c .args .readings .now) .0 ≡ 0) (omega arith) (c .pre .1 .1 .1 .1 .1 .1)),
+          (subst (λ (n : ℕ). answerFrom (N c) n (opened (N c) 1 (c .args .held .now)) (length (frames c) / N c) (frames c) (c .args .readings .now) .0 ≡ 0) (omega arith) (c .pre .1 .1 .1 .1 .1)),
       ap (λ (n : ℕ). outputsFrom (N c) (opened (N c) n (c .args .held .now)) (length (frames c) / N c) (frames c) (c .args .readings .now)) none,
     )
 
 give-back-requires : tie.Need-give-back-requires Inv-loop μ-loop
 give-back-requires c κs =
-    let i = c .before .before .before .before .before .before .before .before .before in
+    let i = c .before .before .before .before .before .before .before in
     let k = at i in
-    let s = from k in
-    let same = k .loop .inv .4 in
-    let long = s .pre .1 .1 .0 in (
+    let s = from k in (
       s .pre .1 .0 .wide,
       (
         s .pre .0,
@@ -184,16 +173,11 @@ give-back-requires c κs =
           (
             ap length (part-is (place k) (N s) (frames s)) ∙ block-long (place k) (N s) (frames s) (in-frames i),
             k .loop .inv .2 .long,
-            same .folded-same ∙ long .1,
-            same .wide-same ∙ long .2,
             ap length (part-is (place k) (N s) (readings k)) ∙ block-long (place k) (N s) (readings k) (in-readings i),
           ),
           (
-            halves-same same (N s) (s .pre .1 .1 .1 .0),
-            (
-              room-same same (N s) (s .pre .1 .1 .1 .1 .0),
-              (low-within (k .loop .inv .2), subst (Unrefused (N s) (low k)) (sym (part-is (place k) (N s) (frames s))) (unrefused i)),
-            ),
+            still-room (k .loop .inv .4) (N s) (s .pre .1 .1 .1 .0),
+            (low-within (k .loop .inv .2), subst (Unrefused (N s) (low k)) (sym (part-is (place k) (N s) (frames s))) (accepted-unrefused (accepted i))),
           ),
         ),
       ),
@@ -201,19 +185,17 @@ give-back-requires c κs =
 
 loop-again : tie.Need-loop-again Inv-loop μ-loop
 loop-again c =
-    let at-wide = c .before .before .before .before in
+    let at-readings = c .before .before .before .before in
     let i = inside c in
     let k = here c in
     let s = from k in
-    let long = at-wide .before .before .readings .given .0 ∙ ap length (part-is (place k) (N s) (readings k)) ∙ block-long (place k) (N s) (readings k) (in-readings i) in
+    let long = at-readings .readings .given .0 ∙ ap length (part-is (place k) (N s) (readings k)) ∙ block-long (place k) (N s) (readings k) (in-readings i) in
     let new = written (place k) (N s) (readings k) (block c) in (
       block-next (place k) (k .loop .blocks) (N s) _ (k .loop .inv .0) (i .loop-test .taken),
       omega (arith, k .loop .inv .1),
       subst (λ (n : ℕ). ReachedBack (N s) (suc n) (kept c)) (next c) (subst (ReachedBack (N s) (suc (suc (before k)))) (sym (kept-is c)) (accepted i .reached)),
-      at-wide .before .before .readings .given .1 ∙ k .loop .inv .3,
+      at-readings .readings .given .1 ∙ k .loop .inv .3,
       record {
-        folded-same = at-wide .before .folded .given ∙ k .loop .inv .4 .folded-same;
-        wide-same = at-wide .wide .given ∙ k .loop .inv .4 .wide-same;
         top-same = c .before .before .before .top .given ∙ k .loop .inv .4 .top-same;
         bottom-same = c .before .before .bottom .given ∙ k .loop .inv .4 .bottom-same;
         y-same = c .before .y .given ∙ k .loop .inv .4 .y-same;
@@ -234,11 +216,9 @@ loop-again c =
 returns : tie.Need-returns Inv-loop μ-loop
 returns c =
     let k = c .before in
-    let s = from k in
     let e : k .loop .blocks ≡ 0 = omega (arith, c .loop-test .left) in
-    sym
-    (k .loop .inv .6
-    ∙ no-blocks (N s) (place k) (k .loop .blocks) (run k) (drop (place k) (frames s)) (readings k) e (omega (arith, no-block (place k) (k .loop .blocks) (N s) _ (k .loop .inv .0) e, k .loop .inv .3)))
+    let all : length (readings k) ≤ place k = omega (arith, no-block (place k) (k .loop .blocks) (N (from k)) _ (k .loop .inv .0) e, k .loop .inv .3) in
+    sym (k .loop .inv .6 ∙ no-blocks (N (from k)) (place k) (k .loop .blocks) (run k) (drop (place k) (frames (from k))) (readings k) e all)
 
 pub blocks-before-spec : {M : Type 1} → statement M
 blocks-before-spec =
@@ -262,9 +242,7 @@ blocks-before-spec =
     (λ c. omega arith)
     loop-again
     (λ c. let k = c .before in k .loop .inv .2 .long ∙ sym (from k .pre .1 .1 .0 .0))
-    (λ c. let k = c .before in k .loop .inv .3 ∙ sym (from k .pre .1 .1 .0 .3))
-    (λ c. c .before .loop .inv .4 .folded-same)
-    (λ c. c .before .loop .inv .4 .wide-same)
+    (λ c. let k = c .before in k .loop .inv .3 ∙ sym (from k .pre .1 .1 .0 .1))
     (λ c. c .before .loop .inv .4 .top-same)
     (λ c. c .before .loop .inv .4 .bottom-same)
     (λ c. c .before .loop .inv .4 .y-same)

@@ -15,14 +15,14 @@ use Rattle.runs.specs.Record.{zeros, opened}
 use Rattle.gate.specs.Own.Ready.{WholeBlocks}
 use Rattle.runs.specs.Forward.{started}
 use Rattle.gate.proofs.GateLaws.{rest-part}
-use Rattle.gate.proofs.FaultLaws.{width-room, half-room}
+use Rattle.gate.proofs.FaultLaws.{half-room}
 use Rattle.gate.proofs.ReadyLaws.{none-held}
 use Rattle.runs.specs.Back.{takenBack}
 use Rattle.runs.specs.WholeBack.{answerFrom, outputsFrom}
 use Rattle.asking_back.proofs.FrameCounts.{one-frame}
 use Rattle.whole_back.proofs.LoopLaws.{one-block-less, rest-blocks, answer-left, outputs-left}
 use Rattle.runs.proofs.OneByOne.{first-yes}
-use Rattle.frames.proofs.RoomLaws.{product-le, halves-lent}
+use Rattle.frames.proofs.RoomSizes.{Wide, large-room, front-kept, Lent, top-le, bottom-le, lent-wide}
 use Rattle.whole_back.proofs.whole.readings_of.Statement.{statement}
 use Rattle.whole_back.proofs.whole.readings_of.Tie as tie
 
@@ -53,17 +53,14 @@ module _ (s : tie.Start) where
 
 -- the arrays made
 module _ (m : tie.After-of-6482) where
+  abbrev held-made : tie.After-nothing-held
+  held-made = m .before .before .before .before
+
   abbrev from : tie.Start
-  from = m .before .before .before .before .before .before .before
+  from = held-made .before
 
   abbrev held : List ℤ
-  held = let at-nothing-held = m .before .before .before .before .before .before in at-nothing-held .nothing-held .result
-
-  abbrev folded : List ℤ
-  folded = let at-of-128 = m .before .before .before .before .before in at-of-128 .of-128 .result
-
-  abbrev wide : List ℤ
-  wide = let at-of-1282 = m .before .before .before .before in at-of-1282 .of-1282 .result
+  held = held-made .nothing-held .result
 
   abbrev top : List ℤ
   top = m .before .before .before .of-64 .result
@@ -72,27 +69,21 @@ module _ (m : tie.After-of-6482) where
   bottom = m .before .before .of-642 .result
 
   held-in : half from ≤ length held
-  held-in = let at-nothing-held = m .before .before .before .before .before .before in half-room (N from) (half from) held (half-wide from) (ap length (at-nothing-held .nothing-held .ensures) ∙ length-replicate 64 (pos 0))
+  held-in = half-room (N from) (half from) held (half-wide from) (ap length (held-made .nothing-held .ensures) ∙ length-replicate 64 (pos 0))
 
-  folded-in : N from ≤ length folded
-  folded-in = let at-of-128 = m .before .before .before .before .before in width-room (N from) folded (from .pre .1 .0 .wide) (at-of-128 .of-128 .ensures)
+  fits : Wide (N from) 1906 64 648
+  fits = large-room (N from) (from .pre .1 .0 .wide)
 
-  wide-in : N from ≤ length wide
-  wide-in = let at-of-1282 = m .before .before .before .before in width-room (N from) wide (from .pre .1 .0 .wide) (at-of-1282 .of-1282 .ensures)
-
-  top-in : half from ≤ length top
-  top-in = half-room (N from) (half from) top (half-wide from) (sym (m .before .before .before .of-64 .ensures))
-
-  bottom-in : half from ≤ length bottom
-  bottom-in = half-room (N from) (half from) bottom (half-wide from) (sym (m .before .before .of-642 .ensures))
+  given : Lent 64 648 top bottom (m .before .of-648 .result) (m .of-6482 .result)
+  given = record { top-long = m .before .before .before .of-64 .ensures; bottom-long = m .before .before .of-642 .ensures; y-long = m .before .of-648 .ensures; z-long = m .of-6482 .ensures }
 
 -- behind the first frame
 module _ (c : tie.After-z2) where
   abbrev step : tie.After-first-frame
-  step = c .before .before .before .before .before .before .before
+  step = c .before .before .before .before .before
 
   abbrev made : tie.After-of-6482
-  made = step .before .before .before .before .before .before .before .before .before
+  made = step .before .before .before .before .before .before .before
 
   abbrev start : tie.Start
   start = from made
@@ -100,32 +91,29 @@ module _ (c : tie.After-z2) where
   abbrev kept : List ℤ
   kept = step .first-frame .last .1 .1 .1 .0
 
-  abbrev folded-left : List ℤ
-  folded-left = step .first-frame .last .1 .1 .1 .1 .0
-
-  abbrev wide-left : List ℤ
-  wide-left = step .first-frame .last .1 .1 .1 .1 .1 .0
-
   abbrev top-left : List ℤ
-  top-left = step .first-frame .last .1 .1 .1 .1 .1 .1 .0
+  top-left = step .first-frame .last .1 .1 .1 .1 .0
 
   abbrev bottom-left : List ℤ
-  bottom-left = step .first-frame .last .1 .1 .1 .1 .1 .1 .1 .0
+  bottom-left = step .first-frame .last .1 .1 .1 .1 .1 .0
+
+  abbrev top-after : List ℤ
+  top-after = top-left ++ drop (half start) (top made)
+
+  abbrev bottom-after : List ℤ
+  bottom-after = bottom-left ++ drop (half start) (bottom made)
 
   held-long : length kept ≡ half start
-  held-long = let at-held2 = c .before .before .before .before .before .before in at-held2 .held2 .given ∙ sym (part-long _ (held made) (held-in made))
+  held-long = let at-held2 = c .before .before .before .before in at-held2 .held2 .given ∙ sym (part-long _ (held made) (held-in made))
 
-  folded-long : length folded-left ≡ N start
-  folded-long = let at-folded2 = c .before .before .before .before .before in at-folded2 .folded2 .given ∙ sym (part-long _ (folded made) (folded-in made))
-
-  wide-long : length wide-left ≡ N start
-  wide-long = let at-wide2 = c .before .before .before .before in at-wide2 .wide2 .given ∙ sym (part-long _ (wide made) (wide-in made))
-
-  top-long : length top-left ≡ half start
-  top-long = c .before .before .before .top2 .given ∙ sym (part-long _ (top made) (top-in made))
-
-  bottom-long : length bottom-left ≡ half start
-  bottom-long = c .before .before .bottom2 .given ∙ sym (part-long _ (bottom made) (bottom-in made))
+  -- the room is as long as it was
+  left : Lent 64 648 top-after bottom-after (step .first-frame .last .1 .1 .1 .1 .1 .1 .0) (step .first-frame .last .1 .1 .1 .1 .1 .1 .1 .0)
+  left = record {
+    top-long = given made .top-long ∙ front-kept (half start) (top made) top-left (c .before .before .before .top2 .given);
+    bottom-long = given made .bottom-long ∙ front-kept (half start) (bottom made) bottom-left (c .before .before .bottom2 .given);
+    y-long = sym (c .before .y2 .given);
+    z-long = sym (c .z2 .given);
+  }
 
   stored : take (half start) (kept ++ drop (half start) (held made)) ≡ kept
   stored = front (half start) kept (drop (half start) (held made)) held-long
@@ -135,49 +123,35 @@ module _ (c : tie.After-z2) where
 
 first-frame-requires : tie.Need-first-frame-requires
 first-frame-requires c κs =
-    let m = c .before .before .before .before .before .before .before .before in
-    let s = from m in
-    let w = s .pre .1 .0 .wide in (
-      w,
+    let m = c .before .before .before .before .before .before in
+    let s = from m in (
+      s .pre .1 .0 .wide,
       (
         s .pre .0,
-        (
-          (sym (part-long _ (frames s) (long s)), none-held (N s) (half s) (held m) (half-wide s) (m .before .before .before .before .before .before .nothing-held .ensures)),
-          (
-            (sym (part-long _ (folded m) (folded-in m)), sym (part-long _ (wide m) (wide-in m))),
-            (
-              halves-lent (N s) w (top m) (bottom m) (top-in m) (bottom-in m),
-              record { y-long = omega (arith, product-le (N s), m .before .of-648 .ensures); z-long = omega (arith, product-le (N s), m .of-6482 .ensures) },
-            ),
-          ),
-        ),
+        ((sym (part-long _ (frames s) (long s)), none-held (N s) (half s) (held m) (half-wide s) (held-made m .nothing-held .ensures)), lent-wide (fits m) (given m)),
       ),
     )
 
+-- what is lent to the second step
+module _ (c : tie.After-z3) where
+  abbrev behind-first : tie.After-z2
+  behind-first = c .before .before .before .before .before .before .before
+
 blocks-before-requires : tie.Need-blocks-before-requires
 blocks-before-requires c κs =
-    let a = c .before .before .before .before .before .before .before .before .before in
-    let m = made a in
+    let a = behind-first c in
     let s = start a in (
       s .pre .0,
       (
         subst (WholeBlocks (N s)) (sym (rest s)) (rest-blocks (N s) (frames s) (out s) (s .pre .1 .0) (s .pre .1 .1 .0)),
         (
+          (ap length (stored a) ∙ held-long a ∙ half-wide s, omega (arith, ap length (rest s), length-drop (N s) (frames s), s .pre .1 .1 .0)),
           (
-            ap length (stored a) ∙ held-long a ∙ half-wide s,
-            sym (front-long _ (folded-left a) _ (folded-long a)),
-            sym (front-long _ (wide-left a) _ (wide-long a)),
-            omega (arith, ap length (rest s), length-drop (N s) (frames s), s .pre .1 .1 .0),
-          ),
-          (
-            halves-lent (N s) (s .pre .1 .0 .wide) (top-left a ++ drop (half s) (top m)) (bottom-left a ++ drop (half s) (bottom m)) (front-le _ (top-left a) _ (top-long a)) (front-le _ (bottom-left a) _ (bottom-long a)),
+            lent-wide (fits (made a)) (left a),
             (
-              record { y-long = omega (arith, product-le (N s), m .before .of-648 .ensures, a .before .y2 .given); z-long = omega (arith, product-le (N s), m .of-6482 .ensures, a .z2 .given) },
-              (
-                subst (Within foldedLimit) (sym (stored a)) (step a .first-frame .ensures (taken s) .1),
-                subst₂ (λ (k l : List ℤ). answerFrom (N s) (N s) (opened (N s) 1 k) (length l / N s) l (out s) .0 ≡ 0) (sym (stored a)) (sym (rest s))
-                    (ap (λ (x : ℕ × ℕ). x .0) (answer-left (N s) (frames s) (out s) (s .pre .1 .0) (s .pre .1 .1 .0) (opened (N s) 1 (kept a)) (after a) (taken s)) ∙ s .pre .1 .1 .1),
-              ),
+              subst (Within foldedLimit) (sym (stored a)) (step a .first-frame .ensures (taken s) .1),
+              subst₂ (λ (k l : List ℤ). answerFrom (N s) (N s) (opened (N s) 1 k) (length l / N s) l (out s) .0 ≡ 0) (sym (stored a)) (sym (rest s))
+                  (ap (λ (x : ℕ × ℕ). x .0) (answer-left (N s) (frames s) (out s) (s .pre .1 .0) (s .pre .1 .1 .0) (opened (N s) 1 (kept a)) (after a) (taken s)) ∙ s .pre .1 .1 .1),
             ),
           ),
         ),
@@ -186,8 +160,8 @@ blocks-before-requires c κs =
 
 returns : tie.Need-returns
 returns c =
-    let b = c .before .before .before .before .before .before .before .before in
-    let a = b .before .before .before .before .before .before .before .before .before .before in
+    let b = c .before .before .before .before .before .before in
+    let a = behind-first (b .before) in
     let s = start a in
     b .blocks-before .ensures
     ∙ ap₂ (λ (k l : List ℤ). outputsFrom (N s) (opened (N s) 1 k) (length l / N s) l (out s)) (stored a) (rest s)
@@ -202,19 +176,13 @@ readings-of-spec =
     (λ c κs. tt)
     (λ c κs. tt)
     (λ c κs. tt)
-    (λ c κs. tt)
-    (λ c κs. tt)
     (λ c. let s = from (c .before) in part-long _ (frames s) (long s))
     (λ c. held-in (c .before))
     (λ c. let m = c .before .before in part-long _ (held m) (held-in m))
-    (λ c. folded-in (c .before .before))
-    (λ c. let m = c .before .before .before in part-long _ (folded m) (folded-in m))
-    (λ c. wide-in (c .before .before .before))
-    (λ c. let m = c .before .before .before .before in part-long _ (wide m) (wide-in m))
-    (λ c. let earlier = c .before .before .before .before in top-in earlier)
-    (λ c. let m = c .before .before .before .before .before in part-long _ (top m) (top-in m))
-    (λ c. let earlier = c .before .before .before .before .before in bottom-in earlier)
-    (λ c. let m = c .before .before .before .before .before .before in part-long _ (bottom m) (bottom-in m))
+    (λ c. let m = c .before .before in top-le (fits m) (given m))
+    (λ c. let m = c .before .before .before in part-long _ (top m) (top-le (fits m) (given m)))
+    (λ c. let m = c .before .before .before in bottom-le (fits m) (given m))
+    (λ c. let m = c .before .before .before .before in part-long _ (bottom m) (bottom-le (fits m) (given m)))
     (λ c. search needs)
     (λ c. search needs)
     first-frame-requires
@@ -224,16 +192,12 @@ readings-of-spec =
     (λ c. search needs)
     (λ c. let a = c .before in front-le _ (kept a) _ (held-long a))
     (λ c. let a = c .before .before in front-long _ (kept a) _ (held-long a))
-    (λ c. let a = c .before .before .before in front-le _ (folded-left a) _ (folded-long a))
-    (λ c. let a = c .before .before .before .before in front-long _ (folded-left a) _ (folded-long a))
-    (λ c. let a = c .before .before .before .before in front-le _ (wide-left a) _ (wide-long a))
-    (λ c. let a = c .before .before .before .before .before in front-long _ (wide-left a) _ (wide-long a))
-    (λ c. let a = c .before .before .before .before .before in front-le _ (top-left a) _ (top-long a))
-    (λ c. let a = c .before .before .before .before .before .before in front-long _ (top-left a) _ (top-long a))
-    (λ c. let a = c .before .before .before .before .before .before in front-le _ (bottom-left a) _ (bottom-long a))
-    (λ c. let a = c .before .before .before .before .before .before .before in front-long _ (bottom-left a) _ (bottom-long a))
+    (λ c. let a = c .before .before .before in top-le (fits (made a)) (left a))
+    (λ c. let a = c .before .before .before .before in part-long _ (top-after a) (top-le (fits (made a)) (left a)))
+    (λ c. let a = c .before .before .before .before in bottom-le (fits (made a)) (left a))
+    (λ c. let a = c .before .before .before .before .before in part-long _ (bottom-after a) (bottom-le (fits (made a)) (left a)))
     (λ c. search needs)
     (λ c. search needs)
     blocks-before-requires
-    (λ c. let at-readings = c .before .before .before .before .before .before in at-readings .readings .given)
+    (λ c. let at-readings = c .before .before .before .before in at-readings .readings .given)
     returns)
