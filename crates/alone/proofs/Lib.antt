@@ -1,2 +1,1 @@
-pub mod UnstagedLaws
 pub mod WayLaws

@@ -26,7 +26,7 @@ use Rattle.gate.specs.Own.Asked.{wholeParts, inParts}
 use Rattle.gate.proofs.GateLaws.{same-answer}
 use Rattle.gate.proofs.AskedLaws.{all-whole, whole-all, parts-refused, parts-whole, parts-most, parts-least}
 use Rattle.frames.proofs.FrameLaws.{stages-within}
-use Rattle.alone.proofs.UnstagedLaws.{unstaged-inside, unstaged-made, unstaged-done, unstaged-refused}
+use Rattle.frames.proofs.UnstagedLaws.{unstaged-inside, unstaged-made, unstaged-done, unstaged-refused}
 
 -- ---- question 10 of folded values
 module _ (made work : List ℤ) (answer : ℕ × ℕ) where

@@ -6,8 +6,6 @@ ghost use Rattle.runs.specs.Alone.{stagesAlone, unstagesAlone};
 use crate::transform;
 use gate::questions;
 use runs::answer::Answer;
-use slices::room;
-use slices::vectors;
 
 // Questions 1, 6 and 7, then the stages or their undoing.
 fn alone(undo: bool, width: usize, given: &[i32], out: &mut [i32]) -> Answer
@@ -20,13 +18,7 @@ fn alone(undo: bool, width: usize, given: &[i32], out: &mut [i32]) -> Answer
     if out.len() != width {
         return Answer::OutputLength;
     }
-    let mut work = room::of_128();
-    let answer = transform::in_room(undo, width, given, &mut work[..width]);
-    if runs::answer::number(answer) != 0 {
-        return answer;
-    }
-    vectors::narrow(&work[..width], out);
-    answer
+    transform::in_room(undo, width, given, out)
 }
 
 // Folded values to the coefficients of their frame.

@@ -1,17 +1,18 @@
 // A frame from its folded values by the five stages, and its way back, with the questions about their numbers. t has what the width takes; top and
-// bottom are room for the halves, y and z for a product each.
+// bottom are room for the halves, y and z for a product each. What is made lies in the front of y.
 ghost use mathlib.Core.Bool.{cond};
 ghost use mathlib.Core.Path.{_≡_};
+ghost use mathlib.Core.List.{_++_};
 ghost use Prim.Native.Nat.{_+_, _*_, _<_};
-ghost use lib.ListN.{length};
+ghost use lib.ListN.{length, take};
 ghost use Rattle.integers.specs.Places.{places, at, Within};
 ghost use Rattle.tables.specs.Widths.{halfWidth};
 ghost use Rattle.width_tables.specs.Filled.{Filled};
 ghost use Rattle.steps.specs.Limits.{foldedLimit};
 ghost use Rattle.steps.specs.Steps.{stages};
-ghost use Rattle.width_tables.specs.Own.Parts.{TwoHalves, Room};
 ghost use Rattle.runs.specs.Answers.{told};
 ghost use Rattle.runs.specs.Alone.{stagesAsked, unstagesAsked};
+ghost use Rattle.frames.specs.Own.WideRoom.{WideRoom};
 use frames::transform;
 use gate::limits;
 use gate::questions;
@@ -33,11 +34,20 @@ fn every_second(x: &[i32], first: usize, out: &mut [i64])
     }
 }
 
+// top, and bottom behind it.
+fn join(top: &[i64], bottom: &[i64], out: &mut [i64])
+    requires { ⌜ length (now out) ≡ length (now top) + length (now bottom) ⌝ }
+    ensures { λ _. ⌜ now (out .exit) ≡ now (top .entry) ++ now (bottom .entry) ⌝ }
+{
+    let half = top.len();
+    vectors::copy(top, &mut out[..half]);
+    vectors::copy(bottom, &mut out[half..]);
+}
+
 fn stages(
     width: usize,
     t: &[i64],
     given: &[i32],
-    out: &mut [i64],
     top: &mut [i64],
     bottom: &mut [i64],
     y: &mut [i64],
@@ -45,26 +55,22 @@ fn stages(
 )
     requires { ⌜ 0 < halfWidth width ⌝ }
     requires { ⌜ Filled width (now t) ⌝ }
-    requires { ⌜ TwoHalves width (now top) (now bottom) ⌝ }
-    requires { ⌜ Room width (now y) (now z) ⌝ }
-    requires { ⌜ (length (now given) ≡ width) × (length (now out) ≡ width) ⌝ }
+    requires { ⌜ WideRoom width (now top) (now bottom) (now y) (now z) ⌝ }
+    requires { ⌜ length (now given) ≡ width ⌝ }
     requires { ⌜ Within foldedLimit (now given) ⌝ }
-    ensures { λ _. ⌜ now (out .exit) ≡ Rattle.steps.specs.Steps.stages width (now (given .entry)) ⌝ }
+    ensures { λ _. ⌜ take width (now (y .exit)) ≡ Rattle.steps.specs.Steps.stages width (now (given .entry)) ⌝ }
 {
-    let half = width / 2;
     every_second(given, 0, top);
     every_second(given, 1, bottom);
     stages::stages::forward(width, t, top, bottom, y, z);
-    vectors::copy(top, &mut out[..half]);
-    vectors::copy(bottom, &mut out[half..]);
+    join(top, bottom, &mut y[..width]);
 }
 
-// Question 10, then the stages: folded values to the frame. Where question 10 says no, frame may hold any numbers afterwards.
+// Question 10, then the stages: folded values to the frame. Where question 10 says no, y may hold any numbers.
 fn staged(
     width: usize,
     t: &[i64],
     folded: &[i32],
-    frame: &mut [i64],
     top: &mut [i64],
     bottom: &mut [i64],
     y: &mut [i64],
@@ -72,46 +78,15 @@ fn staged(
 ) -> Answer
     requires { ⌜ 0 < halfWidth width ⌝ }
     requires { ⌜ Filled width (now t) ⌝ }
-    requires { ⌜ TwoHalves width (now top) (now bottom) ⌝ }
-    requires { ⌜ Room width (now y) (now z) ⌝ }
-    requires { ⌜ (length (now folded) ≡ width) × (length (now frame) ≡ width) ⌝ }
-    ensures { λ r. ⌜ (told r, now (frame .exit)) ≡ stagesAsked width (now (folded .entry)) (now (frame .exit)) ⌝ }
+    requires { ⌜ WideRoom width (now top) (now bottom) (now y) (now z) ⌝ }
+    requires { ⌜ length (now folded) ≡ width ⌝ }
+    ensures { λ r. ⌜ (told r, take width (now (y .exit))) ≡ stagesAsked width (now (folded .entry)) (take width (now (y .exit))) ⌝ }
 {
-    let value = questions::seldom_beyond(folded, limits::FOLDED_LIMIT, frame);
+    let value = questions::seldom_beyond(folded, limits::FOLDED_LIMIT, &mut y[..width]);
     if let Found::At(place) = value {
         return Answer::Folded(place);
     }
-    stages(width, t, folded, frame, top, bottom, y, z);
-    Answer::Done
-}
-
-// Question 9, the stages undone, and question 10: a frame to its folded values.
-fn unstaged(
-    width: usize,
-    t: &[i64],
-    frame: &[i32],
-    folded: &mut [i64],
-    top: &mut [i64],
-    bottom: &mut [i64],
-    y: &mut [i64],
-    z: &mut [i64],
-) -> Answer
-    requires { ⌜ 0 < halfWidth width ⌝ }
-    requires { ⌜ Filled width (now t) ⌝ }
-    requires { ⌜ TwoHalves width (now top) (now bottom) ⌝ }
-    requires { ⌜ Room width (now y) (now z) ⌝ }
-    requires { ⌜ (length (now frame) ≡ width) × (length (now folded) ≡ width) ⌝ }
-    ensures { λ r. ⌜ (told r, now (folded .exit)) ≡ unstagesAsked width (now (frame .entry)) (now (folded .exit)) ⌝ }
-{
-    let coefficient = transform::coefficient_beyond(frame, folded);
-    if let Found::At(place) = coefficient {
-        return Answer::Range(place);
-    }
-    transform::unstages(width, t, frame, folded, top, bottom, y, z);
-    let value = questions::first_beyond(folded, limits::FOLDED_LIMIT);
-    if let Found::At(place) = value {
-        return Answer::Folded(place);
-    }
+    stages(width, t, folded, top, bottom, y, z);
     Answer::Done
 }
 
@@ -121,7 +96,6 @@ fn either_way(
     width: usize,
     t: &[i64],
     given: &[i32],
-    out: &mut [i64],
     top: &mut [i64],
     bottom: &mut [i64],
     y: &mut [i64],
@@ -129,22 +103,21 @@ fn either_way(
 ) -> Answer
     requires { ⌜ 0 < halfWidth width ⌝ }
     requires { ⌜ Filled width (now t) ⌝ }
-    requires { ⌜ TwoHalves width (now top) (now bottom) ⌝ }
-    requires { ⌜ Room width (now y) (now z) ⌝ }
-    requires { ⌜ (length (now given) ≡ width) × (length (now out) ≡ width) ⌝ }
-    ensures { λ r. ⌜ (told r, now (out .exit)) ≡ cond undo (unstagesAsked width (now (given .entry)) (now (out .exit))) (stagesAsked width (now (given .entry)) (now (out .exit))) ⌝ }
+    requires { ⌜ WideRoom width (now top) (now bottom) (now y) (now z) ⌝ }
+    requires { ⌜ length (now given) ≡ width ⌝ }
+    ensures { λ r. ⌜ (told r, take width (now (y .exit))) ≡ cond undo (unstagesAsked width (now (given .entry)) (take width (now (y .exit)))) (stagesAsked width (now (given .entry)) (take width (now (y .exit)))) ⌝ }
 {
     if undo {
-        return unstaged(width, t, given, out, top, bottom, y, z);
+        return transform::unstaged(width, t, given, top, bottom, y, z);
     }
-    staged(width, t, given, out, top, bottom, y, z)
+    staged(width, t, given, top, bottom, y, z)
 }
 
 // In room of its own.
-pub fn in_room(undo: bool, width: usize, given: &[i32], out: &mut [i64]) -> Answer
+pub fn in_room(undo: bool, width: usize, given: &[i32], out: &mut [i32]) -> Answer
     requires { ⌜ 0 < halfWidth width ⌝ }
     requires { ⌜ (length (now given) ≡ width) × (length (now out) ≡ width) ⌝ }
-    ensures { λ r. ⌜ (told r, now (out .exit)) ≡ cond undo (unstagesAsked width (now (given .entry)) (now (out .exit))) (stagesAsked width (now (given .entry)) (now (out .exit))) ⌝ }
+    ensures { λ r. ⌜ (told r, now (out .exit)) ≡ cond undo (unstagesAsked width (now (given .entry)) (now (out .entry))) (stagesAsked width (now (given .entry)) (now (out .entry))) ⌝ }
 {
     let half = width / 2;
     let long = fill::tables_long(width);
@@ -154,15 +127,19 @@ pub fn in_room(undo: bool, width: usize, given: &[i32], out: &mut [i64]) -> Answ
     let mut y = room::of_648();
     let mut z = room::of_648();
     fill::fill(width, &mut t[..long], &mut y);
-    either_way(
+    let answer = either_way(
         undo,
         width,
         &t[..long],
         given,
-        out,
         &mut top[..half],
         &mut bottom[..half],
         &mut y,
         &mut z,
-    )
+    );
+    if runs::answer::number(answer) != 0 {
+        return answer;
+    }
+    vectors::narrow(&y[..width], out);
+    answer
 }

@@ -3,3 +3,4 @@ pub mod RoomLaws
 pub mod RoomSizes
 pub mod StepLaws
 pub mod UndoLaws
+pub mod UnstagedLaws

@@ -42,6 +42,10 @@ module _ {N tables half list : ℕ} (r : Wide N tables half list) (long : ℕ) (
 pub front-kept : (n : ℕ) (xs front : List ℤ) → length front ≡ length (take n xs) → length xs ≡ length (front ++ drop n xs)
 front-kept n xs front h = ap length (sym (take-append-drop n xs)) ∙ length-append (take n xs) (drop n xs) ∙ ap (λ (k : ℕ). k + length (drop n xs)) (sym h) ∙ sym (length-append front (drop n xs))
 
+-- room in which another y stands is room where that is as long
+pub same-room : {N : ℕ} {top bottom y z y₂ : List ℤ} → WideRoom N top bottom y z → length y₂ ≡ length y → WideRoom N top bottom y₂ z
+same-room r e = record { halves = r .halves; products = record { y-long = omega (arith, e, r .products .y-long); z-long = r .products .z-long }; y-wide = omega (arith, e, r .y-wide); z-wide = r .z-wide }
+
 -- ---- the room that a step is lent: halves, from the front of two arrays, and two arrays for a product each
 pub record Lent (half list : ℕ) (top bottom y z : List ℤ) : Type 0 where
   pub top-long : half ≡ length top

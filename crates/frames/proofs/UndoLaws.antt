@@ -8,17 +8,19 @@ use borrow.Author.Tests.{eq-eqb, ne-eqb}
 use lib.IntN.{ℤ, pos}
 use lib.ListN.{length, take, drop}
 use Rattle.tables.specs.Widths.{halfWidth}
-use Rattle.steps.specs.Limits.{foldedLimit, coefficientLimit}
 use Rattle.steps.specs.Steps.{unstages, unfolded}
 use Rattle.runs.specs.Answers.{told, firstWhere, firstBeyond}
-use Rattle.runs.specs.declared.answer.Answer.the-variants.{Done, Range, Folded, Halves, Unfolded}
+use Rattle.runs.specs.declared.answer.Answer.{Answer}
+use Rattle.runs.specs.declared.answer.Answer.the-variants.{Done, Halves, Unfolded}
 use Rattle.runs.specs.declared.answer.Found.{Found}
 use Rattle.runs.specs.declared.answer.Found.the-variants.{At, Nothing}
 use Rattle.runs.specs.declared.record.Run.{Run}
 use Rattle.runs.specs.Record.{nextCount, opened}
-use Rattle.runs.specs.Gate.{askEach, firstOut}
+use Rattle.runs.specs.Alone.{StagesResult, refusedAt, unstagesAsked}
+use Rattle.runs.specs.Gate.{CallResult, askEach, firstOut}
 use Rattle.runs.proofs.RecordLaws.{take-filled}
 use Rattle.runs.proofs.BackLaws.{length-block}
+use Rattle.frames.proofs.UnstagedLaws.{unstaged-range, unstaged-inside}
 use Rattle.runs.specs.Back.{framed, blockOn, firstUpper, firstFrame, laterFrame, unfoldedIn, undoneIn}
 
 -- ---- a search whose places count from elsewhere
@@ -90,19 +92,24 @@ module _ (N count : ℕ) (low folded out : List ℤ) where
         ap₂ (λ (r : Run) (w : List ℤ). ((0, 0), r, w)) (framed-is kept k) b ∙ sym (ap (λ f. askEach 12 f run out ((0, 0), framed run folded, blockOn run folded)) e) ∙ is-later
 
 -- ---- 9 and 10
-module _ (N count : ℕ) (low frame out : List ℤ) where
+module _ (made folded out : List ℤ) (run : Run) (next : CallResult) (answer : ℕ × ℕ) where
+  refused-alike : (f g : Found) → _≡_ {A = StagesResult} (answer, folded) (refusedAt 9 f folded (refusedAt 10 g folded ((0, 0), made)))
+      → (answer .0 ≡ 0 → ⊥) → (answer, run, out) ≡ askEach 9 f run out (askEach 10 g run out next)
+  unfolding refusedAt askEach
+  refused-alike (At place) g e h = ap (λ (x : StagesResult). (x .0, run, out)) e
+  refused-alike Nothing (At place) e h = ap (λ (x : StagesResult). (x .0, run, out)) e
+  refused-alike Nothing Nothing e h = absurd (h (ap (λ (x : StagesResult). x .0 .0) e))
+
+module _ (N count : ℕ) (low frame out folded : List ℤ) (answer : Answer) (e : (told answer, folded) ≡ unstagesAsked N frame folded) where
   abbrev asked : Run
   asked = opened N count low
 
-  pub range-refused : (place : ℕ) → firstBeyond (pos coefficientLimit) frame 0 ≡ At place → (told (Range place), opened N (nextCount (told (Range place) .0) count) low, out) ≡ undoneIn asked frame out
-  unfolding told nextCount undoneIn askEach
-  range-refused place e = rw e
+  pub undo-refused : (told answer .0 ≡ 0 → ⊥) → (told answer, opened N (nextCount (told answer .0) count) low, out) ≡ undoneIn asked frame out
+  unfolding nextCount undoneIn unstagesAsked opened
+  undo-refused h =
+      ap (λ b. (told answer, opened N (cond b (suc count) count) low, out)) (ne-eqb (told answer .0) 0 h)
+      ∙ refused-alike (unstages N frame) folded out asked (unfoldedIn asked (unstages N frame) out) (told answer) _ _ e h
 
-  module _ (e : firstBeyond (pos coefficientLimit) frame 0 ≡ Nothing) where
-    pub folded-refused : (place : ℕ) → firstBeyond (pos foldedLimit) (unstages N frame) 0 ≡ At place → (told (Folded place), opened N (nextCount (told (Folded place) .0) count) low, out) ≡ undoneIn asked frame out
-    unfolding told nextCount undoneIn askEach opened
-    folded-refused place d = rw (e, d)
-
-    pub folded-passed : firstBeyond (pos foldedLimit) (unstages N frame) 0 ≡ Nothing → unfoldedIn asked (unstages N frame) out ≡ undoneIn asked frame out
-    unfolding undoneIn askEach opened
-    folded-passed d = rw (e, d)
+  pub undo-passed : told answer .0 ≡ 0 → unfoldedIn asked (unstages N frame) out ≡ undoneIn asked frame out
+  unfolding undoneIn askEach opened
+  undo-passed z = rw (unstaged-range N frame folded answer e z, unstaged-inside N frame folded answer e z)

@@ -106,17 +106,11 @@ pub fn undo(
     requires { ⌜ Within foldedLimit (now held) ⌝ }
     ensures { λ r. ⌜ (told r, opened width (nextCount (told r .0) count) (now (held .exit)), now (block .exit)) ≡ undoneIn (opened width count (now (held .entry))) (now (frame .entry)) (now (block .entry)) ⌝ }
 {
-    let coefficient = transform::coefficient_beyond(frame, &mut y[..width]);
-    if let Found::At(place) = coefficient {
-        return Answer::Range(place);
+    let asked = transform::unstaged(width, t, frame, top, bottom, y, z);
+    if runs::answer::number(asked) != 0 {
+        return asked;
     }
-    transform::unstages(width, t, frame, top, bottom, y, z);
-    let folded = &y[..width];
-    let value = questions::first_beyond(folded, limits::FOLDED_LIMIT);
-    if let Found::At(place) = value {
-        return Answer::Folded(place);
-    }
-    unfolded_in(width, count, t, folded, held, &mut z[..width], block)
+    unfolded_in(width, count, t, &y[..width], held, &mut z[..width], block)
 }
 
 // The same of a frame behind others of which it is known that no question refuses it: nothing is asked.

@@ -1,112 +1,116 @@
 -- `alone::transform::in_room` meets its contract.
 use borrow.Author.Needs.{needs}
 use native.Mathlib.Omega.{arith}
-use mathlib.Core.Path.{_≡_, sym, subst, _∙_}
+use mathlib.Core.Path.{_≡_, sym, ap, _∙_}
 use mathlib.Core.List.{List}
-use Prim.Native.Nat.{ℕ, _/_, _≤_}
+use Prim.Native.Nat.{ℕ, _%_, _≤_}
 use lib.IntN.{ℤ}
-use lib.ListN.{length, drop}
-use Rattle.tables.specs.Widths.{halfWidth}
-use Rattle.tables.proofs.ByWidth.{half-width-le}
-use Rattle.tables.proofs.Reading.{half-is}
+use lib.ListN.{length, take}
 use Rattle.width_tables.specs.Filled.{Filled}
-use Rattle.slices.proofs.Parts.{part-long, front, front-long, front-le}
-use Rattle.frames.proofs.RoomLaws.{tables-le, lists-le, product-le}
+use Rattle.slices.proofs.Parts.{part-long}
+use Rattle.runs.specs.Answers.{told}
+use Rattle.frames.proofs.FrameLaws.{width-in-fours}
+use Rattle.frames.proofs.RoomLaws.{filled-le, filled-long, filled-lent}
+use Rattle.frames.proofs.RoomSizes.{Wide, large-room, tables-in, fill-asks, Lent, top-le, bottom-le, lent-wide}
+use Rattle.alone.proofs.WayLaws.{askedWay, Made, way-made, way-refused}
 use Rattle.alone.proofs.transform.in_room.Statement.{statement}
 use Rattle.alone.proofs.transform.in_room.Tie as tie
 
 -- the room made
 module _ (r : tie.After-of-6482) where
+  abbrev table-made : tie.After-of-1906
+  table-made = r .before .before .before .before
+
   abbrev from : tie.Start
-  from = r .before .before .before .before .before .before
+  from = table-made .before .before
 
   abbrev N : ℕ
   N = from .args .width
 
-  abbrev half : ℕ
-  half = N / 2
-
-  abbrev long : ℕ
-  long = let at-tables-long = r .before .before .before .before .before in at-tables-long .tables-long .result
-
   abbrev table : List ℤ
-  table = let at-of-1906 = r .before .before .before .before in at-of-1906 .of-1906 .result
+  table = table-made .of-1906 .result
+
+  fits : Wide N 1906 64 648
+  fits = large-room N (from .pre .0)
+
+  table-le : table-made .before .tables-long .result ≤ length table
+  table-le = tables-in fits _ (table-made .before .tables-long .ensures) table (table-made .of-1906 .ensures)
+
+-- all that the width takes is filled in
+module _ (f : tie.After-y2) where
+  abbrev made : tie.After-of-6482
+  made = f .before .before .before .before .before
+
+  abbrev tables : List ℤ
+  tables = f .before .before .fill .last .1 .0
+
+  filled : Filled (N made) tables
+  filled = f .before .before .fill .ensures
 
   abbrev top : List ℤ
-  top = r .before .before .before .of-64 .result
+  top = made .before .before .before .of-64 .result
 
   abbrev bottom : List ℤ
-  bottom = r .before .before .of-642 .result
+  bottom = made .before .before .of-642 .result
 
-  long-is : long ≤ length table
-  long-is = let at-tables-long = r .before .before .before .before .before in let at-of-1906 = r .before .before .before .before in omega (arith, at-tables-long .tables-long .ensures, at-of-1906 .of-1906 .ensures, tables-le N)
+  given : Lent 64 648 top bottom (f .before .before .fill .last .1 .1 .0) (made .of-6482 .result)
+  given = record { top-long = made .before .before .before .of-64 .ensures; bottom-long = made .before .before .of-642 .ensures; y-long = sym (f .y2 .given); z-long = made .of-6482 .ensures }
 
-  half-of : half ≡ halfWidth N
-  half-of = half-is N (from .pre .0)
+-- what the stages or their undoing have answered
+module _ (c : tie.After-z2) where
+  abbrev did : tie.After-either-way
+  did = c .before .before .before .before
 
-  top-le : half ≤ length top
-  top-le = omega (arith, half-of, half-width-le N, r .before .before .before .of-64 .ensures)
+  abbrev lent : tie.After-y2
+  lent = let at-top = did .before .before .before .before in at-top .before .before
 
-  bottom-le : half ≤ length bottom
-  bottom-le = omega (arith, half-of, half-width-le N, r .before .before .of-642 .ensures)
+  abbrev start : tie.Start
+  start = from (made lent)
 
--- the tables filled
-module _ (f : tie.After-fill) where
-  abbrev made : tie.After-of-6482
-  made = f .before .before .before
+  abbrev width : ℕ
+  width = start .args .width
 
-  abbrev filled : List ℤ
-  filled = f .fill .last .1 .0
+  abbrev work : List ℤ
+  work = take width (did .either-way .last .1 .1 .1 .1 .1 .1 .0)
 
-  abbrev behind : List ℤ
-  behind = drop (long made) (table made)
+  y-wide : width ≤ length (did .either-way .last .1 .1 .1 .1 .1 .1 .0)
+  y-wide = omega (arith, c .before .y4 .given, fits (made lent) .for-block)
 
-  filled-long : length filled ≡ long made
-  filled-long = let at-tables-long = made .before .before .before .before .before in f .fill .ensures .long ∙ sym (at-tables-long .tables-long .ensures)
+-- and where it is not refused
+module _ (e : tie.Else1) where
+  abbrev at-z : tie.After-z2
+  at-z = e .before .before
 
-array-borrow-prefix-t : tie.Need-array-borrow-prefix-t
-array-borrow-prefix-t c = long-is c
-
-slice-aggregate-fill : tie.Need-slice-aggregate-fill
-slice-aggregate-fill c = part-long _ (table (c .before)) (long-is (c .before))
-
-fill-requires : tie.Need-fill-requires
-fill-requires c κs = let r = c .before .before in let at-tables-long = r .before .before .before .before .before in (from r .pre .0, sym (part-long _ (table r) (long-is r)) ∙ at-tables-long .tables-long .ensures, omega (arith, r .before .of-648 .ensures, lists-le (N r)))
-
-array-share-prefix-t : tie.Need-array-share-prefix-t
-array-share-prefix-t c = let f = c .before .before in front-le _ (filled f) (behind f) (filled-long f)
-
-slice-aggregate-either-way : tie.Need-slice-aggregate-either-way
-slice-aggregate-either-way c = let f = c .before .before .before in front-long _ (filled f) (behind f) (filled-long f)
-
-array-borrow-prefix-top : tie.Need-array-borrow-prefix-top
-array-borrow-prefix-top c = let earlier = c .before .before .before .before in top-le (made earlier)
-
-slice-aggregate-either-way-2 : tie.Need-slice-aggregate-either-way-2
-slice-aggregate-either-way-2 c = let earlier = c .before .before .before .before .before in let r = made earlier in part-long _ (top r) (top-le r)
-
-array-borrow-prefix-bottom : tie.Need-array-borrow-prefix-bottom
-array-borrow-prefix-bottom c = let earlier = c .before .before .before .before .before in bottom-le (made earlier)
-
-slice-aggregate-either-way-3 : tie.Need-slice-aggregate-either-way-3
-slice-aggregate-either-way-3 c = let earlier = c .before .before .before .before .before .before in let r = made earlier in part-long _ (bottom r) (bottom-le r)
+  is-made : let s = start at-z in Made (s .args .undo) (s .args .width) (s .args .given .now) (work at-z) (did at-z .either-way .result)
+  is-made =
+      let s = start at-z in
+      way-made (s .args .width) (s .args .given .now) (work at-z) _ (s .args .undo) (did at-z .either-way .ensures) (sym (e .before .number .ensures) ∙ e .if1 .left) (s .pre .0) (s .pre .1 .0)
 
 either-way-requires : tie.Need-either-way-requires
 either-way-requires c κs =
-    let f = c .before .before .before .before .before .before .before .before in
-    let r = made f in (
-      from r .pre .0,
-      (
-        subst (Filled (N r)) (sym (front _ (filled f) (behind f) (filled-long f))) (f .fill .ensures),
-        (
-          record { top-long = sym (part-long _ (top r) (top-le r)) ∙ half-of r; bottom-long = sym (part-long _ (bottom r) (bottom-le r)) ∙ half-of r },
-          (record { y-long = omega (arith, c .before .before .before .before .before .before .y2 .given, r .before .of-648 .ensures, product-le (N r)); z-long = omega (arith, r .of-6482 .ensures, product-le (N r)) }, from r .pre .1),
-        ),
-      ),
-    )
+    let f = c .before .before .before .before .before in
+    let r = made f in
+    let s = from r in
+    (s .pre .0, (filled-lent _ (table-made r .before .tables-long .ensures) (tables f) _ (filled f), (lent-wide (fits r) (given f), s .pre .1 .0)))
 
 returns : tie.Need-returns
-returns c = search needs
+returns c =
+    let z = c .before .before in
+    let s = start z in
+    way-refused (s .args .width) (s .args .given .now) (work z) _ (s .args .undo) (did z .either-way .ensures) (λ e. c .if1 .taken (c .before .number .ensures ∙ e)) (s .args .out .now)
+
+narrow-requires : tie.Need-narrow-requires
+narrow-requires c κs =
+    let e = c .before .before in
+    let s = start (at-z e) in
+    let long = is-made e .long in
+    ((long ∙ sym (s .pre .1 .1), ap (λ n. n % 4) long ∙ width-in-fours (s .args .width) (s .pre .0)), is-made e .within)
+
+returns-2 : tie.Need-returns-2
+returns-2 c =
+    let e = c .before .before .before .before in
+    let s = start (at-z e) in
+    ap (λ (l : List ℤ). (told (did (at-z e) .either-way .result), l)) (c .before .narrow .ensures) ∙ is-made e .given-is (s .args .out .now)
 
 pub in-room-spec : {M : Type 1} → statement M
 in-room-spec =
@@ -118,18 +122,23 @@ in-room-spec =
     (λ c κs. tt)
     (λ c κs. tt)
     (λ c κs. tt)
-    array-borrow-prefix-t
-    slice-aggregate-fill
+    (λ c. table-le c)
+    (λ c. part-long _ (table (c .before)) (table-le (c .before)))
     (λ c. search needs)
-    fill-requires
-    array-share-prefix-t
-    slice-aggregate-either-way
-    array-borrow-prefix-top
-    slice-aggregate-either-way-2
-    array-borrow-prefix-bottom
-    slice-aggregate-either-way-3
+    (λ c κs. let r = c .before .before in fill-asks (fits r) _ (table-made r .before .tables-long .ensures) (table r) (r .before .of-648 .result) (table-made r .of-1906 .ensures) (r .before .of-648 .ensures))
+    (λ c. filled-le _ (table-made (made c) .before .tables-long .ensures) (tables c) _ (filled c))
+    (λ c. let f = c .before in filled-long _ (table-made (made f) .before .tables-long .ensures) (tables f) _ (filled f))
+    (λ c. let f = c .before in top-le (fits (made f)) (given f))
+    (λ c. let f = c .before .before in part-long _ (top f) (top-le (fits (made f)) (given f)))
+    (λ c. let f = c .before .before in bottom-le (fits (made f)) (given f))
+    (λ c. let f = c .before .before .before in part-long _ (bottom f) (bottom-le (fits (made f)) (given f)))
     (λ c. search needs)
     (λ c. search needs)
     either-way-requires
-    (λ c. let at-out = c .before .before .before .before in at-out .out .given)
-    returns)
+    (λ c κs. tt)
+    returns
+    (λ c. y-wide (at-z c))
+    (λ c. let e = c .before in part-long _ _ (y-wide (at-z e)))
+    narrow-requires
+    (λ c. c .out .given)
+    returns-2)

@@ -3,19 +3,18 @@ use borrow.Author.Needs.{needs}
 use native.Mathlib.Omega.{arith}
 use mathlib.Core.Path.{_≡_, sym, ap, ap₂, subst, _∙_}
 use mathlib.Core.List.{List, _++_}
-use Prim.Native.Nat.{ℕ, _+_, _*_, _/_, _≤_}
+use Prim.Native.Nat.{ℕ, _+_, _*_, _≤_}
 use lib.IntN.{ℤ}
-use lib.ListN.{length, drop, length-drop}
+use lib.ListN.{length}
 use Rattle.integers.specs.Places.{places, at, Within}
 use Rattle.tables.specs.Widths.{halfWidth}
-use Rattle.tables.proofs.ByWidth.{half-width-le}
-use Rattle.tables.proofs.Reading.{half-is}
 use Rattle.steps.specs.Limits.{foldedLimit}
 use Rattle.steps.specs.Steps.{topOf, bottomOf}
 use Rattle.stages.specs.Own.Stages.{top4, bottom5}
-use Rattle.steps.proofs.Lengths.{width-half, length-top, length-bottom}
+use Rattle.steps.proofs.Lengths.{width-half, length-top, length-bottom, length-stages}
 use Rattle.stages.proofs.FrameSizes.{long4, long5}
-use Rattle.slices.proofs.Parts.{part-long, front-le, rest-long, rest-put}
+use Rattle.slices.proofs.Parts.{part-long, front}
+use Rattle.frames.specs.Own.WideRoom.{WideRoom}
 use Rattle.frames.proofs.FrameLaws.{read-evens, read-odds, stages-halves, top-within, bottom-within}
 use Rattle.alone.proofs.transform.stages.Statement.{statement}
 use Rattle.alone.proofs.transform.stages.Tie as tie
@@ -30,42 +29,33 @@ module _ (s : tie.Start) where
   abbrev work : List ℤ
   work = s .args .given .now
 
-  abbrev out : List ℤ
-  out = s .args .out .now
-
-  abbrev half : ℕ
-  half = N / 2
+  room : WideRoom N (s .args .top .now) (s .args .bottom .now) (s .args .y .now) (s .args .z .now)
+  room = s .pre .1 .1 .0
 
   long : length work ≡ N
-  long = s .pre .1 .1 .1 .1 .0 .0
-
-  out-long : length out ≡ N
-  out-long = s .pre .1 .1 .1 .1 .0 .1
+  long = s .pre .1 .1 .1 .0
 
   inside : Within foldedLimit work
-  inside = s .pre .1 .1 .1 .1 .1
+  inside = s .pre .1 .1 .1 .1
 
-  half-long : (half ≡ M) × (M + M ≡ N)
-  half-long = (half-is N (s .pre .0), width-half N (s .pre .0))
-
-  half-le : half ≤ length out
-  half-le = omega (arith, half-long, out-long)
+  two-halves : M + M ≡ N
+  two-halves = width-half N (s .pre .0)
 
 top1 : (c : tie.After-every-second) → c .every-second .last .1 .1 .0 ≡ topOf (N (c .before .before)) (work (c .before .before))
 top1 c =
     let s = c .before .before in
-    c .every-second .ensures ∙ ap (λ n. places n (λ i. at (work s) (2 * i + 0))) (s .pre .1 .1 .0 .top-long) ∙ read-evens (N s) (work s)
+    c .every-second .ensures ∙ ap (λ n. places n (λ i. at (work s) (2 * i + 0))) (room s .halves .top-long) ∙ read-evens (N s) (work s)
 
 bottom1 : (c : tie.After-every-second2) → let earlier = c .before .before .before .before .before in c .every-second2 .last .1 .1 .0 ≡ bottomOf (N earlier) (work earlier)
 bottom1 c =
     let s = c .before .before .before .before .before in
-    c .every-second2 .ensures ∙ ap (λ n. places n (λ i. at (work s) (2 * i + 1))) (s .pre .1 .1 .0 .bottom-long) ∙ read-odds (N s) (work s)
+    c .every-second2 .ensures ∙ ap (λ n. places n (λ i. at (work s) (2 * i + 1))) (room s .halves .bottom-long) ∙ read-odds (N s) (work s)
 
 every-second-requires : tie.Need-every-second-requires
-every-second-requires c κs = let s = c .before in (omega arith, omega (arith, half-long s, long s, s .pre .1 .1 .0 .top-long))
+every-second-requires c κs = let s = c .before in (omega arith, omega (arith, two-halves s, long s, room s .halves .top-long))
 
 every-second-requires-2 : tie.Need-every-second-requires-2
-every-second-requires-2 c κs = let s = c .before .before .before .before in (omega arith, omega (arith, half-long s, long s, s .pre .1 .1 .0 .bottom-long))
+every-second-requires-2 c κs = let s = c .before .before .before .before in (omega arith, omega (arith, two-halves s, long s, room s .halves .bottom-long))
 
 forward-requires : tie.Need-forward-requires
 forward-requires c κs =
@@ -78,85 +68,57 @@ forward-requires c κs =
         (
           record { top-long = ap length (top1 p) ∙ length-top (N s) (work s); bottom-long = ap length (bottom1 q) ∙ length-bottom (N s) (work s) },
           (
-            s .pre .1 .1 .1 .0,
+            room s .products,
             (subst (Within foldedLimit) (sym (top1 p)) (top-within (N s) foldedLimit (work s) (inside s)), subst (Within foldedLimit) (sym (bottom1 q)) (bottom-within (N s) foldedLimit (work s) (inside s))),
           ),
         ),
       ),
     )
 
--- the halves of the frame, and where they are put
+-- the halves of the frame
 module _ (g : tie.After-forward) where
+  abbrev second : tie.After-every-second2
+  second = g .before .before .before .before .before .before
+
+  abbrev first : tie.After-every-second
+  first = second .before .before .before
+
   abbrev from : tie.Start
-  from = g .before .before .before .before .before .before .before .before .before .before .before
+  from = first .before .before
 
-  abbrev top-of : List ℤ
-  top-of = g .forward .last .1 .1 .0
+  top-is : g .forward .last .1 .1 .0 ≡ top4 (N from) (topOf (N from) (work from)) (bottomOf (N from) (work from))
+  top-is = g .forward .ensures .0 ∙ ap₂ (top4 (N from)) (top1 first) (bottom1 second)
 
-  abbrev bottom-of : List ℤ
-  bottom-of = g .forward .last .1 .1 .1 .0
+  bottom-is : g .forward .last .1 .1 .1 .0 ≡ bottom5 (N from) (topOf (N from) (work from)) (bottomOf (N from) (work from))
+  bottom-is = g .forward .ensures .1 ∙ ap₂ (bottom5 (N from)) (top1 first) (bottom1 second)
 
-  top-of-long : length top-of ≡ M from
-  top-of-long = ap length (g .forward .ensures .0) ∙ long4 (N from) _ _
-
-  bottom-of-long : length bottom-of ≡ M from
-  bottom-of-long = ap length (g .forward .ensures .1) ∙ long5 (N from) _ _
-
-module _ (k : tie.After-copy) where
+-- and where they are put
+module _ (c : tie.After-z) where
   abbrev made : tie.After-forward
-  made = k .before .before .before .before .before .before .before
+  made = c .before .before .before .before
 
-  abbrev front-of : List ℤ
-  front-of = k .copy .last .1 .0
+  abbrev products : List ℤ
+  products = made .forward .last .1 .1 .1 .1 .0
 
-  abbrev behind : List ℤ
-  behind = drop (half (from made)) (out (from made))
+  y-wide : N (from made) ≤ length products
+  y-wide = omega (arith, room (from made) .y-wide, c .before .y .given)
 
-  front-is : length front-of ≡ half (from made)
-  front-is = ap length (k .copy .ensures) ∙ top-of-long made ∙ sym (half-long (from made) .0)
-
-  behind-long : length behind ≡ M (from made)
-  behind-long = omega (arith, length-drop (half (from made)) (out (from made)), out-long (from made), half-long (from made))
-
-slice-relend-prefix-copy : tie.Need-slice-relend-prefix-copy
-slice-relend-prefix-copy c = let earlier = c .before .before .before .before .before in half-le (from earlier)
-
-slice-aggregate-copy : tie.Need-slice-aggregate-copy
-slice-aggregate-copy c = let earlier = c .before .before .before .before .before .before in let s = from earlier in part-long _ (out s) (half-le s)
-
-copy-requires : tie.Need-copy-requires
-copy-requires c κs =
-    let g = c .before .before .before .before .before .before in
+join-requires : tie.Need-join-requires
+join-requires c κs =
+    let z = c .before .before .before in
+    let g = made z in
     let s = from g in
-    top-of-long g ∙ sym (half-long s .0) ∙ part-long _ (out s) (half-le s)
+    sym (part-long _ (products z) (y-wide z)) ∙ omega (arith, two-halves s, ap length (top-is g) ∙ long4 (N s) _ _, ap length (bottom-is g) ∙ long5 (N s) _ _)
 
-mul-copy : tie.Need-mul-copy
-mul-copy c =
-    let earlier = c .before .before .before .before .before .before .before .before .before in
-    let s = from earlier in
-    record { fits = omega (arith, half-long s, half-width-le (N s)) }
-
-sub-copy : tie.Need-sub-copy
-sub-copy c = let k = c .before .before in front-le _ (front-of k) (behind k) (front-is k)
-
-part-copy-start : tie.Need-part-copy-start
-part-copy-start c = let k = c .before .before in front-le _ (front-of k) (behind k) (front-is k)
-
-copy-requires-2 : tie.Need-copy-requires-2
-copy-requires-2 c κs =
-    let k = c .before .before .before in
-    bottom-of-long (made k) ∙ sym (behind-long k) ∙ sym (rest-long (half (from (made k))) (front-of k) (behind k) (front-is k))
+abbrev lent : tie.After-y2 → tie.After-z
+lent c = let joining = c .before .before in joining .before .before .before
 
 returns : tie.Need-returns
 returns c =
-    let k = c .before .before .before .before .before in
-    let g = made k in
-    let q = g .before .before .before .before .before .before in
-    let p = q .before .before .before in
+    let g = made (lent c) in
     let s = from g in
-    rest-put (half s) (front-of k) (behind k) (front-is k) _
-    ∙ ap₂ _++_ (k .copy .ensures ∙ g .forward .ensures .0 ∙ ap₂ (top4 (N s)) (top1 p) (bottom1 q)) (c .before .copy2 .ensures ∙ g .forward .ensures .1 ∙ ap₂ (bottom5 (N s)) (top1 p) (bottom1 q))
-    ∙ stages-halves (N s) (work s)
+    let joined = c .before .join .ensures ∙ ap₂ _++_ (top-is g) (bottom-is g) ∙ stages-halves (N s) (work s) in
+    front (N s) _ _ (ap length joined ∙ length-stages (N s) (work s) ∙ two-halves s) ∙ joined
 
 pub stages-spec : {M : Type 1} → statement M
 stages-spec =
@@ -165,17 +127,11 @@ stages-spec =
     every-second-requires
     every-second-requires-2
     forward-requires
-    slice-relend-prefix-copy
-    slice-aggregate-copy
-    copy-requires
-    mul-copy
-    sub-copy
-    part-copy-start
-    (λ c. search needs)
-    copy-requires-2
-    (λ c. search needs)
-    (λ c. let at-top2 = c .before .before .before .before .before .before .before .before .before .before .before in let at-top = at-top2 .before .before .before .before .before .before .before .before .before in at-top2 .top2 .given ∙ at-top .top .given)
-    (λ c. let at-bottom2 = c .before .before .before .before .before .before .before .before .before .before in let at-bottom = at-bottom2 .before .before .before .before .before .before .before in at-bottom2 .bottom2 .given ∙ at-bottom .bottom .given)
-    (λ c. let at-y = c .before .before .before .before .before .before .before .before .before in at-y .y .given)
-    (λ c. let at-z = c .before .before .before .before .before .before .before .before in at-z .z .given)
+    (λ c. y-wide (c .before .before))
+    (λ c. let z = c .before .before .before in part-long _ (products z) (y-wide z))
+    join-requires
+    (λ c. let z = lent c in let at-top = second (made z) .before .before in z .before .before .before .top2 .given ∙ at-top .top .given)
+    (λ c. let z = lent c in let at-bottom = made z .before .before .before .before .before in z .before .before .bottom2 .given ∙ at-bottom .bottom .given)
+    (λ c. c .y2 .given .1 ∙ lent c .before .y .given)
+    (λ c. lent c .z .given)
     returns)

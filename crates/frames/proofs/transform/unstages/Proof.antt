@@ -156,10 +156,10 @@ returns c =
     let s = from g in
     let front-long = sym (part-long _ _ (room-le p)) in
     let made =
-        j .interleave .ensures
-        ∙ ap₂ (λ t u. places (length (take (N s) (products p))) (wovenAt t u)) (top-is g) (bottom-is g)
-        ∙ ap (λ n. places n (wovenAt (top2 g) (bottom2 g))) (front-long ∙ sym (long s))
-        ∙ unstages-halves (N s) (work s) (long s) in
+    j .interleave .ensures
+    ∙ ap₂ (λ t u. places (length (take (N s) (products p))) (wovenAt t u)) (top-is g) (bottom-is g)
+    ∙ ap (λ n. places n (wovenAt (top2 g) (bottom2 g))) (front-long ∙ sym (long s))
+    ∙ unstages-halves (N s) (work s) (long s) in
     front (N s) _ _ (ap length made ∙ length-unstages (N s) (work s)) ∙ made
 
 abbrev lent : tie.After-y2 → tie.After-interleave-arg2
@@ -185,6 +185,6 @@ unstages-spec =
     interleave-requires
     (λ c. let at-top2 = lent-last c .before .before .before in let at-top = second (undone (lent c)) .before .before .before in at-top2 .top2 .given ∙ at-top .top .given)
     (λ c. let at-bottom2 = lent-last c .before .before in let at-bottom = undone (lent c) .before .before .before .before .before in at-bottom2 .bottom2 .given ∙ at-bottom .bottom .given)
-    (λ c. omega (arith, c .y2 .given, lent-last c .before .y .given))
+    (λ c. c .y2 .given .1 ∙ lent-last c .before .y .given)
     (λ c. lent-last c .z .given)
     returns)

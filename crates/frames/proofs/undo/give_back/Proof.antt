@@ -151,5 +151,5 @@ give-back-spec =
     (λ c. let end = last-lent c in end .before .before .before .top .given)
     (λ c. let end = last-lent c in end .before .before .bottom .given)
     (λ c. last-lent c .before .y .given)
-    (λ c. let at-z2 = c .before .before .before .before .before .before in omega (arith, at-z2 .z2 .given, last-lent c .z .given))
+    (λ c. let at-z2 = c .before .before .before .before .before .before in at-z2 .z2 .given .1 ∙ last-lent c .z .given)
     returns)

@@ -45,6 +45,9 @@ module _ (N : ℕ) (frame folded : List ℤ) (answer : Answer) (e : (told answer
     none : (coefficient ≡ Nothing) × (value ≡ Nothing) × (folded ≡ unstages N frame)
     none = nothing (unstages N frame) folded (told answer) coefficient value asked z
 
+    pub unstaged-range : coefficient ≡ Nothing
+    unstaged-range = none .0
+
     pub unstaged-inside : value ≡ Nothing
     unstaged-inside = none .1
 
