@@ -11,9 +11,9 @@ ghost use Rattle.steps.specs.Limits.{coefficientLimit};
 ghost use Rattle.steps.specs.Steps.{unstages};
 ghost use Rattle.width_tables.specs.Own.Parts.{TwoHalves, Room};
 ghost use Rattle.runs.specs.Answers.{firstBeyond};
-use gate::limits;
 use gate::questions;
 use runs::answer::Found;
+use runs::limits;
 use slices::vectors;
 
 // Question 9. wide is room for the search.

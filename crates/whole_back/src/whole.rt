@@ -14,9 +14,9 @@ ghost use Rattle.runs.specs.WholeBack.{answerFrom, outputsFrom, firstAnswer, al
 ghost use Rattle.asking_back.specs.Own.Ready.{WholeFrames};
 use asking_back::asking;
 use frames::undo;
-use gate::limits;
 use gate::questions;
 use runs::answer::Answer;
+use runs::limits;
 use runs::record;
 use slices::room;
 use width_tables::fill;
