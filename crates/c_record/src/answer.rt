@@ -10,8 +10,10 @@ use runs::record::Outcome;
 pub fn tell(answer: Answer, place: &mut usize) -> u32
     ensures { λ r. ⌜ (r, now (place .exit)) ≡ told answer ⌝ }
 {
-    *place = runs::answer::place(answer);
-    runs::answer::number(answer) as u32
+    let number = runs::answer::number(answer);
+    let at = runs::answer::place(answer);
+    *place = at;
+    number as u32
 }
 
 // The record is packed where the call has worked.

@@ -6,7 +6,7 @@ ghost use lib.IntN.{pos};
 ghost use lib.ListN.{length, drop, set};
 ghost use Rattle.integers.specs.Places.{at};
 ghost use Rattle.runs.specs.Answers.{told};
-ghost use Rattle.runs.specs.Record.{recordOf, nextCount};
+ghost use Rattle.runs.specs.Record.{frameLimit, recordOf, nextCount};
 ghost use Rattle.c_record.specs.Record.{isRecord, packed, unpacked};
 ghost use Rattle.c_record.specs.Ready.{Packable};
 use runs::answer::Answer;
@@ -53,7 +53,7 @@ pub fn front(numbers: &[i64]) -> Head
 
 // The count of a record in its place, after a call that gave this answer. A refused call stores nothing.
 pub fn store_count(count: usize, answer: Answer, numbers: &mut [i64])
-    requires { ⌜ (told answer .0 ≡ 0 → count < 65537) ⌝ }
+    requires { ⌜ (told answer .0 ≡ 0 → count < frameLimit) ⌝ }
     requires { ⌜ (length (now numbers) ≡ 67) × (at (now numbers) 1 ≡ pos count) ⌝ }
     ensures { λ _. ⌜ now (numbers .exit) ≡ set (now (numbers .entry)) 1 (pos (nextCount (told answer .0) count)) ⌝ }
 {

@@ -9,9 +9,9 @@ ghost use Rattle.runs.specs.Answers.{told};
 ghost use Rattle.runs.specs.Record.{recordOf, nextCount, opened};
 ghost use Rattle.runs.specs.Back.{undoneIn, takenBack};
 use frames::undo;
-use gate::limits;
 use gate::questions;
 use runs::answer::Answer;
+use runs::limits;
 use slices::room;
 use width_tables::fill;
 

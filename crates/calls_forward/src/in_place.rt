@@ -10,10 +10,10 @@ ghost use Rattle.runs.specs.Answers.{told};
 ghost use Rattle.runs.specs.Record.{recordOf, nextCount};
 ghost use Rattle.runs.specs.Forward.{taken};
 use frames::step;
-use gate::limits;
 use gate::questions;
 use gate::questions::Fault;
 use runs::answer::Answer;
+use runs::limits;
 use slices::room;
 use width_tables::fill;
 

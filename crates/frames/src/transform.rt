@@ -1,5 +1,5 @@
-// A frame to its folded values: question 9, the five stages undone, and question 10. t has what the width takes; top and bottom are room for the halves, y and z
-// for a product each. The folded values lie in the front of y, where nothing is needed once the products are made.
+// A frame to its folded values: question 9, the five stages undone, and question 10. t has what the width takes; top and bottom are room for the
+// halves, y and z for a product each. The folded values lie in the front of y, where nothing is needed once the products are made.
 ghost use mathlib.Core.Path.{_≡_};
 ghost use Prim.Native.Nat.{_<_};
 ghost use lib.ListN.{length, take};
@@ -11,10 +11,10 @@ ghost use Rattle.steps.specs.Steps.{unstages};
 ghost use Rattle.runs.specs.Answers.{told};
 ghost use Rattle.runs.specs.Alone.{unstagesAsked};
 ghost use Rattle.frames.specs.Own.WideRoom.{WideRoom};
-use gate::limits;
 use gate::questions;
 use runs::answer::Answer;
 use runs::answer::Found;
+use runs::limits;
 use slices::vectors;
 
 pub fn unstages(

@@ -14,10 +14,10 @@ ghost use Rattle.frames.specs.Own.WideRoom.{WideRoom};
 ghost use Rattle.frames.specs.Own.Unrefused.{Unrefused};
 use crate::transform;
 use fold::folding;
-use gate::limits;
 use gate::questions;
 use runs::answer::Answer;
 use runs::answer::Found;
+use runs::limits;
 use slices::vectors;
 
 // The block between the lower half that is held and this frame's upper half.

@@ -1,3 +1,2 @@
-// The gate's questions, each in one function, and the limits that they ask by.
-pub mod limits;
+// The gate's questions, each in one function.
 pub mod questions;

@@ -10,10 +10,10 @@ ghost use Rattle.runs.specs.Record.{blockLimit, frameLimit, recordOf, nextCount
 ghost use Rattle.runs.specs.Gate.{firstDead};
 ghost use Rattle.gate.specs.Own.Asked.{StillOpen, Admitted, inParts};
 ghost use Rattle.gate.specs.Own.Faults.{faultOf};
-use crate::limits;
 use constants::widths;
 use runs::answer::Answer;
 use runs::answer::Found;
+use runs::limits;
 use slices::room;
 use slices::vectors;
 

@@ -1,4 +1,3 @@
-pub mod ToldLaws
 pub mod Cases
 pub mod AcceptedCalls
 pub mod Searches

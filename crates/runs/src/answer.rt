@@ -24,44 +24,39 @@ pub enum Found {
     Nothing,
 }
 
+// An answer's number and its place.
+struct Told(usize, usize);
+
+fn told_of(answer: Answer) -> Told
+    ensures { λ r. ⌜ (r .0, r .1) ≡ told answer ⌝ }
+{
+    match answer {
+        Answer::Done => Told(0, 0),
+        Answer::Width => Told(1, 0),
+        Answer::Record => Told(2, 0),
+        Answer::Closed => Told(3, 0),
+        Answer::Full => Told(4, 0),
+        Answer::Empty => Told(5, 0),
+        Answer::InputLength => Told(6, 0),
+        Answer::OutputLength => Told(7, 0),
+        Answer::DeadMark(i) => Told(8, i),
+        Answer::Range(i) => Told(9, i),
+        Answer::Folded(i) => Told(10, i),
+        Answer::Halves(i) => Told(11, i),
+        Answer::Unfolded(i) => Told(12, i),
+    }
+}
+
 // The paper's number of an answer, 0 for work done.
 pub fn number(answer: Answer) -> usize
     ensures { λ r. ⌜ r ≡ told answer .0 ⌝ }
 {
-    match answer {
-        Answer::Done => 0,
-        Answer::Width => 1,
-        Answer::Record => 2,
-        Answer::Closed => 3,
-        Answer::Full => 4,
-        Answer::Empty => 5,
-        Answer::InputLength => 6,
-        Answer::OutputLength => 7,
-        Answer::DeadMark(_) => 8,
-        Answer::Range(_) => 9,
-        Answer::Folded(_) => 10,
-        Answer::Halves(_) => 11,
-        Answer::Unfolded(_) => 12,
-    }
+    told_of(answer).0
 }
 
 // Its place, 0 where there is none.
 pub fn place(answer: Answer) -> usize
     ensures { λ r. ⌜ r ≡ told answer .1 ⌝ }
 {
-    match answer {
-        Answer::Done => 0,
-        Answer::Width => 0,
-        Answer::Record => 0,
-        Answer::Closed => 0,
-        Answer::Full => 0,
-        Answer::Empty => 0,
-        Answer::InputLength => 0,
-        Answer::OutputLength => 0,
-        Answer::DeadMark(i) => i,
-        Answer::Range(i) => i,
-        Answer::Folded(i) => i,
-        Answer::Halves(i) => i,
-        Answer::Unfolded(i) => i,
-    }
+    told_of(answer).1
 }

@@ -8,12 +8,6 @@ pub fn of_16() -> [i64; 16]
     [0; 16]
 }
 
-pub fn of_36() -> [i64; 36]
-    ensures { λ r. ⌜ 36 ≡ length r ⌝ }
-{
-    [0; 36]
-}
-
 pub fn of_64() -> [i64; 64]
     ensures { λ r. ⌜ 64 ≡ length r ⌝ }
 {

@@ -5,10 +5,10 @@ use decimal::print;
 use stream::run;
 use text_runs::state::Way;
 
-// A file of its own, which is gone with the program.
+// A file of its own in the folder that the program runs in, which is gone with the program.
 pub fn temporary() -> i32 {
-    let mut name = [0u8; 18];
-    print::bytes(&mut name, 0, b"/tmp/lapped.XXXXXX");
+    let mut name = [0u8; 13];
+    print::bytes(&mut name, 0, b"lapped.XXXXXX");
     let made = os::create_temp(&mut name);
     if made < 0 {
         os::fail(b"a temporary file");

@@ -1,6 +1,7 @@
 // How far a text run has come, and what is printed.
 ghost use mathlib.Core.Path.{_≡_};
 ghost use Rattle.text_runs.specs.State.{begun, goesOn, lineBetween, lineNumber};
+use runs::limits;
 use runs::record;
 use runs::record::Run;
 
@@ -59,7 +60,7 @@ pub fn goes_on(state: State) -> bool
 fn line_between(count: usize) -> usize
     ensures { λ r. ⌜ r ≡ lineBetween count ⌝ }
 {
-    if 65537 < count {
+    if limits::FRAME_LIMIT < count {
         return 0;
     }
     count + 2

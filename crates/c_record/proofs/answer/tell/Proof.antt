@@ -6,10 +6,10 @@ use Rattle.c_record.proofs.answer.tell.Statement.{statement}
 use Rattle.c_record.proofs.answer.tell.Tie as tie
 
 cast-result : tie.Need-cast-result
-cast-result c = record { fits = omega (arith, c .number .ensures, told-small (c .before .before .args .answer)) }
+cast-result c = record { fits = omega (arith, c .before .number .ensures, told-small (c .before .before .args .answer)) }
 
 returns : tie.Need-returns
-returns c = told-pair _ (c .number .ensures) (c .before .place .ensures)
+returns c = told-pair _ (c .before .number .ensures) (c .place .ensures)
 
 pub tell-spec : {M : Type 1} → statement M
 tell-spec = tie.close (tie.spec (λ c κs. search needs) (λ c κs. search needs) cast-result returns)

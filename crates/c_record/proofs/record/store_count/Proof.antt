@@ -7,6 +7,7 @@ use lib.IntN.{ℤ, pos}
 use lib.ListN.{set}
 use lib.Seq.{set-getD}
 use Rattle.runs.specs.Answers.{told}
+use Rattle.runs.specs.Record.{frameLimit}
 use Rattle.runs.proofs.Refusals.{count-kept, count-raised}
 use Rattle.c_record.proofs.RecordLaws.{number}
 use Rattle.c_record.proofs.record.store_count.Statement.{statement}
@@ -19,7 +20,7 @@ module _ (e : tie.Else1) where
   worked : told (s .args .answer) .0 ≡ 0
   worked = sym (e .before .number .ensures) ∙ e .if1 .left
 
-  few : s .args .count < 65537
+  few : s .args .count < frameLimit
   few = s .pre .0 worked
 
 returns : tie.Need-returns

@@ -19,7 +19,7 @@ number-requires : tie.Need-number-requires
 number-requires c κs = omega (arith, c .before .before .before .bytes .ensures .count)
 
 same-length : tie.Need-same-length
-same-length c = c .before .out2 .given ∙ c .before .before .before .before .before .out .given
+same-length c = let at-out = c .before .before .before .before .before in c .before .out2 .given ∙ at-out .out .given
 
 returns : tie.Need-returns
 returns c =

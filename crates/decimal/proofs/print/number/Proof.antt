@@ -70,7 +70,7 @@ natural-requires c κs =
     omega (arith, c .before .before .before .bytes .ensures .count, digits s _ (minus-size s))
 
 same-length : tie.Need-same-length
-same-length c = c .before .out2 .given ∙ c .before .before .before .before .before .out .given
+same-length c = let at-out = c .before .before .before .before .before in c .before .out2 .given ∙ at-out .out .given
 
 returns : tie.Need-returns
 returns c =

@@ -36,7 +36,8 @@ same-length : tie.Need-same-length
 same-length c =
     let third = c .before .before .before .before .before in
     let second = third .before .before .before .before in
-    c .before .out4 .given ∙ third .out3 .given ∙ second .out2 .given ∙ second .before .before .before .before .out .given
+    let first = second .before .before .before .before in
+    c .before .out4 .given ∙ third .out3 .given ∙ second .out2 .given ∙ first .out .given
 
 returns : tie.Need-returns
 returns c =

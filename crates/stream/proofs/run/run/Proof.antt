@@ -122,11 +122,12 @@ slice-aggregate-end-input-2 c = search needs
 
 end-input-requires : tie.Need-end-input-requires Inv-loop μ-loop
 end-input-requires c κs =
-    let k = c .before .before .before .before .loop .inv .0 in
+    let at-loop = c .before .before .before .before in
+    let k = at-loop .loop .inv .0 in
     (turns-came textProgram k (c .before .before .if1 .left), (k .long, k .fits, k .none, k .free))
 
 same-length-2 : tie.Need-same-length-2 Inv-loop μ-loop
-same-length-2 c = c .before .before .before .before .before .before .loop .inv .1
+same-length-2 c = let at-loop = c .before .before .before .before .before .before in at-loop .loop .inv .1
 
 returns-2 : tie.Need-returns-2 Inv-loop μ-loop
 returns-2 c = ⊎-elim inl (λ e. inr (_, e)) (c .before .end-input .ensures .ending)

@@ -14,9 +14,10 @@ abbrev μ-loop : tie.MeasureT-loop
 μ-loop way list one other at₀ at = length list - at
 
 -- a name ends within the list
-name-ends : (c : tie.After-end-of Inv-loop μ-loop) → c .end-of .result ≤ length (c .before .before .before .before .args .list .now)
+name-ends : (c : tie.After-end-of Inv-loop μ-loop) → let start = c .before .before .before .before in c .end-of .result ≤ length (start .args .list .now)
 name-ends c =
-    let l = c .before .before .before .before .args .list .now in
+    let start = c .before .before .before .before in
+    let l = start .args .list .now in
     let at = c .before .before .loop .at in
     omega (arith, c .end-of .ensures, part-length 10 (drop at l), length-drop at l, c .before .loop-test .taken)
 

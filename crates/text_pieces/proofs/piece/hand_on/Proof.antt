@@ -10,7 +10,7 @@ take-requires : tie.Need-take-requires
 take-requires c κs = tt
 
 put-requires : tie.Need-put-requires
-put-requires c κs = (c .before .take .ensures .1, c .before .before .before .before .before .pre .1)
+put-requires c κs = let start = c .before .before .before .before .before in (c .before .take .ensures .1, start .pre .1)
 
 same-length : tie.Need-same-length
 same-length c = c .before .out .given

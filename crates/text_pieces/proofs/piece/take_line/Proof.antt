@@ -9,7 +9,10 @@ use Rattle.text_pieces.proofs.piece.take_line.Statement.{statement}
 use Rattle.text_pieces.proofs.piece.take_line.Tie as tie
 
 gather-requires : tie.Need-gather-requires
-gather-requires c κs = let b = c .before .before .before .before .pre .0 in (b .place, b .long, omega (arith, b .fits))
+gather-requires c κs =
+    let start = c .before .before .before .before in
+    let b = start .pre .0 in
+    (b .place, b .long, omega (arith, b .fits))
 
 slice-reshare-prefix-hand-on : tie.Need-slice-reshare-prefix-hand-on
 slice-reshare-prefix-hand-on c = search needs
@@ -21,7 +24,7 @@ hand-on-requires : tie.Need-hand-on-requires
 hand-on-requires c κs = (simp length-take (omega arith), omega arith)
 
 same-length : tie.Need-same-length
-same-length c = c .before .before .before .before .before .before .before .line .given
+same-length c = let at-line = c .before .before .before .before .before .before .before in at-line .line .given
 
 same-length-2 : tie.Need-same-length-2
 same-length-2 c = c .before .out .given

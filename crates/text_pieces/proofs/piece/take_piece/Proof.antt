@@ -23,35 +23,35 @@ is-over-requires : tie.Need-is-over-requires Inv-loop μ-loop
 is-over-requires c κs = tt
 
 same-length : tie.Need-same-length Inv-loop μ-loop
-same-length c = c .before .before .before .before .loop .inv .same-line
+same-length c = let at-loop = c .before .before .before .before in at-loop .loop .inv .same-line
 
 same-length-2 : tie.Need-same-length-2 Inv-loop μ-loop
-same-length-2 c = c .before .before .before .before .loop .inv .same-out
+same-length-2 c = let at-loop = c .before .before .before .before in at-loop .loop .inv .same-out
 
 returns : tie.Need-returns Inv-loop μ-loop
 returns c =
-    let k = c .before .before .before .before in
-    took-over textProgram (k .loop .inv) (sym (c .before .is-over .ensures) ∙ c .if2 .taken)
+    let at-loop = c .before .before .before .before in
+    took-over textProgram (at-loop .loop .inv) (sym (c .before .is-over .ensures) ∙ c .if2 .taken)
 
 sub-if3 : tie.Need-sub-if3 Inv-loop μ-loop
 sub-if3 c = search needs
 
 same-length-3 : tie.Need-same-length-3 Inv-loop μ-loop
-same-length-3 c = c .before .before .before .before .before .before .loop .inv .same-line
+same-length-3 c = let at-loop = c .before .before .before .before .before .before in at-loop .loop .inv .same-line
 
 same-length-4 : tie.Need-same-length-4 Inv-loop μ-loop
-same-length-4 c = c .before .before .before .before .before .before .loop .inv .same-out
+same-length-4 c = let at-loop = c .before .before .before .before .before .before in at-loop .loop .inv .same-out
 
 returns-2 : tie.Need-returns-2 Inv-loop μ-loop
 returns-2 c =
-    let k = c .before .before .before .before .before .before in
-    took-full textProgram (k .loop .inv) (omega arith)
+    let at-loop = c .before .before .before .before .before .before in
+    took-full textProgram (at-loop .loop .inv) (omega arith)
 
 take-line-requires : tie.Need-take-line-requires Inv-loop μ-loop
 take-line-requires c κs =
     let o = c .before .before .before .before in
-    let k = o .before .before .before .before in
-    (k .loop .inv .within, (sym (o .before .is-over .ensures) ∙ o .if2 .left, omega arith, omega arith))
+    let at-loop = o .before .before .before .before in
+    (at-loop .loop .inv .within, (sym (o .before .is-over .ensures) ∙ o .if2 .left, omega arith, omega arith))
 
 loop-less : tie.Need-loop-less Inv-loop μ-loop
 loop-less c = search needs
@@ -59,8 +59,8 @@ loop-less c = search needs
 loop-again : tie.Need-loop-again Inv-loop μ-loop
 loop-again c =
     let t = c .before .before .before .before in
-    let k = t .before .before .before .before .before .before .before .before .before in
-    kept-more textProgram (k .loop .inv) (t .take-line .ensures) (c .before .before .before .line .given) (c .before .out .given)
+    let at-loop = t .before .before .before .before .before .before .before .before .before in
+    kept-more textProgram (at-loop .loop .inv) (t .take-line .ensures) (c .before .before .before .line .given) (c .before .out .given)
 
 same-length-5 : tie.Need-same-length-5 Inv-loop μ-loop
 same-length-5 c = c .before .before .loop .inv .same-line

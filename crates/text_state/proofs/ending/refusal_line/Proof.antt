@@ -42,7 +42,7 @@ unfolding endingLine
 returns-2 c = (put-as _ _ _ _ (sym (ap endingLine (c .enum-told2 .given .1))) (put-none _ _), omega arith)
 
 same-length : tie.Need-same-length
-same-length c = c .before .text2 .given ∙ c .before .before .before .before .before .before .text .given
+same-length c = let at-text = c .before .before .before .before .before .before in c .before .text2 .given ∙ at-text .text .given
 
 returns-3 : tie.Need-returns-3
 unfolding endingLine refusedTag rowLine

@@ -17,7 +17,7 @@ bytes-requires : tie.Need-bytes-requires
 bytes-requires c κs = search needs
 
 same-length : tie.Need-same-length
-same-length c = c .before .text2 .given ∙ c .before .before .before .before .before .before .text .given
+same-length c = let at-text = c .before .before .before .before .before .before in c .before .text2 .given ∙ at-text .text .given
 
 returns : tie.Need-returns
 unfolding rowLine

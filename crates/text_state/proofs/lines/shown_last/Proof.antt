@@ -38,7 +38,7 @@ last-line-requires-2 : tie.Need-last-line-requires-2
 last-line-requires-2 c κs = search needs
 
 same-length : tie.Need-same-length
-same-length c = c .before .text2 .given ∙ c .before .before .before .before .before .before .text .given
+same-length c = let at-text = c .before .before .before .before .before .before in c .before .text2 .given ∙ at-text .text .given
 
 returns : tie.Need-returns
 unfolding shownLast

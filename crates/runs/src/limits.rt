@@ -1,4 +1,4 @@
-// The limits that the gate asks by: each once, under the name of its definition.
+// The limits that the code asks by: each once, under the name of its definition.
 
 pub const READING_LIMIT: i32 = 32767;
 
