@@ -1,10 +1,10 @@
 -- Room to work in: how much each width takes, and the parts of it that are lent.
-use mathlib.Core.Path.{_≡_, sym, ap, _∙_}
-use mathlib.Core.List.{List, _++_}
-use Prim.Native.Nat.{ℕ, _+_, _/_, _≤_, _<_}
+use mathlib.Core.Path.{_≡_, sym, _∙_}
+use mathlib.Core.List.{List}
+use Prim.Native.Nat.{ℕ, _/_, _≤_, _<_}
 use native.Mathlib.Omega.{arith}
 use lib.IntN.{ℤ}
-use lib.ListN.{length, take, drop, length-append, take-append-drop}
+use lib.ListN.{length, take}
 use Rattle.tables.specs.Widths.{halfWidth}
 use Rattle.tables.proofs.ByWidth.{half-width-le}
 use Rattle.tables.proofs.Reading.{half-is}
@@ -37,10 +37,6 @@ module _ {N tables half list : ℕ} (r : Wide N tables half list) (long : ℕ) (
 
   pub fill-asks : (t room : List ℤ) → tables ≡ length t → list ≡ length room → (0 < halfWidth N) × (length (take long t) ≡ tablesLong N) × (listRoom N ≤ length room)
   fill-asks t room l k = (r .wide, sym (part-long long t (tables-in t l)) ∙ e, omega (arith, r .for-list))
-
--- a list of which the front was lent is as long afterwards
-pub front-kept : (n : ℕ) (xs front : List ℤ) → length front ≡ length (take n xs) → length xs ≡ length (front ++ drop n xs)
-front-kept n xs front h = ap length (sym (take-append-drop n xs)) ∙ length-append (take n xs) (drop n xs) ∙ ap (λ (k : ℕ). k + length (drop n xs)) (sym h) ∙ sym (length-append front (drop n xs))
 
 -- room in which another y stands is room where that is as long
 pub same-room : {N : ℕ} {top bottom y z y₂ : List ℤ} → WideRoom N top bottom y z → length y₂ ≡ length y → WideRoom N top bottom y₂ z

@@ -1,6 +1,7 @@
 // One block forward: its frame, and what it holds for the next.
 ghost use mathlib.Core.Path.{_≡_};
-ghost use Prim.Native.Nat.{_<_};
+ghost use mathlib.Core.List.{_++_};
+ghost use Prim.Native.Nat.{_+_, _%_, _^_, _<_};
 ghost use lib.IntN.{pos};
 ghost use lib.ListN.{length, replicate};
 ghost use Rattle.integers.specs.Places.{Within};
@@ -11,6 +12,19 @@ ghost use Rattle.width_tables.specs.Own.Parts.{TwoHalves, Room};
 ghost use Rattle.steps.specs.Steps.{held, frame};
 use fold::folding;
 use slices::vectors;
+
+// The halves of a frame, one behind the other.
+fn write(top: &[i64], bottom: &[i64], frame: &mut [i32])
+    requires { ⌜ length (now frame) ≡ length (now top) + length (now bottom) ⌝ }
+    requires { ⌜ (length (now top) % 4 ≡ 0) × (length (now bottom) % 4 ≡ 0) ⌝ }
+    requires { ⌜ Within (2 ^ 30) (now top) ⌝ }
+    requires { ⌜ Within (2 ^ 30) (now bottom) ⌝ }
+    ensures { λ _. ⌜ now (frame .exit) ≡ now (top .entry) ++ now (bottom .entry) ⌝ }
+{
+    let half = top.len();
+    vectors::narrow(top, &mut frame[..half]);
+    vectors::narrow(bottom, &mut frame[half..]);
+}
 
 // t has what the width takes; what follows frame is room to work in.
 pub fn step(
@@ -36,8 +50,7 @@ pub fn step(
     let half = width / 2;
     folding::fold(width, &t[..half], &t[half..width], block, held, top, bottom);
     stages::stages::forward(width, t, top, bottom, y, z);
-    vectors::narrow(top, &mut frame[..half]);
-    vectors::narrow(bottom, &mut frame[half..]);
+    write(top, bottom, frame);
 }
 
 // A block of zeros, which the finish takes after the last block.

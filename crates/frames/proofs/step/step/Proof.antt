@@ -1,11 +1,11 @@
--- `frames::step::step` meets its contract: the halves of the frame, made in the room lent, are put one behind the other.
+-- `frames::step::step` meets its contract: the halves of the frame, made in the room lent, are written one behind the other.
 use borrow.Author.Needs.{needs}
 use native.Mathlib.Omega.{arith}
 use mathlib.Core.Path.{_≡_, sym, ap, ap₂, subst, _∙_}
 use mathlib.Core.List.{List, _++_}
-use Prim.Native.Nat.{ℕ, _/_, _%_, _^_, _≤_}
+use Prim.Native.Nat.{ℕ, _/_, _%_, _^_}
 use lib.IntN.{ℤ}
-use lib.ListN.{length, drop, length-drop}
+use lib.ListN.{length}
 use Rattle.integers.specs.Places.{Within}
 use Rattle.integers.proofs.PlaceLaws.{within-up}
 use Rattle.tables.specs.Widths.{halfWidth}
@@ -17,9 +17,8 @@ use Rattle.stages.proofs.FrameSizes.{long4, long5, within4, within5}
 use Rattle.steps.specs.Limits.{foldedLimit}
 use Rattle.steps.specs.Steps.{lower, topOf, bottomOf}
 use Rattle.steps.proofs.Lengths.{width-half, length-top, length-bottom}
-use Rattle.slices.proofs.Parts.{part-long, front-le, rest-long, rest-put}
+use Rattle.slices.proofs.Parts.{part-long}
 use Rattle.frames.proofs.FrameLaws.{stages-halves, top-within, bottom-within}
-use Rattle.runs.proofs.RecordLaws.{width-le}
 use Rattle.frames.proofs.RoomLaws.{lifts-in, tangents-lent, sines-lent}
 use Rattle.frames.proofs.StepLaws.{folded-within, frame-is}
 use Rattle.frames.proofs.step.step.Statement.{statement}
@@ -38,17 +37,11 @@ module _ (s : tie.Start) where
   abbrev previous : List ℤ
   previous = s .args .held .now
 
-  abbrev out : List ℤ
-  out = s .args .frame .now
-
   abbrev folded : List ℤ
   folded = lower N block ++ previous
 
   halved : half ≡ halfWidth N
   halved = half-is N (s .pre .0)
-
-  half-le : half ≤ length out
-  half-le = omega (arith, halved, width-half N (s .pre .0), s .pre .1 .1 .0 .2)
 
   within : Within foldedLimit folded
   within = folded-within N previous block (s .pre .1 .1 .1 .1 .1 .0) (s .pre .1 .1 .1 .1 .1 .1)
@@ -102,25 +95,10 @@ module _ (g : tie.After-forward) where
   bottom-is : g .forward .last .1 .1 .1 .0 ≡ bottom5 (N start) (evens made) (odds made)
   bottom-is = g .forward .ensures .1 ∙ ap₂ (bottom5 (N start)) (folded-top made) (folded-bottom made)
 
--- the first half is put
-module _ (n : tie.After-narrow) where
+-- and where they are written from
+module _ (c : tie.After-z) where
   abbrev through : tie.After-forward
-  through = n .before .before .before .before .before .before .before
-
-  abbrev from : tie.Start
-  from = start through
-
-  abbrev first : List ℤ
-  first = n .narrow .last .1 .0
-
-  abbrev behind : List ℤ
-  behind = drop (half from) (out from)
-
-  first-long : length first ≡ half from
-  first-long = ap length (n .narrow .ensures ∙ top-is through) ∙ long4 (N from) _ _ ∙ sym (halved from)
-
-  behind-long : length behind ≡ halfWidth (N from)
-  behind-long = omega (arith, length-drop (half from) (out from), halved from, width-half (N from) (from .pre .0), from .pre .1 .1 .0 .2)
+  through = c .before .before .before .before
 
 slice-aggregate-fold : tie.Need-slice-aggregate-fold
 slice-aggregate-fold c = let s = c .before in part-long _ (s .args .t .now) (omega (arith, halved s, width-half (N s) (s .pre .0), lifts-in (N s) (s .pre .0) (s .args .t .now) (s .pre .1 .0)))
@@ -146,52 +124,31 @@ forward-requires c κs =
     let s = source f in
     (s .pre .0, (s .pre .1 .0, (halves f, (s .pre .1 .1 .1 .1 .0, halves-within f))))
 
-slice-aggregate-narrow : tie.Need-slice-aggregate-narrow
-slice-aggregate-narrow c = let earlier = c .before .before .before .before .before .before in let s = start earlier in part-long _ (out s) (half-le s)
-
-narrow-requires : tie.Need-narrow-requires
-narrow-requires c κs =
-    let g = c .before .before .before .before .before .before in
-    let s = start g in (
+write-requires : tie.Need-write-requires
+write-requires c κs =
+    let g = through (c .before .before .before) in
+    let s = start g in
+    let m = made g in
+    let top-long = ap length (top-is g) ∙ long4 (N s) _ _ in
+    let bottom-long = ap length (bottom-is g) ∙ long5 (N s) _ _ in (
+      omega (arith, s .pre .1 .1 .0 .2, width-half (N s) (s .pre .0), top-long, bottom-long),
       (
-        ap length (top-is g) ∙ long4 (N s) _ _ ∙ sym (halved s) ∙ part-long _ (out s) (half-le s),
-        ap (λ n. n % 4) (ap length (top-is g) ∙ long4 (N s) _ _) ∙ half-in-fours (N s),
+        (ap (λ n. n % 4) top-long ∙ half-in-fours (N s), ap (λ n. n % 4) bottom-long ∙ half-in-fours (N s)),
+        (
+          subst (Within (2 ^ 30)) (sym (top-is g)) (within-up (within4 (N s) _ _ (evens-within m) (odds-within m)) (omega arith)),
+          subst (Within (2 ^ 30)) (sym (bottom-is g)) (within-up (within5 (N s) _ _ (evens-within m) (odds-within m)) (omega arith)),
+        ),
       ),
-      subst (Within (2 ^ 30)) (sym (top-is g)) (within-up (within4 (N s) _ _ (evens-within (made g)) (odds-within (made g))) (omega arith)),
     )
 
-mul-narrow : tie.Need-mul-narrow
-mul-narrow c = let s = from (c .before .before) in record { fits = omega (arith, halved s, width-half (N s) (s .pre .0), width-le (N s) (s .pre .0)) }
-
-sub-narrow : tie.Need-sub-narrow
-sub-narrow c = let n = c .before .before in front-le _ (first n) (behind n) (first-long n)
-
-part-narrow-start : tie.Need-part-narrow-start
-part-narrow-start c = let n = c .before .before in front-le _ (first n) (behind n) (first-long n)
-
-narrow-requires-2 : tie.Need-narrow-requires-2
-narrow-requires-2 c κs =
-    let n = c .before .before .before in
-    let g = through n in
-    let s = from n in (
-      (
-        ap length (bottom-is g) ∙ long5 (N s) _ _ ∙ sym (behind-long n) ∙ sym (rest-long (half s) (first n) (behind n) (first-long n)),
-        ap (λ n. n % 4) (ap length (bottom-is g) ∙ long5 (N s) _ _) ∙ half-in-fours (N s),
-      ),
-      subst (Within (2 ^ 30)) (sym (bottom-is g)) (within-up (within5 (N s) _ _ (evens-within (made g)) (odds-within (made g))) (omega arith)),
-    )
+abbrev lent : tie.After-frame → tie.After-z
+lent c = let writing = c .before .before in writing .before .before .before
 
 returns : tie.Need-returns
 returns c =
-    let n = c .before .before .before .before .before in
-    let g = through n in
-    let s = from n in (
-      made g .fold .ensures .0,
-      rest-put (half s) (first n) (behind n) (first-long n) _
-          ∙ ap₂ _++_ (n .narrow .ensures ∙ top-is g) (c .before .narrow2 .ensures ∙ bottom-is g)
-          ∙ stages-halves (N s) (folded s)
-          ∙ frame-is (N s) (previous s) (block s),
-    )
+    let g = through (lent c) in
+    let s = start g in
+    (made g .fold .ensures .0, c .before .write .ensures ∙ ap₂ _++_ (top-is g) (bottom-is g) ∙ stages-halves (N s) (folded s) ∙ frame-is (N s) (previous s) (block s))
 
 pub step-spec : {M : Type 1} → statement M
 step-spec =
@@ -204,18 +161,11 @@ step-spec =
     part-fold-end
     fold-requires
     forward-requires
-    (λ c. search needs)
-    slice-aggregate-narrow
-    narrow-requires
-    mul-narrow
-    sub-narrow
-    part-narrow-start
-    (λ c. search needs)
-    narrow-requires-2
-    (λ c. let at-held = c .before .before .before .before .before .before .before .before .before .before .before .before .before .before .before .before .before .before .before in at-held .held .given)
-    (λ c. search needs)
-    (λ c. let at-top2 = c .before .before .before .before .before .before .before .before .before .before .before in let at-top = at-top2 .before .before .before .before .before .before .before in at-top2 .top2 .given ∙ at-top .top .given)
-    (λ c. let at-bottom2 = c .before .before .before .before .before .before .before .before .before .before in let at-bottom = at-bottom2 .before .before .before .before .before .before .before in at-bottom2 .bottom2 .given ∙ at-bottom .bottom .given)
-    (λ c. let at-y = c .before .before .before .before .before .before .before .before .before in at-y .y .given)
-    (λ c. let at-z = c .before .before .before .before .before .before .before .before in at-z .z .given)
+    write-requires
+    (λ c. let at-top = through (lent c) .before .before .before .before .before .before in at-top .before .held .given)
+    (λ c. c .frame .given)
+    (λ c. let z = lent c in let at-top = through z .before .before .before .before .before .before in z .before .before .before .top2 .given ∙ at-top .top .given)
+    (λ c. let z = lent c in let at-bottom = through z .before .before .before .before .before in z .before .before .bottom2 .given ∙ at-bottom .bottom .given)
+    (λ c. lent c .before .y .given)
+    (λ c. lent c .z .given)
     returns)

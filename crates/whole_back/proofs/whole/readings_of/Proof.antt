@@ -15,14 +15,14 @@ use Rattle.runs.specs.Record.{zeros, opened}
 use Rattle.gate.specs.Own.Ready.{WholeBlocks}
 use Rattle.runs.specs.Forward.{started}
 use Rattle.gate.proofs.GateLaws.{rest-part}
-use Rattle.gate.proofs.FaultLaws.{half-room}
+use Rattle.gate.proofs.FaultLaws.{half-room, front-same}
 use Rattle.gate.proofs.ReadyLaws.{none-held}
 use Rattle.runs.specs.Back.{takenBack}
 use Rattle.runs.specs.WholeBack.{answerFrom, outputsFrom}
 use Rattle.asking_back.proofs.FrameCounts.{one-frame}
 use Rattle.whole_back.proofs.LoopLaws.{one-block-less, rest-blocks, answer-left, outputs-left}
 use Rattle.runs.proofs.OneByOne.{first-yes}
-use Rattle.frames.proofs.RoomSizes.{Wide, large-room, front-kept, Lent, top-le, bottom-le, lent-wide}
+use Rattle.frames.proofs.RoomSizes.{Wide, large-room, Lent, top-le, bottom-le, lent-wide}
 use Rattle.whole_back.proofs.whole.readings_of.Statement.{statement}
 use Rattle.whole_back.proofs.whole.readings_of.Tie as tie
 
@@ -109,8 +109,8 @@ module _ (c : tie.After-z2) where
   -- the room is as long as it was
   left : Lent 64 648 top-after bottom-after (step .first-frame .last .1 .1 .1 .1 .1 .1 .0) (step .first-frame .last .1 .1 .1 .1 .1 .1 .1 .0)
   left = record {
-    top-long = given made .top-long ∙ front-kept (half start) (top made) top-left (c .before .before .before .top2 .given);
-    bottom-long = given made .bottom-long ∙ front-kept (half start) (bottom made) bottom-left (c .before .before .bottom2 .given);
+    top-long = given made .top-long ∙ sym (front-same (half start) (top made) top-left (top-le (fits made) (given made)) (c .before .before .before .top2 .given));
+    bottom-long = given made .bottom-long ∙ sym (front-same (half start) (bottom made) bottom-left (bottom-le (fits made) (given made)) (c .before .before .bottom2 .given));
     y-long = sym (c .before .y2 .given);
     z-long = sym (c .z2 .given);
   }

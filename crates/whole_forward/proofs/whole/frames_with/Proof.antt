@@ -50,9 +50,6 @@ module _ (s : tie.Start Inv-loop μ-loop) where
   fits : Wide N 1906 64 648
   fits = large-room N (s .pre .1 .0 .wide)
 
-  few : length readings ≤ blockLimit * 128
-  few = few-readings N readings (s .pre .1 .0)
-
 module _ (k : tie.At-loop Inv-loop μ-loop) where
   abbrev from : tie.Start Inv-loop μ-loop
   from = k .before .before .before .before .before .before
@@ -145,14 +142,15 @@ step-requires c κs =
 
 loop-again : tie.Need-loop-again Inv-loop μ-loop
 loop-again c =
-    let t = c .before .before .before .before .before .before in
-    let i = c .before .before .before .before .before .before .before .before .before .before .before .before .before .before in
+    let at-frames = c .before .before .before .before in
+    let t = at-frames .before .before in
+    let i = t .before .before .before .before .before .before .before .before in
     let k = at i in
     let s = from k in
     let same = part-is (place k) (N s) (readings s) in (
       block-next (place k) (k .loop .left) (N s) _ (k .loop .inv .0) (i .loop-test .taken),
-      c .before .before .before .before .frames .given .1 ∙ k .loop .inv .1,
-      front-same (half s) (kept k) (t .step .last .1 .1 .1 .0) (held-le k) (c .before .before .before .before .before .held2 .given) ∙ k .loop .inv .2,
+      at-frames .frames .given .1 ∙ k .loop .inv .1,
+      front-same (half s) (kept k) (t .step .last .1 .1 .1 .0) (held-le k) (at-frames .before .held2 .given) ∙ k .loop .inv .2,
       record {
         top-long = k .loop .inv .3 .top-long ∙ sym (front-same (half s) (k .loop .top) (t .step .last .1 .1 .1 .1 .1 .0) (halves-le k .0) (c .before .before .before .top2 .given));
         bottom-long = k .loop .inv .3 .bottom-long ∙ sym (front-same (half s) (k .loop .bottom) (t .step .last .1 .1 .1 .1 .1 .1 .0) (halves-le k .1) (c .before .before .bottom2 .given));
@@ -190,11 +188,12 @@ step-requires-2 c κs =
 
 returns : tie.Need-returns Inv-loop μ-loop
 returns c =
-    let z = c .before .before .before .before .before .before .before .before .before .before .before .before .before .before in
+    let t = c .before .before .before .before .before .before in
+    let z = t .before .before .before .before .before .before .before .before in
     let k = over z in
     let s = from k in
     stepping-end (N s) (half s) (place k) (k .loop .left) (readings s) _ (frames k) (kept k) (k .loop .inv .4) (none z) (k .loop .inv .0) (k .loop .inv .1) _
-    (c .before .before .before .before .before .before .step2 .ensures .1 ∙ ap (frame (N s) (take (half s) (kept k))) (last-is z))
+    (t .step2 .ensures .1 ∙ ap (frame (N s) (take (half s) (kept k))) (last-is z))
 
 pub frames-with-spec : {M : Type 1} → statement M
 frames-with-spec =
@@ -209,14 +208,14 @@ frames-with-spec =
     (λ c κs. tt)
     (λ c. let s = c .before .before .before .before .before in width-pos (N s) (s .pre .1 .0 .wide))
     loop-holds
-    (λ c. record { fits = omega (arith, in-readings c, few (from (at c))) })
-    (λ c. record { fits = omega (arith, in-readings c, few (from (at c))) })
+    (λ c. record { fits = omega (arith, in-readings c, few-readings _ _ (from (at c) .pre .1 .0)) })
+    (λ c. record { fits = omega (arith, in-readings c, few-readings _ _ (from (at c) .pre .1 .0)) })
     (λ c. omega arith)
     (λ c. omega arith)
     (λ c. in-readings c)
     (λ c. held-le (c .before .before))
     (λ c. let k = c .before .before .before in part-long _ (kept k) (held-le k))
-    (λ c. let k = c .before .before .before in record { fits = omega (arith, k .loop .inv .0, few (from k)) })
+    (λ c. let k = c .before .before .before in record { fits = omega (arith, k .loop .inv .0, few-readings _ _ (from k .pre .1 .0)) })
     (λ c. omega arith)
     (λ c. omega arith)
     (λ c. in-frames (c .before .before))
@@ -235,7 +234,7 @@ frames-with-spec =
     (λ c. part-long _ (c .before .zero-block .result) (zeros-le (c .before)))
     (λ c. held-le (c .before .before .before))
     (λ c. let k = c .before .before .before .before in part-long _ (kept k) (held-le k))
-    (λ c. let k = c .before .before .before .before in record { fits = omega (arith, k .loop .inv .0, few (from k)) })
+    (λ c. let k = c .before .before .before .before in record { fits = omega (arith, k .loop .inv .0, few-readings _ _ (from k .pre .1 .0)) })
     (λ c. omega (arith, last-at (c .before .before)))
     (λ c. omega (arith, last-at (c .before .before)))
     (λ c. omega arith)
