@@ -17,21 +17,42 @@ use Rattle.products.specs.Own.Products.{Lists, Laid, down, up}
 use Rattle.products.specs.Own.Rooms.{Small, Written, AllWritten, halfSums, Spread, AllSpread}
 use Rattle.slices.proofs.FourLaws.{next-four, length-stored, stored-out, stored-is}
 
--- the sum or difference of two fours, by what these are
-pub op-is : (op : ℤ → ℤ → ℤ) (x y z : Four) (f g : ℕ → ℤ) → listed x ≡ places 4 f → listed y ≡ places 4 g → listed z ≡ places 4 (λ j. op (at (listed x) j) (at (listed y) j)) → listed z ≡ places 4 (λ j. op (f j) (g j))
-op-is op x y z f g e d s = s ∙ places-ext 4 _ _ (λ j l. ap₂ op (ap (λ t. at t j) e ∙ at-places 4 f j l) (ap (λ t. at t j) d ∙ at-places 4 g j l))
+-- the sum or difference of two fours, by what the first is
+pub op-is : (op : ℤ → ℤ → ℤ) (x y z : Four) (f : ℕ → ℤ) → listed x ≡ places 4 f → listed z ≡ places 4 (λ j. op (at (listed x) j) (at (listed y) j)) → listed z ≡ places 4 (λ j. op (f j) (at (listed y) j))
+op-is op x y z f e s = s ∙ places-ext 4 _ _ (λ j l. ap (λ t. op t (at (listed y) j)) (ap (λ t. at t j) e ∙ at-places 4 f j l))
+
+-- four small numbers, by their places
+pub small-four : (n : ℕ) (r : List ℤ) → ((j : ℕ) → j < 4 → natAbs (at r (n + j)) ≤ 2 ^ 62 - 1) → Small n (n + 4) r
+small-four n r s = record { small = λ p b l. subst (λ q. natAbs (at r q) ≤ 2 ^ 62 - 1) (let e : n + (p - n) ≡ p = omega arith in e) (s (p - n) (omega arith)) }
 
 -- ---- lists behind others
 pub written-none : (f : ℕ → ℤ) (to : ℕ) (r : List ℤ) → Written f to 0 r r
-written-none f to r = record { long = refl; old = λ p l. refl; new = λ j l. absurd (omega arith) }
+written-none f to r = record { long = refl; rest = λ p l. refl; new = λ j l. absurd (omega arith) }
 
 pub written-next : {f : ℕ → ℤ} {to i : ℕ} {r₀ r : List ℤ} → Written f to i r₀ r → to + i + 4 ≤ length r₀ → (z : Four) → listed z ≡ places 4 (λ j. f (i + j)) → Written f to (i + 4) r₀ (stored r (to + i) z)
 written-next {f = f} {to = to} {i = i} {r = r} s n z e = record {
   long = length-stored r (to + i) z ∙ s .long;
-  old = λ p k. stored-out r (to + i) z p (λ q. absurd (omega arith)) ∙ s .old p k;
+  rest = λ p k. stored-out r (to + i) z p (λ q. omega (arith, k (omega arith))) ∙ s .rest p (λ q. omega (arith, k q));
   new = next-four (λ j. at (stored r (to + i) z) (to + j) ≡ f j) i
       (λ j k. stored-out r (to + i) z (to + j) (λ q. absurd (omega arith)) ∙ s .new j k)
       (λ j k. ap (at (stored r (to + i) z)) (let a : to + (i + j) ≡ to + i + j = omega arith in a) ∙ stored-is r (to + i) z _ (omega (arith, s .long)) e j k);
+}
+
+-- what stands before them did not change
+pub written-before : {f : ℕ → ℤ} {to i : ℕ} {r₀ r : List ℤ} → Written f to i r₀ r → (p : ℕ) → p < to → at r p ≡ at r₀ p
+written-before s p l = s .rest p (λ q. absurd (omega arith))
+
+-- four, and four more behind others
+pub written-stored : (f : ℕ → ℤ) (to : ℕ) (r : List ℤ) (z : Four) → to + 4 ≤ length r → listed z ≡ places 4 f → Written f to 4 r (stored r to z)
+written-stored f to r z n e = record { long = length-stored r to z; rest = stored-out r to z; new = stored-is r to z f n e }
+
+pub written-four : (f : ℕ → ℤ) {g : ℕ → ℤ} {to i : ℕ} {r₀ r r′ : List ℤ} → Written f to i r₀ r → Written g (to + i) 4 r r′ → ((j : ℕ) → j < 4 → g j ≡ f (i + j)) → Written f to (i + 4) r₀ r′
+written-four f {g} {to} {i} {r₀} {r} {r′} s t e = record {
+  long = t .long ∙ s .long;
+  rest = λ p k. t .rest p (λ q. omega (arith, k (omega arith))) ∙ s .rest p (λ q. omega (arith, k q));
+  new = next-four (λ j. at r′ (to + j) ≡ f j) i
+      (λ j k. written-before t (to + j) (omega arith) ∙ s .new j k)
+      (λ j k. ap (at r′) (let a : to + (i + j) ≡ to + i + j = omega arith in a) ∙ t .new j k ∙ e j k);
 }
 
 -- ---- both halves
@@ -48,28 +69,24 @@ module _ {op : ℤ → ℤ → ℤ} {to h from i : ℕ} {r₀ r : List ℤ} (s :
   pub spread-read-middle : (j : ℕ) → at r (from + i + j) ≡ at r₀ (from + i + j)
   spread-read-middle j = s .rest (from + i + j) (λ q. omega arith) (λ q. omega arith)
 
-  pub spread-next : from ≤ length r₀ → (x y : Four) → listed x ≡ places 4 (λ j. op (at r (to + i + j)) (at r (from + i + j))) → listed y ≡ places 4 (λ j. op (at r (to + h + i + j)) (at r (from + i + j)))
-      → Spread op to h from (i + 4) r₀ (stored (stored r (to + i) x) (to + h + i) y)
-  spread-next n x y e f =
-      let r₁ = stored r (to + i) x in
-      let r₂ = stored r₁ (to + h + i) y in record {
-        long = length-stored r₁ (to + h + i) y ∙ length-stored r (to + i) x ∙ s .long;
+  pub spread-next : (z : Four) → listed z ≡ places 4 (λ j. at r (from + i + j)) → {r₁ r₂ : List ℤ} → Written (λ j. op (at r (to + i + j)) (at (listed z) j)) (to + i) 4 r r₁
+      → Written (λ j. op (at r₁ (to + h + i + j)) (at (listed z) j)) (to + h + i) 4 r₁ r₂ → Spread op to h from (i + 4) r₀ r₂
+  spread-next z ez {r₁} {r₂} t u =
+      let taken : (j : ℕ) → j < 4 → at (listed z) j ≡ at r₀ (from + i + j) = λ j k. ap (λ x. at x j) ez ∙ at-places 4 _ j k ∙ spread-read-middle j in record {
+        long = u .long ∙ t .long ∙ s .long;
         first = next-four (λ j. at r₂ (to + j) ≡ op (at r₀ (to + j)) (at r₀ (from + j))) i
-            (λ j k. stored-out r₁ (to + h + i) y (to + j) (λ q. absurd (omega arith)) ∙ stored-out r (to + i) x (to + j) (λ q. absurd (omega arith)) ∙ s .first j k)
+            (λ j k. written-before u (to + j) (omega arith) ∙ written-before t (to + j) (omega arith) ∙ s .first j k)
             (λ j k.
             let a : to + (i + j) ≡ to + i + j = omega arith in
             let b : from + (i + j) ≡ from + i + j = omega arith in
-            stored-out r₁ (to + h + i) y (to + (i + j)) (λ q. absurd (omega arith))
-            ∙ rw (a, b) (stored-is r (to + i) x _ (omega (arith, s .long)) e j k ∙ ap₂ op (spread-read-first j k) (spread-read-middle j)));
+            written-before u (to + (i + j)) (omega arith) ∙ rw (a, b) (t .new j k ∙ ap₂ op (spread-read-first j k) (taken j k)));
         second = next-four (λ j. at r₂ (to + h + j) ≡ op (at r₀ (to + h + j)) (at r₀ (from + j))) i
-            (λ j k. stored-out r₁ (to + h + i) y (to + h + j) (λ q. absurd (omega arith)) ∙ stored-out r (to + i) x (to + h + j) (λ q. omega arith) ∙ s .second j k)
+            (λ j k. written-before u (to + h + j) (omega arith) ∙ t .rest (to + h + j) (λ q. omega arith) ∙ s .second j k)
             (λ j k.
             let a : to + h + (i + j) ≡ to + h + i + j = omega arith in
             let b : from + (i + j) ≡ from + i + j = omega arith in
-            rw (a, b) (stored-is r₁ (to + h + i) y _ (omega (arith, s .long, length-stored r (to + i) x)) f j k ∙ ap₂ op (spread-read-second j k) (spread-read-middle j)));
-        rest = λ p a b.
-            stored-out r₁ (to + h + i) y p (λ q. omega (arith, b (omega arith))) ∙ stored-out r (to + i) x p (λ q. omega (arith, a (omega arith)))
-            ∙ s .rest p (λ q. omega (arith, a (omega arith))) (λ q. omega (arith, b (omega arith)));
+            rw (a, b) (u .new j k ∙ ap₂ op (t .rest (to + h + i + j) (λ q. omega arith) ∙ spread-read-second j k) (taken j k)));
+        rest = λ p a b. u .rest p (λ q. omega (arith, b (omega arith))) ∙ t .rest p (λ q. omega (arith, a (omega arith))) ∙ s .rest p (λ q. omega (arith, a (omega arith))) (λ q. omega (arith, b (omega arith)));
       }
 
 -- ---- every list
@@ -87,9 +104,9 @@ all-written-none F to h r = record { long = refl; old = λ p l. refl; new = λ w
 pub all-written-next : {F : Lists} {to h v : ℕ} {r₀ r r′ : List ℤ} → AllWritten F to h v r₀ r → (f : ℕ → ℤ) → ((j : ℕ) → j < h → f j ≡ F v j) → Written f (to + v * h) h r r′ → AllWritten F to h (v + 1) r₀ r′
 all-written-next {F = F} {to = to} {h = h} {v = v} {r′ = r′} s f e t = record {
   long = t .long ∙ s .long;
-  old = λ p q. t .old p (omega arith) ∙ s .old p q;
+  old = λ p q. written-before t p (omega arith) ∙ s .old p q;
   new = λ w j q m. next-one (λ w. at r′ (to + w * h + j) ≡ F w j) v
-      (λ w n. let before : (w + 1) * h ≤ v * h = mul-le-mul-right h (omega arith) in t .old (to + w * h + j) (omega arith) ∙ s .new w j n m)
+      (λ w n. let before : (w + 1) * h ≤ v * h = mul-le-mul-right h (omega arith) in written-before t (to + w * h + j) (omega arith) ∙ s .new w j n m)
       (t .new j m ∙ e j m) w q;
 }
 

@@ -13,8 +13,6 @@ use lib.Seq.{getD-set-same, getD-set-other, getD-append-add, getD-take}
 use Rattle.integers.specs.Places.{at, places, Within}
 use Rattle.integers.proofs.PlaceLaws.{at-places, places-ext}
 use Rattle.slices.specs.declared.fours.Four.{Four}
-use Rattle.products.specs.declared.leaf.Nine.{Nine}
-use Rattle.products.specs.Own.Leaf.{listedNine}
 use Rattle.slices.specs.Own.Fours.{listed, stored}
 use Rattle.products.specs.Own.Products.{Lists, Laid, Power, downL, wide, tables, nine}
 use Rattle.products.specs.Own.Rooms.{Small, Written, AllWritten, AllSpread}
@@ -37,7 +35,7 @@ written-nine f {r} {r′} {r″} {p} {low} {high} {z} e₁ e₂ h el eh ez =
     let eight : Written f p 8 r r₂ = written-next four (omega arith) high eh in
     subst (λ t. Written f p 9 r (set t (p + 8) z)) (sym same) record {
       long = length-set r₂ (p + 8) z ∙ n;
-      old = λ q l. getD-set-other r₂ (p + 8) q z (pos 0) (λ e. omega arith) ∙ eight .old q l;
+      rest = λ q l. getD-set-other r₂ (p + 8) q z (pos 0) (λ e. omega (arith, l (omega arith))) ∙ eight .rest q (λ m. omega (arith, l m));
       new = next-one (λ j. at (set r₂ (p + 8) z) (p + j) ≡ f j) 8
           (λ j l. getD-set-other r₂ (p + 8) (p + j) z (pos 0) (λ e. omega arith) ∙ eight .new j l)
           (getD-set-same r₂ (p + 8) z (pos 0) (omega arith) ∙ ez);
@@ -56,10 +54,6 @@ pub eight-is : (x y : Four) (f : ℕ → ℤ) → listed x ≡ places 4 f → li
 eight-is x y f ex ey = next-four (λ e. at (listed x ++ listed y) e ≡ f e) 4
     (λ j l. List·getD-append (listed x) (listed y) (pos 0) j l ∙ ap (λ t. at t j) ex ∙ at-places 4 f j l)
     (λ j l. getD-append-add (listed x) (listed y) j (pos 0) ∙ ap (λ t. at t j) ey ∙ at-places 4 (λ j. f (4 + j)) j l)
-
-pub nine-same : {a b c d e f g h i a′ b′ c′ d′ e′ f′ g′ h′ i′ : ℤ} → a ≡ a′ → b ≡ b′ → c ≡ c′ → d ≡ d′ → e ≡ e′ → f ≡ f′ → g ≡ g′ → h ≡ h′ → i ≡ i′
-    → (a ∷ b ∷ c ∷ d ∷ e ∷ f ∷ g ∷ h ∷ i ∷ []) ≡ (a′ ∷ b′ ∷ c′ ∷ d′ ∷ e′ ∷ f′ ∷ g′ ∷ h′ ∷ i′ ∷ [])
-nine-same a b c d e f g h i = ap₂ _∷_ a (ap₂ _∷_ b (ap₂ _∷_ c (ap₂ _∷_ d (ap₂ _∷_ e (ap₂ _∷_ f (ap₂ _∷_ g (ap₂ _∷_ h (ap (λ z. z ∷ []) i))))))))
 
 -- ---- a level
 module _ (q k : ℕ) (r₀ r₁ : List ℤ) (w : AllWritten (middles q r₀) (k * (q + q + (q + q))) (q + q) k r₀ r₁) where
@@ -131,15 +125,15 @@ module _ (q k : ℕ) (r₀ r₁ : List ℤ) (w : AllWritten (middles q r₀) (k 
 abbrev pub ninesOf : List ℤ → Lists
 ninesOf lists v = at (nine (λ e. at lists (v * 8 + e)))
 
-pub nines-next : (lists : List ℤ) {v : ℕ} {r₀ r : List ℤ} → AllWritten (ninesOf lists) 0 9 v r₀ r → (x y : Four) (n : Nine) → listed x ≡ places 4 (λ j. at lists (v * 8 + j)) → listed y ≡ places 4 (λ j. at lists (v * 8 + 4 + j))
-    → listedNine n ≡ nine (at (listed x ++ listed y)) → {r′ : List ℤ} → Written (at (listedNine n)) (v * 9) 9 r r′ → AllWritten (ninesOf lists) 0 9 (v + 1) r₀ r′
-nines-next lists {v} {r₀} {r} s x y n ex ey en {r′} er =
+pub nines-next : (lists : List ℤ) {v : ℕ} {r₀ r : List ℤ} → AllWritten (ninesOf lists) 0 9 v r₀ r → (x y : Four) → listed x ≡ places 4 (λ j. at lists (v * 8 + j)) → listed y ≡ places 4 (λ j. at lists (v * 8 + 4 + j))
+    → {r′ : List ℤ} → Written (at (nine (at (listed x ++ listed y)))) (v * 9) 9 r r′ → AllWritten (ninesOf lists) 0 9 (v + 1) r₀ r′
+nines-next lists {v} {r₀} {r} s x y ex ey {r′} er =
     let f : ℕ → ℤ = λ e. at lists (v * 8 + e) in
     let ey′ = ey ∙ places-ext 4 _ (λ j. f (4 + j)) (λ j q. ap (at lists) (let e : v * 8 + 4 + j ≡ v * 8 + (4 + j) = omega arith in e)) in
-    let e = en ∙ nine-ext (at (listed x ++ listed y)) f (eight-is x y f ex ey′) in
+    let e = nine-ext (at (listed x ++ listed y)) f (eight-is x y f ex ey′) in
     let z : v * 9 ≡ 0 + v * 9 = omega arith in
-    all-written-next s (at (listedNine n)) (λ j q. ap (λ t. at t j) e)
-    (subst (λ p. Written (at (listedNine n)) p 9 r r′) z er)
+    all-written-next s (at (nine (at (listed x ++ listed y)))) (λ j q. ap (λ t. at t j) e)
+    (subst (λ p. Written (at (nine (at (listed x ++ listed y)))) p 9 r r′) z er)
 
 pub nines-laid : (k : ℕ) (lists r₀ r : List ℤ) → AllWritten (ninesOf lists) 0 9 k r₀ r → k * 9 ≤ length r₀ → (L : Lists) → Laid 8 k L lists → Laid 9 k (λ v. at (nine (L v))) r
 nines-laid k lists r₀ r s n L d = record {

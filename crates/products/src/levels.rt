@@ -1,13 +1,24 @@
 // A level: k lists of 2h numbers, and behind them the k sums of their halves.
 ghost use mathlib.Core.Path.{_≡_};
-ghost use Prim.Native.Nat.{_+_, _*_, _%_, _≤_};
+ghost use Prim.Native.Nat.{_+_, _-_, _*_, _%_, _^_, _≤_};
 ghost use lib.IntN.{_+ℤ_};
 ghost use lib.ListN.{length};
-ghost use Rattle.integers.specs.Places.{at};
-ghost use Rattle.products.specs.Own.Products.{Lists, Laid, down, up};
+ghost use Rattle.integers.specs.Places.{at, Within};
+ghost use Rattle.products.specs.Own.Products.{Lists, Laid, down};
 ghost use Rattle.products.specs.Own.Rooms.{Small, Written, Spread, AllSpread};
+ghost use Rattle.slices.specs.Own.Fours.{listed};
 ghost use Rattle.slices.specs.Own.Moves.{moved};
 use slices::fours;
+use slices::fours::Four;
+
+// To `to` the four numbers from x on with z added, or taken off.
+fn move_four(less: bool, room: &mut [i64], x: usize, z: Four, to: usize)
+    requires { ⌜ (x + 4 ≤ length (now room)) × (to + 4 ≤ length (now room)) × Small x (x + 4) (now room) × Within (2 ^ 62 - 1) (listed z) ⌝ }
+    ensures { λ _. ⌜ Written (λ j. moved less (at (now (room .entry)) (x + j)) (at (listed z) j)) to 4 (now (room .entry)) (now (room .exit)) ⌝ }
+{
+    let y = fours::four_at(room, x);
+    fours::put(room, to, fours::sum_or_difference(less, y, z));
+}
 
 // The sums of the halves of one list.
 fn append_list(room: &mut [i64], from: usize, to: usize, h: usize)
@@ -17,9 +28,8 @@ fn append_list(room: &mut [i64], from: usize, to: usize, h: usize)
 {
     let mut i = 0;
     while i < h {
-        let x = fours::four_at(room, from + i);
         let y = fours::four_at(room, from + h + i);
-        fours::put(room, to + i, fours::plus(x, y));
+        move_four(false, room, from + i, y, to + i);
         i += 4;
     }
 }
@@ -51,10 +61,10 @@ fn spread_list(less: bool, room: &mut [i64], to: usize, from: usize, h: usize)
     let mut i = 0;
     while i < h {
         let z = fours::four_at(room, from + i);
-        let x = fours::four_at(room, to + i);
-        let y = fours::four_at(room, to + h + i);
-        fours::put(room, to + i, fours::sum_or_difference(less, x, z));
-        fours::put(room, to + h + i, fours::sum_or_difference(less, y, z));
+        let p = to + i;
+        let q = to + h + i;
+        move_four(less, room, p, z, p);
+        move_four(less, room, q, z, q);
         i += 4;
     }
 }
@@ -75,13 +85,4 @@ pub fn spread_lists(less: bool, room: &mut [i64], k: usize, h: usize)
         from += h;
         v += 1;
     }
-}
-
-// The lists of a level from those of the level below.
-pub fn spread(room: &mut [i64], k: usize, h: usize)
-    requires { ⌜ (h % 4 ≡ 0) × (1 ≤ k) × (k * (h + h) + k * h ≤ length (now room)) ⌝ }
-    requires { ⌜ Small 0 (k * (h + h) + k * h) (now room) ⌝ }
-    ensures { λ _. ⌜ ((y : Lists) → Laid h (3 * k) y (now (room .entry)) → Laid (h + h) k (up h k y) (now (room .exit))) ⌝ }
-{
-    spread_lists(false, room, k, h);
 }

@@ -2,16 +2,14 @@
 ghost use mathlib.Core.Path.{_≡_};
 ghost use mathlib.Core.List.{_++_};
 ghost use Prim.Native.Nat.{ℕ, _+_, _-_, _*_, _%_, _^_, _≤_, _<_};
-ghost use lib.IntN.{natAbs, _-ℤ_};
+ghost use lib.IntN.{natAbs};
 ghost use lib.ListN.{length, take};
 ghost use Rattle.integers.specs.Places.{at, Within};
 ghost use Rattle.products.specs.Own.Products.{Lists, Laid, Power, downL, tables};
-ghost use Rattle.products.specs.Own.Rooms.{Small, Written, AllWritten, AllSpread};
+ghost use Rattle.products.specs.Own.Rooms.{Small, Written, AllWritten};
 ghost use Rattle.slices.specs.Own.Fours.{listed};
-ghost use Rattle.products.specs.Own.Leaf.{listedNine};
 ghost use Rattle.products.specs.Own.Whole.{LeafLists};
 ghost use Rattle.products.specs.Own.Tables.{middles, Tabled};
-use crate::leaf::Nine;
 use crate::levels;
 use slices::fours;
 use slices::fours::Four;
@@ -46,15 +44,6 @@ fn copy_middles(room: &mut [i64], k: usize, q: usize)
     }
 }
 
-// The last k of 3k lists, taken off the halves of every list.
-fn subtract(room: &mut [i64], k: usize, h: usize)
-    requires { ⌜ (h % 4 ≡ 0) × (1 ≤ k) × (k * (h + h) + k * h ≤ length (now room)) ⌝ }
-    requires { ⌜ Small 0 (k * (h + h) + k * h) (now room) ⌝ }
-    ensures { λ _. ⌜ AllSpread _-ℤ_ h k k (now (room .entry)) (now (room .exit)) ⌝ }
-{
-    levels::spread_lists(true, room, k, h);
-}
-
 // k lists of 4q numbers become 3k of 2q.
 fn halve_lists(room: &mut [i64], k: usize, q: usize)
     requires { ⌜ (q % 4 ≡ 0) × (1 ≤ k) × (k * (q + q + (q + q)) + k * (q + q) ≤ length (now room)) ⌝ }
@@ -62,7 +51,7 @@ fn halve_lists(room: &mut [i64], k: usize, q: usize)
     ensures { λ _. ⌜ ((L : Lists) → Laid (q + q + (q + q)) k L (now (room .entry)) → Laid (q + q) (3 * k) (downL q k L) (now (room .exit))) ⌝ }
 {
     copy_middles(room, k, q);
-    subtract(room, k, q + q);
+    levels::spread_lists(true, room, k, q + q);
 }
 
 // The list of 2m numbers down to lists of eight: how many.
@@ -80,47 +69,31 @@ fn halve_levels(room: &mut [i64], m: usize) -> usize
     k
 }
 
-// The nine numbers of a leaf from its list.
-fn nine_of(x: Four, y: Four) -> Nine
-    requires { ⌜ Within (2 ^ 60) (listed x) ⌝ }
-    requires { ⌜ Within (2 ^ 60) (listed y) ⌝ }
-    ensures { λ r. ⌜ listedNine r ≡ Rattle.products.specs.Own.Products.nine (at (listed x ++ listed y)) ⌝ }
+// The nine numbers of a leaf from its list of eight, x and y, to place p.
+fn put_nine(out: &mut [i64], p: usize, x: Four, y: Four)
+    requires { ⌜ (p + 9 ≤ length (now out)) × Within (2 ^ 60) (listed x) × Within (2 ^ 60) (listed y) ⌝ }
+    ensures { λ _. ⌜ Written (at (Rattle.products.specs.Own.Products.nine (at (listed x ++ listed y)))) p 9 (now (out .entry)) (now (out .exit)) ⌝ }
 {
-    let u = x.b - x.d;
-    let w = y.b - x.d;
-    Nine {
-        a: x.a - x.c - u,
-        b: x.c - y.a - u,
-        c: y.a - x.c - w,
-        d: y.c - y.a - w,
-        e: u,
-        f: w,
-        g: x.c - x.d,
-        h: y.a - x.d,
-        i: x.d,
-    }
-}
-
-fn put_nine(x: &mut [i64], p: usize, n: Nine)
-    requires { ⌜ p + 9 ≤ length (now x) ⌝ }
-    ensures { λ _. ⌜ Written (at (listedNine n)) p 9 (now (x .entry)) (now (x .exit)) ⌝ }
-{
+    let c = x.c;
+    let d = x.d;
+    let e = y.a;
+    let u = x.b - d;
+    let w = y.b - d;
     let low = Four {
-        a: n.a,
-        b: n.b,
-        c: n.c,
-        d: n.d,
+        a: x.a - c - u,
+        b: c - e - u,
+        c: e - c - w,
+        d: y.c - e - w,
     };
     let high = Four {
-        a: n.e,
-        b: n.f,
-        c: n.g,
-        d: n.h,
+        a: u,
+        b: w,
+        c: c - d,
+        d: e - d,
     };
-    let last = n.i;
-    fours::put(x, p, low);
-    fours::put(x, p + 4, high);
-    x[p + 8] = last;
+    fours::put(out, p, low);
+    fours::put(out, p + 4, high);
+    out[p + 8] = d;
 }
 
 // Nine numbers of each of k lists of eight.
@@ -133,7 +106,7 @@ fn nines(lists: &[i64], out: &mut [i64], k: usize)
     while v < k {
         let x = fours::four_at(lists, v * 8);
         let y = fours::four_at(lists, v * 8 + 4);
-        put_nine(out, v * 9, nine_of(x, y));
+        put_nine(out, v * 9, x, y);
         v += 1;
     }
 }

@@ -34,7 +34,7 @@ fn ascend(room: &mut [i64], m: usize, leaves: usize)
     let mut n = 4;
     while n < m {
         k /= 3;
-        levels::spread(room, k, n);
+        levels::spread_lists(false, room, k, n);
         n += n;
     }
 }

@@ -24,6 +24,7 @@ use Rattle.products.specs.Own.Products.{Power}
 use Rattle.products.specs.Own.Rooms.{Small, Written}
 use Rattle.products.specs.Own.Whole.{LeafLists}
 use Rattle.products.specs.Own.Tables.{Tabled}
+use Rattle.products.proofs.RoomLaws.{written-before}
 use Rattle.products.proofs.LevelRooms.{power-same}
 use Rattle.width_tables.specs.Orders.{angleAt}
 use Rattle.width_tables.specs.Filled.{leavesLong, listRoom, cosineList, secantList}
@@ -103,7 +104,7 @@ module _ (n h : ℕ) (f : ℕ → ℤ) {room₀ room : List ℤ} (double : n ≡
   either i l = by (ltb i h) refl
     where
       by : (t : Bool) → ltb i h ≡ t → at room i ≡ f i
-      by true e = let k = ltb-true i h e in w .old i k ∙ first-at i k
+      by true e = let k = ltb-true i h e in written-before w i k ∙ first-at i k
       by false e =
           let k = ltb-false i h e in
           let j = i - h in

@@ -11,10 +11,10 @@ use Rattle.products.specs.Own.Products.{Lists}
 pub record Small (m n : ℕ) (room : List ℤ) : Type 0 where
   pub small : (p : ℕ) → m ≤ p → p < n → natAbs (at room p) ≤ 2 ^ 62 - 1
 
--- f 0, .., f (i − 1) stand from `to` on; before `to` nothing changed
+-- f 0, .., f (i − 1) stand from `to` on; nothing else changed
 pub record Written (f : ℕ → ℤ) (to i : ℕ) (room₀ room : List ℤ) : Type 0 where
   pub long : length room ≡ length room₀
-  pub old : (p : ℕ) → p < to → at room p ≡ at room₀ p
+  pub rest : (p : ℕ) → (to ≤ p → to + i ≤ p) → at room p ≡ at room₀ p
   pub new : (j : ℕ) → j < i → at room (to + j) ≡ f j
 
 -- the first v lists of h numbers of F stand from `to` on

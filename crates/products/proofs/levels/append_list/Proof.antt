@@ -1,13 +1,15 @@
+-- `products::levels::append_list` meets its contract.
 use native.Mathlib.Omega.{arith}
 use mathlib.Core.Path.{_≡_, refl, sym, ap, ap₂, subst, _∙_}
 use Prim.Native.Nat.{ℕ, _+_, _-_, _%_, _^_, _≤_, _<_}
 use lib.IntN.{ℤ, natAbs, _+ℤ_}
-use Rattle.integers.proofs.PlaceLaws.{places-ext}
-use Rattle.integers.specs.Places.{at}
 use lib.ListN.{length}
-use Rattle.products.specs.Own.Rooms.{Written}
+use Rattle.integers.specs.Places.{at}
+use Rattle.integers.proofs.PlaceLaws.{at-places}
+use Rattle.slices.specs.Own.Moves.{moved}
 use Rattle.slices.proofs.FourLaws.{listed-within}
-use Rattle.products.proofs.RoomLaws.{op-is, written-none, written-next}
+use Rattle.products.specs.Own.Rooms.{Written}
+use Rattle.products.proofs.RoomLaws.{written-none, written-before, written-four}
 use Rattle.products.proofs.levels.append_list.Statement.{statement}
 use Rattle.products.proofs.levels.append_list.Tie as tie
 
@@ -25,72 +27,72 @@ module _ (k : tie.At-loop Inv-loop μ-loop) where
   within : k .loop .i < k .before .args .h → k .loop .i + 4 ≤ k .before .args .h
   within l = omega (arith, k .before .pre .0, k .loop .inv .1)
 
-  read-within : (p : ℕ) → k .before .args .from ≤ p → p < k .before .args .from + (k .before .args .h + k .before .args .h) → natAbs (at (k .loop .room) p) ≤ 2 ^ 62 - 1
-  read-within p b l = subst (λ z. natAbs z ≤ 2 ^ 62 - 1) (sym (k .loop .inv .2 .old p (omega (arith, k .before .pre .0)))) (k .before .pre .1 .small p b l)
+  same : (p : ℕ) → p < k .before .args .from + (k .before .args .h + k .before .args .h) → at (k .loop .room) p ≡ at (k .before .args .room .now) p
+  same p l = written-before (k .loop .inv .2) p (omega (arith, k .before .pre .0))
+
+  small : (p : ℕ) → k .before .args .from ≤ p → p < k .before .args .from + (k .before .args .h + k .before .args .h) → natAbs (at (k .loop .room) p) ≤ 2 ^ 62 - 1
+  small p b l = subst (λ z. natAbs z ≤ 2 ^ 62 - 1) (sym (same p l)) (k .before .pre .1 .small p b l)
+
+-- the beginning of a turn
+abbrev turn : tie.After-move-four-arg Inv-loop μ-loop → tie.In-loop Inv-loop μ-loop
+turn c = c .before .before .before
+
+left : (c : tie.In-loop Inv-loop μ-loop) → c .before .loop .i + 4 ≤ c .before .before .args .h
+left c = within (c .before) (c .loop-test .taken)
 
 loop-holds : tie.Need-loop-holds Inv-loop μ-loop
 loop-holds c = (omega arith, refl, written-none _ _ _)
 
 add-four-at : tie.Need-add-four-at Inv-loop μ-loop
-add-four-at c = omega (arith, c .before .before .before .pre .0, within (c .before .before) (c .before .loop-test .taken))
-
-four-at-requires : tie.Need-four-at-requires Inv-loop μ-loop
-four-at-requires c κs = omega (arith, c .before .before .before .pre .0, within (c .before .before) (c .before .loop-test .taken), long (c .before .before))
+add-four-at c = omega (arith, c .before .before .before .pre .0)
 
 add-four-at-2 : tie.Need-add-four-at-2 Inv-loop μ-loop
-add-four-at-2 c =
-    let at-loop = c .before .before .before .before in
-    omega (arith, at-loop .before .pre .0, within at-loop (c .before .before .before .loop-test .taken))
+add-four-at-2 c = omega (arith, c .before .before .before .pre .0, left (c .before))
 
-add-four-at-3 : tie.Need-add-four-at-3 Inv-loop μ-loop
-add-four-at-3 c =
-    let at-loop = c .before .before .before .before in
-    omega (arith, at-loop .before .pre .0, within at-loop (c .before .before .before .loop-test .taken))
+four-at-requires : tie.Need-four-at-requires Inv-loop μ-loop
+four-at-requires c κs = omega (arith, c .before .before .before .pre .0, left (c .before), long (c .before .before))
 
-four-at-requires-2 : tie.Need-four-at-requires-2 Inv-loop μ-loop
-four-at-requires-2 c κs =
-    let at-loop = c .before .before .before .before in
-    omega (arith, at-loop .before .pre .0, within at-loop (c .before .before .before .loop-test .taken), long at-loop)
+add-move-four : tie.Need-add-move-four Inv-loop μ-loop
+add-move-four c = omega (arith, turn c .before .before .pre .0, left (turn c))
 
-add-put : tie.Need-add-put Inv-loop μ-loop
-add-put c =
-    let in-loop = c .before .before .before .before .before in
-    omega (arith, in-loop .before .before .pre .0, within (in-loop .before) (in-loop .loop-test .taken))
+add-move-four-2 : tie.Need-add-move-four-2 Inv-loop μ-loop
+add-move-four-2 c = omega (arith, turn c .before .before .pre .0, left (turn c))
 
-plus-requires : tie.Need-plus-requires Inv-loop μ-loop
-plus-requires c κs =
-    let in-loop = c .before .before .before .before .before in
-    let k = in-loop .before in
-    let l = within k (in-loop .loop-test .taken) in (
-      listed-within (c .before .before .before .four-at .result) _ (2 ^ 62 - 1) (c .before .before .before .four-at .ensures) (λ j q. read-within k _ (omega arith) (omega arith)),
-      listed-within (c .before .four-at2 .result) _ (2 ^ 62 - 1) (c .before .four-at2 .ensures) (λ j q. read-within k _ (omega arith) (omega arith)),
+move-four-requires : tie.Need-move-four-requires Inv-loop μ-loop
+move-four-requires c κs =
+    let k = turn c .before in
+    let p = k .before .pre .0 in
+    let l = left (turn c) in
+    let y = c .before .four-at in (
+      omega (arith, p, l, long k),
+      omega (arith, p, l, long k),
+      record { small = λ q b m. small k q (omega arith) (omega arith) },
+      listed-within (y .result) _ (2 ^ 62 - 1) (y .ensures) (λ j q. small k _ (omega arith) (omega arith)),
     )
 
-put-requires : tie.Need-put-requires Inv-loop μ-loop
-put-requires c κs =
-    let in-loop = c .before .before .before .before .before .before in
-    omega (arith, in-loop .before .before .pre .0, within (in-loop .before) (in-loop .loop-test .taken), long (in-loop .before))
-
 add-i : tie.Need-add-i Inv-loop μ-loop
-add-i c =
-    let in-loop = c .before .before .before .before .before .before .before .before in
-    omega (arith, within (in-loop .before) (in-loop .loop-test .taken), in-loop .before .before .pre .0)
+add-i c = let t = turn (c .before .before) in omega (arith, left t, t .before .before .pre .0)
 
 loop-less : tie.Need-loop-less Inv-loop μ-loop
 loop-less c = omega arith
 
 loop-again : tie.Need-loop-again Inv-loop μ-loop
+unfolding moved
 loop-again c =
-    let at-four-at2 = c .before .before .before .before in
-    let in-loop = at-four-at2 .before .before .before .before in
-    let k = in-loop .before in
-    let l = within k (in-loop .loop-test .taken) in
+    let y = c .before .before .before .four-at in
+    let t = turn (c .before .before) in
+    let k = t .before in
+    let l = left t in
     let a = k .before .args in
-    let f : ℕ → ℤ = λ j. at (a .room .now) (a .from + j) +ℤ at (a .room .now) (a .from + a .h + j) in
-    let read : (p : ℕ) → p < a .to → at (k .loop .room) p ≡ at (a .room .now) p = k .loop .inv .2 .old in
-    let z = op-is _+ℤ_ (at-four-at2 .before .before .four-at .result) (at-four-at2 .four-at2 .result) (c .before .before .plus .result) _ _ (at-four-at2 .before .before .four-at .ensures) (at-four-at2 .four-at2 .ensures) (c .before .before .plus .ensures) in
-    let y = z ∙ places-ext 4 _ _ (λ j q. ap₂ _+ℤ_ (read (a .from + k .loop .i + j) (omega (arith, k .before .pre .0)) ∙ ap (at (a .room .now)) (let e : a .from + k .loop .i + j ≡ a .from + (k .loop .i + j) = omega arith in e)) (read (a .from + a .h + k .loop .i + j) (omega (arith, k .before .pre .0)) ∙ ap (at (a .room .now)) (let e : a .from + a .h + k .loop .i + j ≡ a .from + a .h + (k .loop .i + j) = omega arith in e))) in
-    (omega arith, omega arith, subst (Written f (a .to) (k .loop .i + 4) (a .room .now)) (sym (c .before .put .ensures)) (written-next (k .loop .inv .2) (omega (arith, k .before .pre .0)) (c .before .before .plus .result) y))
+    let i = k .loop .i in
+    let r = a .room .now in (
+      omega (arith, l),
+      omega (arith, k .loop .inv .1),
+      written-four (λ j. at r (a .from + j) +ℤ at r (a .from + a .h + j)) (k .loop .inv .2) (c .before .move-four .ensures) (λ j q.
+          let d : a .from + i + j ≡ a .from + (i + j) = omega arith in
+          let e : a .from + a .h + i + j ≡ a .from + a .h + (i + j) = omega arith in
+          ap₂ _+ℤ_ (same k (a .from + i + j) (omega arith) ∙ ap (at r) d) (ap (λ t. at t j) (y .ensures) ∙ at-places 4 _ j q ∙ same k (a .from + a .h + i + j) (omega arith) ∙ ap (at r) e)),
+    )
 
 same-length : tie.Need-same-length Inv-loop μ-loop
 same-length c = long (c .before)
@@ -110,13 +112,11 @@ append-list-spec =
     μ-loop
     loop-holds
     add-four-at
-    four-at-requires
     add-four-at-2
-    add-four-at-3
-    four-at-requires-2
-    add-put
-    plus-requires
-    put-requires
+    four-at-requires
+    add-move-four
+    add-move-four-2
+    move-four-requires
     add-i
     loop-less
     loop-again

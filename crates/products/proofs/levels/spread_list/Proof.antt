@@ -1,14 +1,14 @@
+-- `products::levels::spread_list` meets its contract.
 use native.Mathlib.Omega.{arith}
-use mathlib.Core.Path.{_≡_, refl, sym, ap, subst, _∙_}
+use mathlib.Core.Path.{_≡_, refl, sym, subst}
 use Prim.Native.Nat.{ℕ, _+_, _-_, _%_, _^_, _≤_, _<_}
 use lib.IntN.{natAbs}
 use Rattle.integers.specs.Places.{at}
 use lib.ListN.{length}
-use Rattle.slices.specs.Own.Fours.{stored}
 use Rattle.slices.specs.Own.Moves.{moved}
 use Rattle.products.specs.Own.Rooms.{Spread}
-use Rattle.slices.proofs.FourLaws.{listed-within, length-stored}
-use Rattle.products.proofs.RoomLaws.{op-is, spread-none, spread-read-first, spread-read-second, spread-read-middle, spread-next}
+use Rattle.slices.proofs.FourLaws.{listed-within}
+use Rattle.products.proofs.RoomLaws.{small-four, spread-none, spread-read-first, spread-read-second, spread-read-middle, spread-next}
 use Rattle.products.proofs.levels.spread_list.Statement.{statement}
 use Rattle.products.proofs.levels.spread_list.Tie as tie
 
@@ -39,102 +39,73 @@ module _ (k : tie.At-loop Inv-loop μ-loop) where
 loop-holds : tie.Need-loop-holds Inv-loop μ-loop
 loop-holds c = (omega arith, refl, spread-none _ _ _ _ _)
 
+-- the beginning of a turn
+abbrev turn : tie.After-four-at Inv-loop μ-loop → tie.In-loop Inv-loop μ-loop
+turn c = c .before .before
+
+module _ (c : tie.In-loop Inv-loop μ-loop) where
+  left : c .before .loop .i + 4 ≤ c .before .before .args .h
+  left = within (c .before) (c .loop-test .taken)
+
+  ends : c .before .before .args .from + c .before .loop .i + 4 ≤ length (c .before .loop .room)
+  ends = omega (arith, c .before .before .pre .0, left, long (c .before))
+
 add-four-at : tie.Need-add-four-at Inv-loop μ-loop
-add-four-at c = omega (arith, c .before .before .before .pre .0, within (c .before .before) (c .before .loop-test .taken), long (c .before .before))
+add-four-at c = omega (arith, ends (c .before))
 
 four-at-requires : tie.Need-four-at-requires Inv-loop μ-loop
-four-at-requires c κs = omega (arith, c .before .before .before .pre .0, within (c .before .before) (c .before .loop-test .taken), long (c .before .before))
+four-at-requires c κs = ends (c .before)
 
-add-four-at-2 : tie.Need-add-four-at-2 Inv-loop μ-loop
-add-four-at-2 c =
-    let at-loop = c .before .before .before .before in
-    omega (arith, at-loop .before .pre .0, within at-loop (c .before .before .before .loop-test .taken), long at-loop)
+add-p : tie.Need-add-p Inv-loop μ-loop
+add-p c = omega (arith, ends (turn c), turn c .before .before .pre .0)
 
-four-at-requires-2 : tie.Need-four-at-requires-2 Inv-loop μ-loop
-four-at-requires-2 c κs =
-    let at-loop = c .before .before .before .before in
-    omega (arith, at-loop .before .pre .0, within at-loop (c .before .before .before .loop-test .taken), long at-loop)
+add-q : tie.Need-add-q Inv-loop μ-loop
+add-q c = omega (arith, ends (turn c), turn c .before .before .pre .0)
 
-add-four-at-3 : tie.Need-add-four-at-3 Inv-loop μ-loop
-add-four-at-3 c =
-    let in-loop = c .before .before .before .before .before in
-    omega (arith, in-loop .before .before .pre .0, within (in-loop .before) (in-loop .loop-test .taken), long (in-loop .before))
+add-q-2 : tie.Need-add-q-2 Inv-loop μ-loop
+add-q-2 c = omega (arith, ends (turn c), left (turn c), turn c .before .before .pre .0)
 
-add-four-at-4 : tie.Need-add-four-at-4 Inv-loop μ-loop
-add-four-at-4 c =
-    let in-loop = c .before .before .before .before .before in
-    omega (arith, in-loop .before .before .pre .0, within (in-loop .before) (in-loop .loop-test .taken), long (in-loop .before))
+move-four-requires : tie.Need-move-four-requires Inv-loop μ-loop
+move-four-requires c κs =
+    let z = c .before .four-at in
+    let t = turn (c .before) in
+    let k = t .before in
+    let l = t .loop-test .taken in
+    let e : k .before .args .to + k .loop .i + 4 ≤ length (k .loop .room) = omega (arith, ends t, k .before .pre .0) in
+    (e, e, small-four _ _ (first-within k l), listed-within (z .result) _ (2 ^ 62 - 1) (z .ensures) (middle-within k l))
 
-four-at-requires-3 : tie.Need-four-at-requires-3 Inv-loop μ-loop
-four-at-requires-3 c κs =
-    let in-loop = c .before .before .before .before .before in
-    omega (arith, in-loop .before .before .pre .0, within (in-loop .before) (in-loop .loop-test .taken), long (in-loop .before))
+-- the read of a turn, from its first sum
+abbrev read : tie.After-move-four Inv-loop μ-loop → tie.After-four-at Inv-loop μ-loop
+read c = c .before .before
 
-add-put : tie.Need-add-put Inv-loop μ-loop
-add-put c =
-    let in-loop = c .before .before .before .before .before .before .before in
-    omega (arith, in-loop .before .before .pre .0, within (in-loop .before) (in-loop .loop-test .taken), long (in-loop .before))
+move-four-requires-2 : tie.Need-move-four-requires-2 Inv-loop μ-loop
+move-four-requires-2 c κs =
+    let w = c .before .before .move-four .ensures in
+    let z = read (c .before .before) .four-at in
+    let t = turn (read (c .before .before)) in
+    let k = t .before in
+    let l = t .loop-test .taken in
+    let e : k .before .args .to + k .before .args .h + k .loop .i + 4 ≤ length (c .before .before .move-four .last .1 .0) = omega (arith, ends t, left t, k .before .pre .0, w .long) in
+    (e, e, small-four _ _ (λ j m. subst (λ x. natAbs x ≤ 2 ^ 62 - 1) (sym (w .rest _ (λ q. omega (arith, left t)))) (second-within k l j m)), listed-within (z .result) _ (2 ^ 62 - 1) (z .ensures) (middle-within k l))
 
-sum-or-difference-requires : tie.Need-sum-or-difference-requires Inv-loop μ-loop
-sum-or-difference-requires c κs =
-    let at-four-at = c .before .before .before .before .before in
-    let k = at-four-at .before .before .before in
-    let l = at-four-at .before .before .loop-test .taken in
-    (listed-within (c .before .before .before .four-at2 .result) _ (2 ^ 62 - 1) (c .before .before .before .four-at2 .ensures) (first-within k l), listed-within (at-four-at .four-at .result) _ (2 ^ 62 - 1) (at-four-at .four-at .ensures) (middle-within k l))
-
-put-requires : tie.Need-put-requires Inv-loop μ-loop
-put-requires c κs =
-    let in-loop = c .before .before .before .before .before .before .before .before in
-    omega (arith, in-loop .before .before .pre .0, within (in-loop .before) (in-loop .loop-test .taken), long (in-loop .before))
-
-add-put-2 : tie.Need-add-put-2 Inv-loop μ-loop
-add-put-2 c =
-    let in-loop = c .before .before .before .before .before .before .before .before .before .before .before in
-    omega (arith, in-loop .before .before .pre .0, within (in-loop .before) (in-loop .loop-test .taken), long (in-loop .before))
-
-add-put-3 : tie.Need-add-put-3 Inv-loop μ-loop
-add-put-3 c =
-    let in-loop = c .before .before .before .before .before .before .before .before .before .before .before in
-    omega (arith, in-loop .before .before .pre .0, within (in-loop .before) (in-loop .loop-test .taken), long (in-loop .before))
-
-sum-or-difference-requires-2 : tie.Need-sum-or-difference-requires-2 Inv-loop μ-loop
-sum-or-difference-requires-2 c κs =
-    let at-four-at3 = c .before .before .before .before .before in
-    let at-four-at = at-four-at3 .before .before .before .before in
-    let k = at-four-at .before .before .before in
-    let l = at-four-at .before .before .loop-test .taken in
-    (listed-within (at-four-at3 .four-at3 .result) _ (2 ^ 62 - 1) (at-four-at3 .four-at3 .ensures) (second-within k l), listed-within (at-four-at .four-at .result) _ (2 ^ 62 - 1) (at-four-at .four-at .ensures) (middle-within k l))
-
-put-requires-2 : tie.Need-put-requires-2 Inv-loop μ-loop
-put-requires-2 c κs =
-    let at-sum-or-difference = c .before .before .before .before in
-    let in-loop = at-sum-or-difference .before .before .before .before .before .before .before .before in
-    let k = in-loop .before in
-    let e = ap length (c .before .before .before .put .ensures) ∙ length-stored (k .loop .room) (k .before .args .to + k .loop .i) (at-sum-or-difference .sum-or-difference .result) in
-    omega (arith, k .before .pre .0, within k (in-loop .loop-test .taken), long k, e)
+-- the first sum of a turn, from its end
+abbrev first : tie.After-room2 Inv-loop μ-loop → tie.After-move-four Inv-loop μ-loop
+first c = c .before .before .before .before
 
 add-i : tie.Need-add-i Inv-loop μ-loop
-add-i c =
-    let in-loop = c .before .before .before .before .before .before .before .before .before .before .before .before .before .before in
-    omega (arith, within (in-loop .before) (in-loop .loop-test .taken), in-loop .before .before .fits .h)
+add-i c = let t = turn (read (first c)) in omega (arith, left t, t .before .before .fits .h)
 
 loop-less : tie.Need-loop-less Inv-loop μ-loop
 loop-less c = omega arith
 
 loop-again : tie.Need-loop-again Inv-loop μ-loop
 loop-again c =
-    let at-put = c .before .before .before .before .before in
-    let at-four-at2 = at-put .before .before .before .before .before in
-    let in-loop = at-four-at2 .before .before .before .before in
-    let k = in-loop .before in
-    let a = k .before .args in
-    let l = within k (in-loop .loop-test .taken) in
-    let x = op-is (moved (a .less)) (at-four-at2 .four-at2 .result) (at-four-at2 .before .before .four-at .result) (at-put .before .sum-or-difference .result) _ _ (at-four-at2 .four-at2 .ensures) (at-four-at2 .before .before .four-at .ensures) (at-put .before .sum-or-difference .ensures) in
-    let y = op-is (moved (a .less)) (at-put .before .before .before .four-at3 .result) (at-four-at2 .before .before .four-at .result) (c .before .before .sum-or-difference2 .result) _ _ (at-put .before .before .before .four-at3 .ensures) (at-four-at2 .before .before .four-at .ensures) (c .before .before .sum-or-difference2 .ensures) in
-    let e = c .before .put2 .ensures ∙ ap (λ t. stored t (a .to + a .h + k .loop .i) (c .before .before .sum-or-difference2 .result)) (at-put .put .ensures) in (
-      omega (arith, l),
+    let z = read (first c) .four-at in
+    let t = turn (read (first c)) in
+    let k = t .before in (
+      omega (arith, left t),
       omega (arith, k .loop .inv .1),
-      subst (Spread (moved (a .less)) (a .to) (a .h) (a .from) (k .loop .i + 4) (a .room .now)) (sym e) (spread-next (k .loop .inv .2) (k .before .pre .0 .1) l (omega (arith, k .before .pre .0)) (at-put .before .sum-or-difference .result) (c .before .before .sum-or-difference2 .result) x y),
+      spread-next (k .loop .inv .2) (k .before .pre .0 .1) (left t) (z .result) (z .ensures) (first c .move-four .ensures) (c .before .move-four2 .ensures),
     )
 
 same-length : tie.Need-same-length Inv-loop μ-loop
@@ -155,18 +126,11 @@ spread-list-spec =
     loop-holds
     add-four-at
     four-at-requires
-    add-four-at-2
-    four-at-requires-2
-    add-four-at-3
-    add-four-at-4
-    four-at-requires-3
-    add-put
-    sum-or-difference-requires
-    put-requires
-    add-put-2
-    add-put-3
-    sum-or-difference-requires-2
-    put-requires-2
+    add-p
+    add-q
+    add-q-2
+    move-four-requires
+    move-four-requires-2
     add-i
     loop-less
     loop-again

@@ -6,7 +6,7 @@ use lib.ListN.{length}
 use Rattle.integers.specs.Places.{at}
 use Rattle.integers.proofs.PlaceLaws.{places-ext}
 use Rattle.products.specs.Own.Rooms.{Written}
-use Rattle.products.proofs.RoomLaws.{written-none, written-next}
+use Rattle.products.proofs.RoomLaws.{written-none, written-next, written-before}
 use Rattle.products.proofs.lists.copy_list.Statement.{statement}
 use Rattle.products.proofs.lists.copy_list.Tie as tie
 
@@ -53,7 +53,7 @@ loop-again c =
     let k = in-loop .before in
     let l = within k (in-loop .loop-test .taken) in
     let a = k .before .args in
-    let z = c .before .before .before .four-at .ensures ∙ places-ext 4 _ _ (λ j q. k .loop .inv .2 .old (a .from + k .loop .i + j) (omega (arith, k .before .pre)) ∙ ap (at (a .room .now)) (let e : a .from + k .loop .i + j ≡ a .from + (k .loop .i + j) = omega arith in e)) in
+    let z = c .before .before .before .four-at .ensures ∙ places-ext 4 _ _ (λ j q. written-before (k .loop .inv .2) (a .from + k .loop .i + j) (omega (arith, k .before .pre)) ∙ ap (at (a .room .now)) (let e : a .from + k .loop .i + j ≡ a .from + (k .loop .i + j) = omega arith in e)) in
     (omega arith, omega arith, subst (Written (λ j. at (a .room .now) (a .from + j)) (a .to) (k .loop .i + 4) (a .room .now)) (sym (c .before .put .ensures)) (written-next (k .loop .inv .2) (omega (arith, k .before .pre)) (c .before .before .before .four-at .result) z))
 
 same-length : tie.Need-same-length Inv-loop μ-loop

@@ -34,34 +34,38 @@ four-at-requires-2 : tie.Need-four-at-requires-2 Inv-loop μ-loop
 four-at-requires-2 c κs = omega (arith, c .before .before .before .pre .0, c .before .loop-test .taken, c .before .before .loop .inv .1 .long)
 
 mul-put-nine : tie.Need-mul-put-nine Inv-loop μ-loop
-mul-put-nine c = let at-loop = c .before .before .before .before in omega (arith, at-loop .before .pre .0, c .before .before .before .loop-test .taken, at-loop .loop .inv .1 .long)
-
-nine-of-requires : tie.Need-nine-of-requires Inv-loop μ-loop
-nine-of-requires c κs =
-    let k = c .before .before .before .before in
-    let l = c .before .before .before .loop-test .taken in
-    (listed-within (c .before .before .four-at .result) _ (2 ^ 60) (c .before .before .four-at .ensures) (λ j q. k .before .pre .1 _ (omega arith)), listed-within (c .before .four-at2 .result) _ (2 ^ 60) (c .before .four-at2 .ensures) (λ j q. k .before .pre .1 _ (omega arith)))
+mul-put-nine c = let in-loop = c .before .before .before in omega (arith, in-loop .before .before .pre .0, in-loop .loop-test .taken, in-loop .before .loop .inv .1 .long)
 
 put-nine-requires : tie.Need-put-nine-requires Inv-loop μ-loop
 put-nine-requires c κs =
-    let in-loop = c .before .before .before .before in
-    omega (arith, in-loop .before .before .pre .0, in-loop .loop-test .taken, in-loop .before .loop .inv .1 .long)
+    let x = c .before .before .four-at in
+    let y = c .before .four-at2 in
+    let in-loop = c .before .before .before in
+    let s = in-loop .before .before in
+    let l = in-loop .loop-test .taken in
+    (omega (arith, s .pre .0, l, in-loop .before .loop .inv .1 .long), listed-within (x .result) _ (2 ^ 60) (x .ensures) (λ j q. s .pre .1 _ (omega arith)), listed-within (y .result) _ (2 ^ 60) (y .ensures) (λ j q. s .pre .1 _ (omega arith)))
+
+-- the beginning of a turn, from its end
+module _ (c : tie.After-out Inv-loop μ-loop) where
+  abbrev second : tie.After-four-at2 Inv-loop μ-loop
+  second = c .before .before .before
+
+  abbrev turn : tie.In-loop Inv-loop μ-loop
+  turn = second .before .before
 
 add-v : tie.Need-add-v Inv-loop μ-loop
-add-v c =
-    let in-loop = c .before .before .before .before .before .before in
-    omega (arith, in-loop .before .before .pre .0, in-loop .loop-test .taken, in-loop .before .loop .inv .1 .long)
+add-v c = omega (arith, turn c .before .before .pre .0, turn c .loop-test .taken, turn c .before .loop .inv .1 .long)
 
 loop-less : tie.Need-loop-less Inv-loop μ-loop
 loop-less c = omega arith
 
 loop-again : tie.Need-loop-again Inv-loop μ-loop
 loop-again c =
-    let at-four-at2 = c .before .before .before .before in
-    let k = at-four-at2 .before .before .before in
-    let l = at-four-at2 .before .before .loop-test .taken in
-    let a = k .before .args in
-    (omega arith, nines-next (a .lists .now) (k .loop .inv .1) (at-four-at2 .before .four-at .result) (at-four-at2 .four-at2 .result) (c .before .before .nine-of .result) (at-four-at2 .before .four-at .ensures) (at-four-at2 .four-at2 .ensures) (c .before .before .nine-of .ensures) (c .before .put-nine .ensures))
+    let x = second c .before .four-at in
+    let y = second c .four-at2 in
+    let k = turn c .before in
+    let l = turn c .loop-test .taken in
+    (omega arith, nines-next (k .before .args .lists .now) (k .loop .inv .1) (x .result) (y .result) (x .ensures) (y .ensures) (c .before .put-nine .ensures))
 
 same-length : tie.Need-same-length Inv-loop μ-loop
 same-length c = c .before .loop .inv .1 .long
@@ -85,7 +89,6 @@ nines-spec =
     add-four-at
     four-at-requires-2
     mul-put-nine
-    nine-of-requires
     put-nine-requires
     add-v
     loop-less

@@ -2,6 +2,8 @@
 use native.Mathlib.Omega.{arith}
 use Prim.Native.Nat.{_-_}
 use Rattle.products.specs.Own.Whole.{Ascended}
+use Rattle.slices.specs.Own.Moves.{moved}
+use Rattle.products.proofs.RoomLaws.{spread-laid}
 use Rattle.products.proofs.WholeLaws.{ascended-leaves, double-le, ascend-fours, third-some, ascend-room, ascend-small, positive, ascended-next, ascended-end}
 use Rattle.products.proofs.whole.ascend.Statement.{statement}
 use Rattle.products.proofs.whole.ascend.Tie as tie
@@ -15,8 +17,8 @@ abbrev μ-loop : tie.MeasureT-loop
 loop-holds : tie.Need-loop-holds Inv-loop μ-loop
 loop-holds c = ascended-leaves (c .pre)
 
-spread-requires : tie.Need-spread-requires Inv-loop μ-loop
-spread-requires c κs =
+spread-lists-requires : tie.Need-spread-lists-requires Inv-loop μ-loop
+spread-lists-requires c κs =
     let k = c .before .before in
     let d = k .loop .inv in
     let l = c .before .loop-test .taken in
@@ -31,7 +33,12 @@ loop-less c =
     omega (arith, c .before .before .before .loop-test .taken, double-le (at-loop .loop .inv) (c .before .before .before .loop-test .taken), positive (at-loop .loop .inv))
 
 loop-again : tie.Need-loop-again Inv-loop μ-loop
-loop-again c = let k = c .before .before .before .before in ascended-next (k .loop .inv) (c .before .before .before .loop-test .taken) (c .before .spread .last .0) (c .before .spread .kept .0) (c .before .spread .ensures)
+unfolding moved
+loop-again c =
+    let k = c .before .before .before .before in
+    let l = c .before .before .before .loop-test .taken in
+    let w = c .before .spread-lists .ensures in
+    ascended-next (k .loop .inv) l (c .before .spread-lists .last .1 .0) (w .long) (spread-laid _ _ _ _ w (ascend-room (k .loop .inv) l (k .before .pre)))
 
 same-length : tie.Need-same-length Inv-loop μ-loop
 same-length c = c .before .loop .inv .long
@@ -46,7 +53,7 @@ ascend-spec =
     Inv-loop
     μ-loop
     loop-holds
-    spread-requires
+    spread-lists-requires
     add-n
     loop-less
     loop-again

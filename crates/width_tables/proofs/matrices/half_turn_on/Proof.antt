@@ -8,7 +8,7 @@ use Rattle.integers.specs.Places.{places, at, Within}
 use Rattle.integers.proofs.PlaceLaws.{at-places, places-ext, within-places}
 use Rattle.slices.specs.Own.Fours.{listed}
 use Rattle.products.specs.Own.Rooms.{Written}
-use Rattle.products.proofs.RoomLaws.{written-none, written-next}
+use Rattle.products.proofs.RoomLaws.{written-none, written-next, written-before}
 use Rattle.width_tables.proofs.matrices.half_turn_on.Statement.{statement}
 use Rattle.width_tables.proofs.matrices.half_turn_on.Tie as tie
 
@@ -35,7 +35,7 @@ module _ (p : tie.After-put-arg Inv-loop μ-loop) where
   left = within turn (p .before .before .before .loop-test .taken)
 
   first-are : listed (p .before .four-at .result) ≡ places 4 (λ j. at (turn .before .args .room .now) (turn .loop .i + j))
-  first-are = p .before .four-at .ensures ∙ places-ext 4 _ _ (λ j l. turn .loop .inv .2 .old (turn .loop .i + j) (omega (arith, left)))
+  first-are = p .before .four-at .ensures ∙ places-ext 4 _ _ (λ j l. written-before (turn .loop .inv .2) (turn .loop .i + j) (omega (arith, left)))
 
   first-small : Within (2 ^ 62 - 1) (listed (p .before .four-at .result))
   first-small = subst (Within (2 ^ 62 - 1)) (sym first-are) (within-places 4 _ _ (λ j l. turn .before .pre .2 .small (turn .loop .i + j) (omega arith) (omega (arith, left))))
