@@ -20,8 +20,7 @@ pub fn take(run: Run, frame: &[i32], block: &mut [i32]) -> Outcome
 {
     let mut held = run.held;
     let answer = in_place::take(run.width, run.count, run.finished, &mut held, frame, block);
-    let count = questions::next_count(run.count, answer);
-    record::hand_back(record::make(run.width, count, held, run.finished), answer)
+    questions::after_take(run, held, answer)
 }
 
 // Question 11 at the finish: the first held value that is not zero.

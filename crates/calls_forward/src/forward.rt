@@ -45,8 +45,7 @@ pub fn take(run: Run, block: &[i32], frame: &mut [i32]) -> Outcome
 {
     let mut held = run.held;
     let answer = in_place::take(run.width, run.count, run.finished, &mut held, block, frame);
-    let count = questions::next_count(run.count, answer);
-    record::hand_back(record::make(run.width, count, held, run.finished), answer)
+    questions::after_take(run, held, answer)
 }
 
 // Finish: the frame of the last block's held half.

@@ -17,6 +17,7 @@ use runs::answer::Found;
 use runs::limits;
 use slices::vectors;
 
+// The five stages undone, where no coefficient is out of range.
 pub fn unstages(
     width: usize,
     t: &[i64],
@@ -40,7 +41,7 @@ pub fn unstages(
     vectors::interleave(top, bottom, &mut y[..width]);
 }
 
-// Where a question says no, y may hold any numbers.
+// With its questions. Where one says no, y may hold any numbers.
 pub fn unstaged(
     width: usize,
     t: &[i64],

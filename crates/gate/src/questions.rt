@@ -6,7 +6,7 @@ ghost use lib.IntN.{pos};
 ghost use lib.ListN.{length};
 ghost use lib.Signed.{_≤ℤ_};
 ghost use Rattle.runs.specs.Answers.{told, beyond, firstBeyond};
-ghost use Rattle.runs.specs.Record.{blockLimit, frameLimit, recordOf, nextCount};
+ghost use Rattle.runs.specs.Record.{blockLimit, frameLimit, recordOf, outcomeOf, nextCount};
 ghost use Rattle.runs.specs.Gate.{firstDead};
 ghost use Rattle.gate.specs.Own.Asked.{StillOpen, Admitted, inParts};
 ghost use Rattle.gate.specs.Own.Faults.{faultOf};
@@ -14,6 +14,9 @@ use constants::widths;
 use runs::answer::Answer;
 use runs::answer::Found;
 use runs::limits;
+use runs::record;
+use runs::record::Outcome;
+use runs::record::Run;
 use slices::room;
 use slices::vectors;
 
@@ -247,7 +250,7 @@ pub fn fault_of(block: &[i32]) -> Fault
 }
 
 // The count after a call that gave this answer.
-pub fn next_count(count: usize, answer: Answer) -> usize
+fn next_count(count: usize, answer: Answer) -> usize
     requires { ⌜ (told answer .0 ≡ 0 → count < frameLimit) ⌝ }
     ensures { λ r. ⌜ r ≡ nextCount (told answer .0) count ⌝ }
 {
@@ -255,4 +258,13 @@ pub fn next_count(count: usize, answer: Answer) -> usize
         return count;
     }
     count + 1
+}
+
+// What a call hands back that took a block or a frame: the held values, and one more of the count where it has worked.
+pub fn after_take(run: Run, held: [i64; 64], answer: Answer) -> Outcome
+    requires { ⌜ (told answer .0 ≡ 0 → run .count < frameLimit) ⌝ }
+    ensures { λ r. ⌜ r ≡ outcomeOf (recordOf (run .width) (nextCount (told answer .0) (run .count)) held (run .finished)) answer ⌝ }
+{
+    let count = next_count(run.count, answer);
+    record::hand_back(record::make(run.width, count, held, run.finished), answer)
 }

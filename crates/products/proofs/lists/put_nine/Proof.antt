@@ -34,10 +34,13 @@ abbrev from4 : tie.After-struct-told4 → tie.Start
 from4 c = c .before .before .before .before .before
 
 abbrev from6 : tie.After-struct-told6 → tie.Start
-from6 c = from4 (c .before .before .before .before)
+from6 c = let read = c .before .before .before .before in from4 read
 
 abbrev from7 : tie.After-struct-told7 → tie.Start
 from7 c = from6 (c .before .before)
+
+abbrev made : tie.After-put-arg2 → tie.After-struct-told7
+made c = c .before .before .before .before
 
 abbrev first : tie.After-out2 → tie.After-put
 first c = c .before .before .before .before
@@ -85,10 +88,10 @@ put-requires : tie.Need-put-requires
 put-requires c κs = omega (arith, from7 (c .before) .pre .0)
 
 add-put : tie.Need-add-put
-add-put c = omega (arith, from7 (c .before .before .before .before) .pre .0)
+add-put c = omega (arith, from7 (made c) .pre .0)
 
 put-requires-2 : tie.Need-put-requires-2
-put-requires-2 c κs = omega (arith, from7 (c .before .before .before .before) .pre .0, c .before .before .put .kept .0)
+put-requires-2 c κs = omega (arith, from7 (made c) .pre .0, c .before .before .put .kept .0)
 
 add-d : tie.Need-add-d
 add-d c = omega (arith, start c .pre .0, start c .good, c .before .put2 .kept .0, first c .put .kept .0)
