@@ -37,7 +37,7 @@ put-as at out r after e = subst (λ (t : List ℕ). Put at out t r after) e
 
 -- ---- a text put part by part: with what is left it is the whole
 pub record Left (at : ℕ) (out₀ whole : List ℕ) (n : ℕ) (out left : List ℕ) : Type 0 where
-  count : n + length left ≡ at + length whole
+  pub count : n + length left ≡ at + length whole
   is : take n out ++ left ≡ take at out₀ ++ whole
 
 pub left-all : (at : ℕ) (out whole : List ℕ) → Left at out whole at out whole

@@ -2,14 +2,15 @@
 use mathlib.Core.Path.{_≡_, refl, ap, _∙_}
 use mathlib.Core.Logic.{_⊎_, inl, inr, ⊎-elim}
 use mathlib.Core.Bool.{Bool, true, false}
-use mathlib.Core.List.{List, [], _∷_, _++_}
-use Prim.Native.Nat.{ℕ, _≤_, _<_}
+use mathlib.Core.List.{List, [], _∷_, _++_, append-assoc, append-nil}
+use Prim.Native.Nat.{ℕ, _+_, _≤_, _<_}
 use native.Mathlib.Omega.{arith}
-use borrow.Author.Tests.{eqb-true, eqb-false, ltb-true, ltb-false}
+use borrow.Author.Tests.{eqb-true, eqb-false, ne-eqb, lt-ltb, ltb-true, ltb-false}
 use lib.Dec.{eqb, ltb}
 use lib.ListN.{length, length-append}
 use Rattle.text_runs.specs.Lines.{lineFeed}
 use Rattle.text_runs.specs.Line.{lineLimit}
+use Rattle.text_runs.specs.Own.Lacks.{lacks}
 use Rattle.text_runs.proofs.UpToLaws.{tested}
 use Rattle.feeding.specs.Program.{Program, handed}
 use Rattle.feeding.specs.Feed.{Reader, handedOn, gathered, byteFed, fed, restFed, readerEnded}
@@ -66,3 +67,18 @@ pub fed-fits : (P : Program) (r : Reader P) (bs : List ℕ) → Fits P r → Fit
 unfolding fed
 fed-fits P r [] fits = fits
 fed-fits P r (b ∷ bs) fits = fed-fits P (byteFed P r b) bs (byte-fits P r b fits)
+
+-- ---- a whole line, behind bytes of it that are had
+byte-gathered : (P : Program) (r : Reader P) (b : ℕ) → P .over (r .state) ≡ false → (b ≡ lineFeed → ⊥) → length (r .had) < lineLimit → byteFed P r b ≡ gathered P r b
+unfolding byteFed
+byte-gathered P r b on other h = rw (on, ne-eqb b lineFeed other, lt-ltb (length (r .had)) lineLimit h)
+
+module _ (P : Program) (s : P .State) (on : P .over s ≡ false) (out : List ℕ) where
+  pub line-fed : (had bytes : List ℕ) → lacks lineFeed bytes → length had + length bytes ≤ lineLimit
+      → fed P (record { state = s; had = had; printed = out }) (bytes ++ lineFeed ∷ []) ≡ handedOn P true (record { state = s; had = had ++ bytes; printed = out })
+  unfolding fed byteFed gathered lacks
+  line-fed had [] l h = rw (byteFed, on, append-nil)
+  line-fed had (b ∷ bytes) l h =
+      ap (λ (r : Reader P). fed P r (bytes ++ lineFeed ∷ [])) (byte-gathered P _ b on (l .0) (omega arith))
+      ∙ line-fed (had ++ b ∷ []) bytes (l .1) (omega (arith, length-append had (b ∷ [])))
+      ∙ rw append-assoc

@@ -1,5 +1,6 @@
 pub mod FeedLaws
 pub mod LineLaws
+pub mod FirstLine
 pub mod Cuts
 pub mod BudgetLaws
 pub mod BehindLaws

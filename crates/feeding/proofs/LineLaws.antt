@@ -51,12 +51,12 @@ module _ (P : Program) where
       (λ w. rw w (P .quiet s o .1))
       (tested (line .0 && leb (length (line .1)) lineLimit))
 
-  printed-over : (s : P .State) (lines : List Line) → P .over s ≡ true → printedFrom P s lines ≡ P .end s .1
+  pub printed-over : (s : P .State) (lines : List Line) → P .over s ≡ true → printedFrom P s lines ≡ P .end s .1
   unfolding printedFrom
   printed-over s [] o = refl
   printed-over s (line ∷ lines) o = rw (quiet-line s line o) (printed-over s lines o)
 
-  taken-short : (s : P .State) (ends : Bool) (bytes : List ℕ) → length bytes ≤ lineLimit → lineHanded P s (ends, bytes) ≡ handed P s (ends && true) bytes
+  pub taken-short : (s : P .State) (ends : Bool) (bytes : List ℕ) → length bytes ≤ lineLimit → lineHanded P s (ends, bytes) ≡ handed P s (ends && true) bytes
   unfolding lineHanded
   taken-short s ends bytes h = ap (λ (short : Bool). handed P s (ends && short) bytes) (le-leb (length bytes) lineLimit h)
 

@@ -33,7 +33,7 @@ module _ {P : Program} {L : Limits P} {whole : Bool} {line out : List ℕ} {p : 
   unfolding readerOf
   handed-reader line′ = rw (h .none) (h .is)
 
-  handed-sound : L .Sound (p .state) → L .Sound (r .state)
+  pub handed-sound : L .Sound (p .state) → L .Sound (r .state)
   unfolding handedOn
   handed-sound s = subst (L .Sound) (sym (ap (λ (x : Reader P). x .state) (h .is))) (L .kept (p .state) whole line s)
 

@@ -2,7 +2,6 @@
 ghost use Prim.Native.Nat.{_≤_};
 use decimal::compare;
 use decimal::print;
-use stream::run;
 use text_runs::state::Way;
 
 // A file of its own in the folder that the program runs in, which is gone with the program.
@@ -26,12 +25,36 @@ pub fn empty(file: i32) {
     rewind(file);
 }
 
-// A run from one file to another, in pieces of such a length.
-pub fn pass(way: Way, input: i32, output: i32, length: usize)
+// The programs that are tried.
+pub enum Tried {
+    Forward,
+    Back,
+    Squares,
+}
+
+fn pass_run(way: Way, input: i32, output: i32, length: usize)
     requires { ⌜ length ≤ 65536 ⌝ }
 {
     let mut buffer = io::large_buffer();
-    run::run(way, input, output, &mut buffer[..length]);
+    stream::run::run(way, input, output, &mut buffer[..length]);
+}
+
+fn pass_reel(input: i32, output: i32, length: usize)
+    requires { ⌜ length ≤ 65536 ⌝ }
+{
+    let mut buffer = io::large_buffer();
+    reel_stream::run::run(input, output, &mut buffer[..length]);
+}
+
+// A run from one file to another, in pieces of such a length.
+pub fn pass(tried: Tried, input: i32, output: i32, length: usize)
+    requires { ⌜ length ≤ 65536 ⌝ }
+{
+    match tried {
+        Tried::Forward => pass_run(Way::Forward, input, output, length),
+        Tried::Back => pass_run(Way::Back, input, output, length),
+        Tried::Squares => pass_reel(input, output, length),
+    }
 }
 
 // Whether two files have the same bytes, up to 16 MB.

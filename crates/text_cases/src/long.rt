@@ -1,8 +1,8 @@
 // A run of more than 300 KB, forward and back.
 ghost use Prim.Native.Nat.{_≤_};
 use crate::files;
+use crate::files::Tried;
 use decimal::print;
-use text_runs::state::Way;
 
 const BLOCKS: usize = 12000;
 
@@ -47,10 +47,10 @@ pub fn show(one: i32, other: i32, length: usize)
     write_run(readings);
     files::rewind(readings);
     files::empty(one);
-    files::pass(Way::Forward, readings, one, length);
+    files::pass(Tried::Forward, readings, one, length);
     files::rewind(one);
     files::empty(other);
-    files::pass(Way::Back, one, other, length);
+    files::pass(Tried::Back, one, other, length);
     files::say(
         files::same(readings, other),
         b"after 12000 blocks forward and back\n",

@@ -3,13 +3,14 @@ mod files;
 mod long;
 mod samples;
 
-use text_runs::state::Way;
+use files::Tried;
 
 fn main() {
     let one = files::temporary();
     let other = files::temporary();
-    samples::show_listed(Way::Forward, b"forward_runs", one, other);
-    samples::show_listed(Way::Back, b"back_runs", one, other);
+    samples::show_listed(Tried::Forward, b"forward_runs", one, other);
+    samples::show_listed(Tried::Back, b"back_runs", one, other);
+    samples::show_listed(Tried::Squares, b"squares_runs", one, other);
     long::show(one, other, 65536);
     long::show(one, other, 7);
 }

@@ -1,8 +1,8 @@
 // Runs that a list names.
 ghost use Prim.Native.Nat.{_≤_};
 use crate::files;
+use crate::files::Tried;
 use decimal::search;
-use text_runs::state::Way;
 
 // The lengths of the pieces, besides 65,536.
 fn piece_length(i: usize) -> usize
@@ -17,7 +17,7 @@ fn piece_length(i: usize) -> usize
     }
 }
 
-fn run_from(way: Way, name: &[u8], output: i32, length: usize)
+fn run_from(tried: Tried, name: &[u8], output: i32, length: usize)
     requires { ⌜ length ≤ 65536 ⌝ }
 {
     let opened = os::open_read(name);
@@ -25,18 +25,18 @@ fn run_from(way: Way, name: &[u8], output: i32, length: usize)
         os::fail(name);
         return;
     }
-    files::pass(way, opened, output, length);
+    files::pass(tried, opened, output, length);
     libc::close(opened);
 }
 
 // Whether the run prints the same in pieces of each length.
-fn agrees(way: Way, name: &[u8], one: i32, other: i32) -> bool {
+fn agrees(tried: Tried, name: &[u8], one: i32, other: i32) -> bool {
     files::empty(one);
-    run_from(way, name, one, 65536);
+    run_from(tried, name, one, 65536);
     let mut i = 0;
     while i < 5 {
         files::empty(other);
-        run_from(way, name, other, piece_length(i));
+        run_from(tried, name, other, piece_length(i));
         if !files::same(one, other) {
             return false;
         }
@@ -45,27 +45,27 @@ fn agrees(way: Way, name: &[u8], one: i32, other: i32) -> bool {
     true
 }
 
-fn show(way: Way, name: &[u8], one: i32, other: i32) {
+fn show(tried: Tried, name: &[u8], one: i32, other: i32) {
     io::write_all(1, name);
     io::write_all(1, b"\n");
-    run_from(way, name, 1, 65536);
+    run_from(tried, name, 1, 65536);
     files::say(
-        agrees(way, name, one, other),
+        agrees(tried, name, one, other),
         b"in pieces of 1, 7, 2047, 2048 and 2049 bytes\n",
     );
 }
 
 // One on a line.
-fn show_each(way: Way, list: &[u8], one: i32, other: i32) {
+fn show_each(tried: Tried, list: &[u8], one: i32, other: i32) {
     let mut at = 0;
     while at < list.len() {
         let end = search::end_of(list, at, b'\n');
-        show(way, &list[at..end], one, other);
+        show(tried, &list[at..end], one, other);
         at = end + 1;
     }
 }
 
-pub fn show_listed(way: Way, name: &[u8], one: i32, other: i32) {
+pub fn show_listed(tried: Tried, name: &[u8], one: i32, other: i32) {
     let opened = os::open_read(name);
     if opened < 0 {
         os::fail(name);
@@ -74,5 +74,5 @@ pub fn show_listed(way: Way, name: &[u8], one: i32, other: i32) {
     let mut buffer = io::buffer();
     let n = io::read_full(opened, &mut buffer);
     libc::close(opened);
-    show_each(way, &buffer[..n], one, other);
+    show_each(tried, &buffer[..n], one, other);
 }

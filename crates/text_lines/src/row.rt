@@ -3,13 +3,12 @@ ghost use mathlib.Core.Path.{_≡_};
 ghost use Prim.Native.Nat.{_≤_, min};
 ghost use lib.ListN.{length};
 ghost use Rattle.runs.specs.Record.{zeros};
-ghost use Rattle.text_runs.specs.Lines.{same, endLine, numbersIn};
+ghost use Rattle.text_runs.specs.Lines.{numbersIn};
 ghost use Rattle.text_runs.specs.State.{resultOf};
 ghost use Rattle.text_runs.specs.Way.{takenBy, endedBy, lentOutput};
 ghost use Rattle.text_runs.specs.Line.{rowGiven, rowTaken, betweenTaken, finishGiven};
 use crate::way;
 use decimal::compare;
-use decimal::print;
 use decimal::read;
 use decimal::read::Fields;
 use text_runs::state::Phase;
@@ -57,14 +56,6 @@ fn take_row(state: State, line: &[u8]) -> Printed
     take_numbers(state, &numbers[..n])
 }
 
-fn is_end(line: &[u8], count: usize) -> bool
-    ensures { λ r. ⌜ r ≡ same (now (line .entry)) (endLine count) ⌝ }
-{
-    let mut end = [0u8; 24];
-    let n = print::end_line(&mut end, 0, count);
-    compare::same(line, &end[..n])
-}
-
 pub fn take_between(state: State, line: &[u8]) -> Printed
     requires { ⌜ length (now line) ≤ 2048 ⌝ }
     ensures { λ r. ⌜ resultOf r ≡ betweenTaken state (now (line .entry)) ⌝ }
@@ -72,7 +63,7 @@ pub fn take_between(state: State, line: &[u8]) -> Printed
 {
     let way = state.way;
     let run = state.run;
-    if is_end(line, run.count) {
+    if compare::is_end(line, run.count) {
         return refuse::silent(State {
             way: way,
             phase: Phase::Ended,

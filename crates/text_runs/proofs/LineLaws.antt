@@ -1,7 +1,7 @@
 -- The lines of a text: a line feed ends one, and the text of rows has the width, a line for each row, and the end line.
-use mathlib.Core.Path.{_≡_, refl, ap, _∙_}
+use mathlib.Core.Path.{_≡_, refl, sym, ap, _∙_}
 use mathlib.Core.Bool.{true, false}
-use mathlib.Core.List.{List, [], _∷_, _++_, append-assoc}
+use mathlib.Core.List.{List, [], _∷_, _++_, append-assoc, append-nil}
 use Prim.Native.Nat.{ℕ}
 use native.Mathlib.Omega.{arith}
 use borrow.Author.Tests.{eq-eqb, ne-eqb}
@@ -45,7 +45,7 @@ line-ends (b ∷ bs) rest h = rw (ne-eqb b lineFeed (h .0), line-ends bs rest (h
 pub decimal-no-feed : (n : ℕ) → lacks lineFeed (decimal n)
 decimal-no-feed = decimal-lacks lineFeed (omega arith)
 
-end-no-feed : (count : ℕ) → lacks lineFeed (endLine count)
+pub end-no-feed : (count : ℕ) → lacks lineFeed (endLine count)
 unfolding endLine endTag lacks
 end-no-feed count = ((λ e. omega arith), ((λ e. omega arith), ((λ e. omega arith), ((λ e. omega arith), decimal-no-feed count))))
 
@@ -61,10 +61,17 @@ rows-lines (xs ∷ rows) rest =
     ∙ line-ends (row xs) (rowLines rows ++ rest) (row-no-feed xs)
     ∙ ap (λ (lines : List Line). (true, row xs) ∷ lines) (rows-lines rows rest)
 
-pub text-lines : (N : ℕ) (rows : List (List ℤ)) → linesOf (textOf N rows) ≡ (true, decimal N) ∷ linesBetween rows ((true, endLine (length rows)) ∷ [])
-unfolding textOf lastLine linesOf
-text-lines N rows =
-    ap linesOf (append-assoc (decimal N) (lineFeed ∷ rowLines rows) (lastLine (length rows)))
-    ∙ line-ends (decimal N) (rowLines rows ++ lastLine (length rows)) (decimal-no-feed N)
+-- the text of rows, in front of other bytes and alone
+pub text-lines-front : (N : ℕ) (rows : List (List ℤ)) (rest : List ℕ)
+    → linesOf (textOf N rows ++ rest) ≡ (true, decimal N) ∷ linesBetween rows ((true, endLine (length rows)) ∷ linesOf rest)
+unfolding textOf lastLine
+text-lines-front N rows rest =
+    ap linesOf (append-assoc (decimal N ++ lineFeed ∷ rowLines rows) (lastLine (length rows)) rest ∙ append-assoc (decimal N) (lineFeed ∷ rowLines rows) (lastLine (length rows) ++ rest))
+    ∙ line-ends (decimal N) (rowLines rows ++ (lastLine (length rows) ++ rest)) (decimal-no-feed N)
     ∙ ap (λ (lines : List Line). (true, decimal N) ∷ lines)
-    (rows-lines rows (lastLine (length rows)) ∙ ap (linesBetween rows) (line-ends (endLine (length rows)) [] (end-no-feed (length rows))))
+    (rows-lines rows (lastLine (length rows) ++ rest)
+    ∙ ap (linesBetween rows) (ap linesOf (append-assoc (endLine (length rows)) (lineFeed ∷ []) rest) ∙ line-ends (endLine (length rows)) rest (end-no-feed (length rows))))
+
+pub text-lines : (N : ℕ) (rows : List (List ℤ)) → linesOf (textOf N rows) ≡ (true, decimal N) ∷ linesBetween rows ((true, endLine (length rows)) ∷ [])
+unfolding linesOf
+text-lines N rows = ap linesOf (sym (append-nil (textOf N rows))) ∙ text-lines-front N rows []

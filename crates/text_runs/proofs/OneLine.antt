@@ -53,7 +53,7 @@ unfolding printedFrom
 width-printed way N w lines = rw (width-taken way N w)
 
 -- ---- between, where the call works: a row,
-some-read : (xs : List ℤ) → 0 < length xs → allBits xs → numbersIn (row xs) ≡ some xs
+pub some-read : (xs : List ℤ) → 0 < length xs → allBits xs → numbersIn (row xs) ≡ some xs
 some-read [] p b = absurd (omega arith)
 some-read (x ∷ xs) p b = read-row x xs b
 

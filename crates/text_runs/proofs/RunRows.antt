@@ -34,7 +34,7 @@ unfolding bits32
 size-bits (pos n) l h k = omega arith
 size-bits (negsuc n) l h k = omega arith
 
-within-bits : (l : ℕ) (xs : List ℤ) → l ≤ 2147483647 → AllAbs l xs → allBits xs
+pub within-bits : (l : ℕ) (xs : List ℤ) → l ≤ 2147483647 → AllAbs l xs → allBits xs
 unfolding allBits
 within-bits l [] h k = tt
 within-bits l (x ∷ xs) h k = (size-bits x l h (k .0), within-bits l xs h (k .1))

@@ -5,10 +5,10 @@ use Rattle.text_cases.proofs.samples.agrees.Statement.{statement}
 use Rattle.text_cases.proofs.samples.agrees.Tie as tie
 
 abbrev Inv-loop : tie.InvT-loop
-Inv-loop way name one other i₀ i = i ≤ 5
+Inv-loop tried name one other i₀ i = i ≤ 5
 
 abbrev μ-loop : tie.MeasureT-loop
-μ-loop way name one other i₀ i = 5 - i
+μ-loop tried name one other i₀ i = 5 - i
 
 empty-requires : tie.Need-empty-requires Inv-loop μ-loop
 empty-requires c κs = search needs

@@ -8,10 +8,10 @@ use Rattle.text_cases.proofs.samples.show_each.Statement.{statement}
 use Rattle.text_cases.proofs.samples.show_each.Tie as tie
 
 abbrev Inv-loop : tie.InvT-loop
-Inv-loop way list one other at₀ at = Unit {0}
+Inv-loop tried list one other at₀ at = Unit {0}
 
 abbrev μ-loop : tie.MeasureT-loop
-μ-loop way list one other at₀ at = length list - at
+μ-loop tried list one other at₀ at = length list - at
 
 -- a name ends within the list
 name-ends : (c : tie.After-end-of Inv-loop μ-loop) → let start = c .before .before .before .before in c .end-of .result ≤ length (start .args .list .now)

@@ -1,11 +1,11 @@
--- `text_lines::row::is_end` meets its contract.
+-- `decimal::compare::is_end` meets its contract.
 use borrow.Author.Needs.{needs}
 use native.Mathlib.Omega.{arith}
 use mathlib.Core.Path.{sym, ap, _∙_}
 use lib.Seq.{length-take-le}
 use Rattle.text_runs.specs.Lines.{same}
-use Rattle.text_lines.proofs.row.is_end.Statement.{statement}
-use Rattle.text_lines.proofs.row.is_end.Tie as tie
+use Rattle.decimal.proofs.compare.is_end.Statement.{statement}
+use Rattle.decimal.proofs.compare.is_end.Tie as tie
 
 slice-aggregate-end-line : tie.Need-slice-aggregate-end-line
 slice-aggregate-end-line c = search needs

@@ -1,9 +1,9 @@
--- `text_cases::files::pass` is safe and ends.
+-- `text_cases::files::pass_reel` is safe and ends.
 use borrow.Author.Needs.{needs}
 use native.Mathlib.Omega.{arith}
 use Rattle.pieces.proofs.SliceLaws.{part-long}
-use Rattle.text_cases.proofs.files.pass.Statement.{statement}
-use Rattle.text_cases.proofs.files.pass.Tie as tie
+use Rattle.text_cases.proofs.files.pass_reel.Statement.{statement}
+use Rattle.text_cases.proofs.files.pass_reel.Tie as tie
 
 large-buffer-requires : tie.Need-large-buffer-requires
 large-buffer-requires c κs = search needs
@@ -20,8 +20,8 @@ run-requires c κs = search needs
 returns : tie.Need-returns
 returns c = search needs
 
-pub pass-spec : {M : Type 1} → statement M
-pass-spec =
+pub pass-reel-spec : {M : Type 1} → statement M
+pass-reel-spec =
     tie.close
     (tie.spec
     large-buffer-requires

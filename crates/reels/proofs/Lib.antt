@@ -1,0 +1,14 @@
+pub mod SumLaws
+pub mod LimitsKept
+pub mod PrintedLaws
+pub mod LinesLeft
+pub mod FrameSums
+pub mod Exchanged
+pub mod ReelSteps
+pub mod ReelTexts
+pub mod AnyReelLine
+pub mod LineNumbers
+pub mod ReelRefusals
+pub mod AnyReel
+pub mod EveryReel
+pub mod RunsExchanged
