@@ -5,15 +5,13 @@ ghost use Rattle.reels.specs.Reel.{widthAsked, takenOr, runBegun, widthLine};
 ghost use Rattle.reels.specs.Limits.{WithinLimits};
 use crate::refuse;
 use constants::widths;
+use reels::limits;
 use reels::reel;
 use reels::reel::Reel;
 use reels::reel::ReelPhase;
 use reels::verdict;
 use reels::verdict::Verdict;
 use text_runs::number::Field;
-
-// The most runs of a reel.
-const RUN_LIMIT: usize = 100;
 
 // Questions 1, 14 and 15, where so many runs were begun, the first of this width.
 fn asked(width: usize, first: usize, runs: usize) -> Verdict
@@ -28,7 +26,7 @@ fn asked(width: usize, first: usize, runs: usize) -> Verdict
     if width != first {
         return Verdict::OtherWidth;
     }
-    if RUN_LIMIT <= runs {
+    if limits::RUN_LIMIT <= runs {
         return Verdict::RunTooMany;
     }
     Verdict::Taken

@@ -11,11 +11,9 @@ ghost use Rattle.reel_stream.specs.Reel.{reelLimits, placeOf};
 use pieces::line;
 use reel_lines::input;
 use reel_page::page;
+use reels::limits;
 use reels::reel;
 use reels::reel::Reel;
-
-// The most bytes that a line or the end prints: the page at width 128.
-const MOST: usize = 2977;
 
 // How many bytes the line buffer has of a line that no line feed has ended, how many bytes wait in the output buffer, and where to go on in
 // the piece.
@@ -98,7 +96,7 @@ pub fn take_piece(piece: &[u8], line: &mut [u8], out: &mut [u8], begun: Progress
             progress.at = piece.len();
             return progress;
         }
-        if out.len() - progress.waiting < MOST {
+        if out.len() - progress.waiting < limits::MOST_PRINTED {
             return progress;
         }
         progress = take_line(piece, line, out, progress);

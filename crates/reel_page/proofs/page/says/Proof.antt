@@ -14,18 +14,6 @@ use Rattle.reel_page.proofs.page.says.Tie as tie
 sums-long : (s : tie.Start) → length (s .args .reel .sums) ≡ 128
 sums-long s = search needs
 
-enum-told : tie.Need-enum-told
-enum-told c = search needs
-
-enum-told-2 : tie.Need-enum-told-2
-enum-told-2 c = search needs
-
-enum-told-3 : tie.Need-enum-told-3
-enum-told-3 c = search needs
-
-enum-told-4 : tie.Need-enum-told-4
-enum-told-4 c = search needs
-
 array-share-prefix-sums : tie.Need-array-share-prefix-sums
 array-share-prefix-sums c = let s = c .before .before .before .before .before in omega (arith, sums-long s, s .pre .0 .narrow)
 
@@ -37,9 +25,6 @@ unfolding reelSays
 page-requires c κs =
     let s = c .before .before .before .before .before .before in
     (sums-printed (s .args .reel) (s .pre .0), omega (arith, prints-few (s .args .reel) (s .pre .0), s .pre .1))
-
-enum-told-5 : tie.Need-enum-told-5
-enum-told-5 c = search needs
 
 refusal-requires : tie.Need-refusal-requires
 refusal-requires c κs = let s = c .before .before .before .before in omega (arith, s .pre .1)
@@ -56,17 +41,11 @@ returns-3 : tie.Need-returns-3
 unfolding reelSays
 returns-3 c = put-as _ _ _ _ (ap (λ p. reelSays p (c .before .before .before .args .reel)) (sym (c .enum-told3 .given .1))) (put-none _ _)
 
-same-length : tie.Need-same-length
-same-length c = search needs
-
 returns-4 : tie.Need-returns-4
 unfolding reelSays
 returns-4 c =
     let at-told = c .before .before .before .before .before .before in
     put-as _ _ _ _ (ap (λ p. reelSays p (at-told .before .before .before .args .reel)) (sym (at-told .enum-told4 .given .1))) (c .before .before .page .ensures)
-
-same-length-2 : tie.Need-same-length-2
-same-length-2 c = search needs
 
 returns-5 : tie.Need-returns-5
 unfolding reelSays refusalIn
@@ -79,19 +58,19 @@ pub says-spec : {M : Type 1} → statement M
 says-spec =
     tie.close
     (tie.spec
-    enum-told
-    enum-told-2
-    enum-told-3
-    enum-told-4
+    (λ c. search needs)
+    (λ c. search needs)
+    (λ c. search needs)
+    (λ c. search needs)
     array-share-prefix-sums
     slice-aggregate-page
     page-requires
-    enum-told-5
+    (λ c. search needs)
     refusal-requires
     returns
     returns-2
     returns-3
-    same-length
+    (λ c. search needs)
     returns-4
-    same-length-2
+    (λ c. search needs)
     returns-5)

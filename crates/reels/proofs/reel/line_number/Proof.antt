@@ -6,39 +6,6 @@ use Rattle.reels.specs.Reel.{reelLineNumber}
 use Rattle.reels.proofs.reel.line_number.Statement.{statement}
 use Rattle.reels.proofs.reel.line_number.Tie as tie
 
-mul-behind : tie.Need-mul-behind
-mul-behind c = search needs
-
-add-behind : tie.Need-add-behind
-add-behind c = search needs
-
-enum-told : tie.Need-enum-told
-enum-told c = search needs
-
-add-result : tie.Need-add-result
-add-result c = search needs
-
-enum-told-2 : tie.Need-enum-told-2
-enum-told-2 c = search needs
-
-enum-told-3 : tie.Need-enum-told-3
-enum-told-3 c = search needs
-
-add-result-2 : tie.Need-add-result-2
-add-result-2 c = search needs
-
-enum-told-4 : tie.Need-enum-told-4
-enum-told-4 c = search needs
-
-add-result-3 : tie.Need-add-result-3
-add-result-3 c = search needs
-
-enum-told-5 : tie.Need-enum-told-5
-enum-told-5 c = search needs
-
-add-result-4 : tie.Need-add-result-4
-add-result-4 c = search needs
-
 returns : tie.Need-returns
 unfolding reelLineNumber
 returns c = let start = c .before .before in omega arith ∙ sym (ap (λ p. reelLineNumber p (start .args .runs) (start .args .frames)) (c .enum-told .given .1))
@@ -63,17 +30,17 @@ pub line-number-spec : {M : Type 1} → statement M
 line-number-spec =
     tie.close
     (tie.spec
-    mul-behind
-    add-behind
-    enum-told
-    add-result
-    enum-told-2
-    enum-told-3
-    add-result-2
-    enum-told-4
-    add-result-3
-    enum-told-5
-    add-result-4
+    (λ c. search needs)
+    (λ c. search needs)
+    (λ c. search needs)
+    (λ c. search needs)
+    (λ c. search needs)
+    (λ c. search needs)
+    (λ c. search needs)
+    (λ c. search needs)
+    (λ c. search needs)
+    (λ c. search needs)
+    (λ c. search needs)
     returns
     returns-2
     returns-3
