@@ -41,17 +41,20 @@ module _ (c : tie.After-sums Inv-loop μ-loop) where
   abbrev i : ℕ
   i = c .before .before .before .loop .i
 
+  abbrev start : tie.Start Inv-loop μ-loop
+  start = c .before .before .before .before
+
   abbrev sums : List ℤ
-  sums = c .before .before .before .before .args .sums .now
+  sums = start .args .sums .now
 
   abbrev frame : List ℤ
-  frame = c .before .before .before .before .args .frame .now
+  frame = start .args .frame .now
 
   abbrev x : ℕ
   x = ofZ w64 (toZ w32 (ofZ w32 (at frame i)))
 
   coefficient : Num w64 coefficientLimit x (at frame i)
-  coefficient = record { holds = h-wide (at frame i) (c .before .x .given); size = c .before .before .before .before .pre .1 .0 .size i }
+  coefficient = record { holds = h-wide (at frame i) (c .before .x .given); size = start .pre .1 .0 .size i }
 
   square : Num w64 (2 ^ 40) (ofZ w64 (toZ w64 x *ℤ toZ w64 x)) (squared (at frame i))
   square = num-mul coefficient coefficient tt
@@ -64,7 +67,7 @@ module _ (c : tie.After-sums Inv-loop μ-loop) where
   sum : Num w64 (6553700 * 2 ^ 40) (ofZ w64 (at (c .before .before .before .loop .sums) i)) (at sums i)
   sum = record {
     holds = held-eq (held-ok w64 (at (c .before .before .before .loop .sums) i) (c .sums .given)) as-before;
-    size = sum-size (runLimit * frameLimit) (at sums i) (sum-at (runLimit * frameLimit) sums i (c .before .before .before .before .pre .1 .1));
+    size = sum-size (runLimit * frameLimit) (at sums i) (sum-at (runLimit * frameLimit) sums i (start .pre .1 .1));
   }
 
 mul-x : tie.Need-mul-x Inv-loop μ-loop

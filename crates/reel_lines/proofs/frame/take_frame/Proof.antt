@@ -28,7 +28,7 @@ told-by-requires : tie.Need-told-by-requires
 told-by-requires c κs = tt
 
 by-requires : tie.Need-by-requires
-by-requires c κs = c .before .before .before .before .pre
+by-requires c κs = let start = c .before .before .before .before in start .pre
 
 returns : tie.Need-returns
 unfolding frameLine

@@ -59,7 +59,7 @@ unfolding widthLine
 returns c = c .by .ensures ∙ sym (ap (widthLine (c .before .before .before .args .reel)) (c .before .enum-told .given .1))
 
 by-requires-2 : tie.Need-by-requires-2
-by-requires-2 c κs = c .before .before .before .before .pre
+by-requires-2 c κs = let start = c .before .before .before .before in start .pre
 
 returns-2 : tie.Need-returns-2
 returns-2 c =
@@ -73,7 +73,7 @@ cast-start-run c =
     asks-nat w64 (wide k) (from-zero (x k) (h-lt (wide k) (num-lit w32 0 tt .holds) (c .if1 .left))) (omega (arith, size k))
 
 start-run-requires : tie.Need-start-run-requires
-start-run-requires c κs = c .before .before .before .before .pre
+start-run-requires c κs = let start = c .before .before .before .before in start .pre
 
 returns-3 : tie.Need-returns-3
 returns-3 c =

@@ -20,7 +20,7 @@ returns c =
     record { state = refl; put = put-as _ _ _ _ e (put-none _ _); short = omega (arith, ap length e); none = refl; place = refl }
 
 says-requires : tie.Need-says-requires
-says-requires c κs = c .before .before .before .before .pre
+says-requires c κs = let start = c .before .before .before .before in start .pre
 
 same-length : tie.Need-same-length
 same-length c = c .before .out .given
