@@ -1,11 +1,11 @@
 // Text gathered at the start of a buffer: each function puts its bytes behind the `at` bytes that are there, and answers how many there
 // are then.
 ghost use mathlib.Core.Path.{_≡_};
-ghost use mathlib.Core.List.{_∷_};
+ghost use mathlib.Core.List.{[], _∷_, _++_};
 ghost use Prim.Native.Nat.{_+_, _*_, _≤_};
 ghost use lib.ListN.{length, drop};
 ghost use Rattle.text_runs.specs.Decimal.{decimal, printed};
-ghost use Rattle.text_runs.specs.Lines.{comma, row, endLine, refusal};
+ghost use Rattle.text_runs.specs.Lines.{comma, lineFeed, row, endLine, refusal};
 ghost use Rattle.decimal.specs.Own.Put.{Put};
 
 pub fn bytes(out: &mut [u8], at: usize, text: &[u8]) -> usize
@@ -44,6 +44,15 @@ pub fn natural(out: &mut [u8], at: usize, n: u64) -> usize
     let mut work = [0u8; 20];
     let from = digits(n, &mut work);
     bytes(out, at, &work[from..])
+}
+
+// The last number of a line, with the line's end.
+pub fn last_natural(out: &mut [u8], at: usize, n: u64) -> usize
+    requires { ⌜ at + length (decimal n) + 1 ≤ length (now out) ⌝ }
+    ensures { λ r. ⌜ Put at (now (out .entry)) (decimal n ++ lineFeed ∷ []) r (now (out .exit)) ⌝ }
+{
+    let m = natural(out, at, n);
+    bytes(out, m, b"\n")
 }
 
 pub fn number(out: &mut [u8], at: usize, x: i32) -> usize

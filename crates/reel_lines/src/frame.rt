@@ -1,13 +1,14 @@
 // A line behind the width: a frame, or the end line of its run.
 ghost use mathlib.Core.Path.{_≡_};
 ghost use mathlib.Core.Option.{some};
-ghost use Prim.Native.Nat.{_*_, _%_, _≤_};
+ghost use Prim.Native.Nat.{_*_, _%_, _<_, _≤_};
 ghost use lib.ListN.{length};
-ghost use Rattle.integers.specs.Places.{Within};
+ghost use Rattle.integers.specs.Places.{at, Within};
 ghost use Rattle.steps.specs.Limits.{coefficientLimit};
 ghost use Rattle.runs.specs.Record.{frameLimit};
 ghost use Rattle.text_runs.specs.Lines.{numbersIn};
 ghost use Rattle.reels.specs.Verdicts.{verdictTold};
+ghost use Rattle.reels.specs.Page.{squared};
 ghost use Rattle.reels.specs.Reel.{runLimit, toPhase, takenOr, frameAsked, squaresAdded, frameLine, endAsked, runLine};
 ghost use Rattle.reels.specs.declared.reel.ReelPhase.the-variants.{NextRun};
 ghost use Rattle.reels.specs.Limits.{SumsWithin, WithinLimits};
@@ -25,6 +26,15 @@ use runs::answer::Found;
 use runs::limits;
 use slices::room;
 
+fn square_at(frame: &[i32], i: usize) -> i64
+    requires { ⌜ i < length (now frame) ⌝ }
+    requires { ⌜ Within coefficientLimit (now frame) ⌝ }
+    ensures { λ r. ⌜ r ≡ squared (at (now (frame .entry)) i) ⌝ }
+{
+    let x = frame[i] as i64;
+    x * x
+}
+
 // Each square to the sum of its own coefficient number.
 fn add_squares(sums: &mut [i64], frame: &[i32])
     requires { ⌜ length (now frame) ≤ length (now sums) ⌝ }
@@ -34,8 +44,7 @@ fn add_squares(sums: &mut [i64], frame: &[i32])
 {
     let mut i = 0;
     while i < frame.len() {
-        let x = frame[i] as i64;
-        sums[i] = sums[i] + x * x;
+        sums[i] = sums[i] + square_at(frame, i);
         i += 1;
     }
 }

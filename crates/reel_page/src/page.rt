@@ -19,8 +19,7 @@ fn sum_line(out: &mut [u8], at: usize, number: usize, sum: i64) -> usize
 {
     let n = print::natural(out, at, number as u64);
     let m = print::bytes(out, n, b",");
-    let k = print::natural(out, m, sum as u64);
-    print::bytes(out, k, b"\n")
+    print::last_natural(out, m, sum as u64)
 }
 
 fn sum_lines(out: &mut [u8], at: usize, sums: &[i64]) -> usize
@@ -44,8 +43,7 @@ fn page(out: &mut [u8], at: usize, sums: &[i64], frames: usize) -> usize
 {
     let n = sum_lines(out, at, sums);
     let m = print::bytes(out, n, b"frames,");
-    let k = print::natural(out, m, frames as u64);
-    print::bytes(out, k, b"\n")
+    print::last_natural(out, m, frames as u64)
 }
 
 // The line of a refusal; nothing in any other phase.

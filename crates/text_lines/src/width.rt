@@ -24,8 +24,7 @@ fn start_run(state: State, width: usize) -> Printed
     let way = state.way;
     let run = begun.run;
     let mut text = [0u8; 2048];
-    let n = print::natural(&mut text, 0, width as u64);
-    let length = print::bytes(&mut text, n, b"\n");
+    let length = print::last_natural(&mut text, 0, width as u64);
     Printed {
         state: State {
             way: way,

@@ -1,21 +1,19 @@
 -- `reel_page::page::page` meets its contract.
 use borrow.Author.Needs.{needs}
 use native.Mathlib.Omega.{arith}
-use mathlib.Core.List.{[], _∷_, _++_}
+use mathlib.Core.Path.{sym}
+use mathlib.Core.List.{[], _∷_, _++_, append-assoc}
 use Prim.Native.Nat.{_+_, _≤_}
 use lib.ListN.{length, length-append}
 use Rattle.text_runs.specs.Decimal.{decimal}
 use Rattle.text_runs.specs.Lines.{lineFeed}
-use Rattle.decimal.proofs.PutLaws.{put-then}
+use Rattle.decimal.proofs.PutLaws.{put-then, put-as}
 use Rattle.reels.specs.Page.{framesTag, sumLines, page}
 use Rattle.reel_page.proofs.page.page.Statement.{statement}
 use Rattle.reel_page.proofs.page.page.Tie as tie
 
 -- ---- the places of the walk, from the last call on
-abbrev third : tie.After-bytes-arg4 → tie.After-natural
-third c = c .before .before .before .before
-
-abbrev second : tie.After-natural-arg → tie.After-bytes
+abbrev second : tie.After-last-natural-arg → tie.After-bytes
 second c = c .before .before .before
 
 abbrev first : tie.After-bytes-arg2 → tie.After-sum-lines
@@ -39,25 +37,13 @@ slice-aggregate-bytes c = search needs
 bytes-requires : tie.Need-bytes-requires
 bytes-requires c κs = let f = first c in let s = start (f .before) in omega (arith, room s, f .sum-lines .ensures .count, c .before .before .before .out .given)
 
-natural-requires : tie.Need-natural-requires
-natural-requires c κs =
+last-natural-requires : tie.Need-last-natural-requires
+last-natural-requires c κs =
     let b = second c in
     let f = first (b .before) in
     let s = start (f .before) in
     let at-out = b .before .before .before .before in
     omega (arith, room s, f .sum-lines .ensures .count, b .bytes .ensures .count, c .before .before .out2 .given, at-out .out .given)
-
-slice-aggregate-bytes-2 : tie.Need-slice-aggregate-bytes-2
-slice-aggregate-bytes-2 c = search needs
-
-bytes-requires-2 : tie.Need-bytes-requires-2
-bytes-requires-2 c κs =
-    let n = third c in
-    let b = second (n .before) in
-    let f = first (b .before) in
-    let s = start (f .before) in
-    let at-out = b .before .before .before .before in
-    omega (arith, room s, f .sum-lines .ensures .count, b .bytes .ensures .count, n .natural .ensures .count, c .before .before .before .out3 .given, n .before .before .before .out2 .given, at-out .out .given)
 
 same-length : tie.Need-same-length
 same-length c = search needs
@@ -66,20 +52,13 @@ returns : tie.Need-returns
 unfolding page framesTag
 returns c =
     let l = c .before .before in
-    let n = third (l .before) in
-    let b = second (n .before) in
+    let b = second (l .before) in
     let f = first (b .before) in
-    put-then (put-then (put-then (f .sum-lines .ensures) (b .bytes .ensures)) (n .natural .ensures)) (l .bytes2 .ensures)
+    let s = start (f .before) .args in
+    put-as _ _ _ _ (sym (append-assoc (sumLines 0 (s .sums .now) ++ framesTag) (decimal (s .frames)) (lineFeed ∷ [])))
+    (put-then (put-then (f .sum-lines .ensures) (b .bytes .ensures)) (l .last-natural .ensures))
 
 pub page-spec : {M : Type 1} → statement M
 page-spec =
     tie.close
-    (tie.spec
-    sum-lines-requires
-    slice-aggregate-bytes
-    bytes-requires
-    natural-requires
-    slice-aggregate-bytes-2
-    bytes-requires-2
-    same-length
-    returns)
+    (tie.spec sum-lines-requires slice-aggregate-bytes bytes-requires last-natural-requires same-length returns)

@@ -16,10 +16,7 @@ use Rattle.reel_page.proofs.page.sum_line.Statement.{statement}
 use Rattle.reel_page.proofs.page.sum_line.Tie as tie
 
 -- ---- the places of the walk, from the last call on
-abbrev third : tie.After-bytes-arg4 → tie.After-natural2
-third c = c .before .before .before .before
-
-abbrev second : tie.After-natural-arg2 → tie.After-bytes
+abbrev second : tie.After-last-natural-arg → tie.After-bytes
 second c = c .before .before .before
 
 abbrev first : tie.After-bytes-arg2 → tie.After-natural
@@ -48,30 +45,18 @@ slice-aggregate-bytes c = search needs
 bytes-requires : tie.Need-bytes-requires
 bytes-requires c κs = let f = first c in let s = start (f .before) in omega (arith, room s, f .natural .ensures .count, c .before .before .before .out .given)
 
-cast-natural : tie.Need-cast-natural
-cast-natural c =
+cast-last-natural : tie.Need-cast-last-natural
+cast-last-natural c =
     let s = start (first (second c .before) .before) in
     asks-nat w64 (kept s) (sum-from-zero _ (s .args .sum) (s .pre .0)) (omega (arith, sum-size _ (s .args .sum) (s .pre .0)))
 
-natural-requires-2 : tie.Need-natural-requires-2
-natural-requires-2 c κs =
+last-natural-requires : tie.Need-last-natural-requires
+last-natural-requires c κs =
     let b = second c in
     let f = first (b .before) in
     let s = start (f .before) in
     let at-out = b .before .before .before .before in
     omega (arith, room s, f .natural .ensures .count, b .bytes .ensures .count, c .before .before .out2 .given, at-out .out .given)
-
-slice-aggregate-bytes-2 : tie.Need-slice-aggregate-bytes-2
-slice-aggregate-bytes-2 c = search needs
-
-bytes-requires-2 : tie.Need-bytes-requires-2
-bytes-requires-2 c κs =
-    let n = third c in
-    let b = second (n .before) in
-    let f = first (b .before) in
-    let s = start (f .before) in
-    let at-out = b .before .before .before .before in
-    omega (arith, room s, f .natural .ensures .count, b .bytes .ensures .count, n .natural2 .ensures .count, c .before .before .before .out3 .given, n .before .before .before .out2 .given, at-out .out .given)
 
 same-length : tie.Need-same-length
 same-length c = search needs
@@ -79,12 +64,11 @@ same-length c = search needs
 returns : tie.Need-returns
 returns c =
     let l = c .before .before in
-    let n = third (l .before) in
-    let b = second (n .before) in
+    let b = second (l .before) in
     let f = first (b .before) in
     let s = start (f .before) in
     put-as _ _ _ _ (ap (λ z. sumDigits (s .args .number) (natAbs z)) (kept s .is) ∙ sum-line-is _ (s .args .number) (s .args .sum) (s .pre .0))
-    (put-then (put-then (f .natural .ensures) (put-then (b .bytes .ensures) (n .natural2 .ensures))) (l .bytes2 .ensures))
+    (put-then (f .natural .ensures) (put-then (b .bytes .ensures) (l .last-natural .ensures)))
 
 pub sum-line-spec : {M : Type 1} → statement M
 sum-line-spec =
@@ -93,9 +77,7 @@ sum-line-spec =
     natural-requires
     slice-aggregate-bytes
     bytes-requires
-    cast-natural
-    natural-requires-2
-    slice-aggregate-bytes-2
-    bytes-requires-2
+    cast-last-natural
+    last-natural-requires
     same-length
     returns)

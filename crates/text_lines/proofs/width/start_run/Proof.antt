@@ -4,12 +4,12 @@ use native.Mathlib.Omega.{arith}
 use mathlib.Core.Path.{_≡_, sym, ap, _∙_}
 use mathlib.Core.List.{[], _∷_, _++_}
 use Prim.Native.Nat.{ℕ}
+use lib.ListN.{length-append}
 use Rattle.runs.specs.declared.record.Run.{Run}
 use Rattle.runs.specs.Forward.{started}
 use Rattle.text_runs.specs.Decimal.{decimal}
 use Rattle.text_runs.specs.Lines.{lineFeed}
 use Rattle.text_runs.proofs.DecimalLaws.{decimal-within}
-use Rattle.decimal.proofs.PutLaws.{put-then}
 use Rattle.text_runs.specs.declared.state.Phase.the-variants.{Between}
 use Rattle.text_runs.specs.State.{withRun, refused}
 use Rattle.text_runs.specs.Line.{widthStarted}
@@ -40,35 +40,23 @@ returns c =
     let s = at-start .before .args in
     (c .by .ensures .0 ∙ ap (refused (s .state)) (told-pair _ (c .before .before .before .number .ensures) (c .before .place .ensures) ∙ ap (λ (g : (ℕ × ℕ) × Run). g .0) (at-start .start .ensures)) ∙ works-not _ _ _ (λ e. c .before .before .if1 .taken (answer (c .before .before .before) ∙ e)), c .by .ensures .1)
 
-slice-aggregate-natural : tie.Need-slice-aggregate-natural
-slice-aggregate-natural c = search needs
+slice-aggregate-last-natural : tie.Need-slice-aggregate-last-natural
+slice-aggregate-last-natural c = search needs
 
-natural-requires : tie.Need-natural-requires
-natural-requires c κs = let start = c .before .before .before .before .before in omega (arith, decimal-within (start .args .width))
-
-slice-aggregate-bytes : tie.Need-slice-aggregate-bytes
-slice-aggregate-bytes c = search needs
-
-slice-aggregate-bytes-2 : tie.Need-slice-aggregate-bytes-2
-slice-aggregate-bytes-2 c = search needs
-
-bytes-requires : tie.Need-bytes-requires
-bytes-requires c κs =
-    let start = c .before .before .before .before .before .before .before .before .before in
-    omega (arith, c .before .before .before .natural .ensures .count, decimal-within (start .args .width), c .before .before .text2 .given)
+last-natural-requires : tie.Need-last-natural-requires
+last-natural-requires c κs = let start = c .before .before .before .before .before in omega (arith, decimal-within (start .args .width))
 
 returns-2 : tie.Need-returns-2
 unfolding widthStarted withRun
 returns-2 c =
-    let at-natural = c .before .before .before .before .before in
-    let at-number = at-natural .before .before .before .before in
+    let at-if = c .before .before .before .before in
+    let at-number = at-if .before in
     let s = at-number .before .before .args in
-    let p = at-natural .natural .ensures in
-    let q = c .before .bytes .ensures in (
-      given-text _ _ _ _ (put-then p q .is)
+    let p = c .before .last-natural .ensures in (
+      given-text _ _ _ _ (p .is)
           ∙ ap (λ (g : (ℕ × ℕ) × Run). (withRun Between (g .1) (s .state), decimal (s .width) ++ (lineFeed ∷ []))) (at-number .before .start .ensures)
-          ∙ works _ _ _ (sym (answer at-number) ∙ at-natural .before .before .before .if1 .left),
-      omega (arith, p .count, q .count, decimal-within (s .width)),
+          ∙ works _ _ _ (sym (answer at-number) ∙ at-if .if1 .left),
+      omega (arith, p .count, decimal-within (s .width), length-append (decimal (s .width)) (lineFeed ∷ [])),
     )
 
 pub start-run-spec : {M : Type 1} → statement M
@@ -80,9 +68,6 @@ start-run-spec =
     place-requires
     by-requires
     returns
-    slice-aggregate-natural
-    natural-requires
-    slice-aggregate-bytes
-    slice-aggregate-bytes-2
-    bytes-requires
+    slice-aggregate-last-natural
+    last-natural-requires
     returns-2)

@@ -1,18 +1,11 @@
 -- `text_lines::width::take_width` meets its contract.
 use borrow.Author.Needs.{needs}
-use native.Mathlib.Omega.{arith}
-use borrow.Author.Tests.{ltb-true}
-use mathlib.Core.Path.{_≡_, refl, sym, ap, subst, _∙_}
+use mathlib.Core.Path.{_≡_, refl, sym, ap, _∙_}
 use mathlib.Core.Bool.{true, false}
-use Prim.Native.Nat.{_^_, _≤_}
-use lib.Dec.{T}
-use lib.IntN.{ℤ, pos, negsuc, natAbs}
-use lib.Signed.{ltZ, natAbs-le}
-use mir.Syntax.{w32, w64}
-use mir.Val.{ofZ}
-use Rattle.integers.proofs.Signs.{from-zero}
-use Rattle.integers.proofs.Held.{Held, held-ok, h-lt, asks-nat}
-use Rattle.integers.proofs.Num.{num-lit}
+use Prim.Native.Nat.{ℕ}
+use lib.IntN.{ℤ, pos, natAbs}
+use lib.Signed.{ltZ}
+use Rattle.integers.proofs.Signs.{if-below, if-from, sign-told, asks-usize, usize-is}
 use Rattle.text_runs.specs.declared.number.Field.the-variants as Field
 use Rattle.text_runs.specs.declared.state.State.{State}
 use Rattle.text_runs.specs.State.{refused}
@@ -23,23 +16,15 @@ use Rattle.text_lines.proofs.width.take_width.Tie as tie
 -- a width below zero, and another
 below : (s : State) (x : ℤ) → ltZ x (pos 0) ≡ true → refused s (1, 0) ≡ widthTaken s (Field.Number x)
 unfolding widthTaken
-below s (pos n) e = absurd (omega (arith, ltb-true n 0 e))
-below s (negsuc n) e = refl
+below s = if-below (λ (x : ℤ). refused s (1, 0) ≡ widthTaken s (Field.Number x)) (λ (n : ℕ). refl)
 
 from : (s : State) (x : ℤ) → ltZ x (pos 0) ≡ false → widthStarted s (natAbs x) ≡ widthTaken s (Field.Number x)
 unfolding widthTaken
-from s (pos n) e = refl
-from s (negsuc n) e = absurd (subst T e tt)
+from s = if-from (λ (x : ℤ). widthStarted s (natAbs x) ≡ widthTaken s (Field.Number x)) (λ (n : ℕ). refl)
 
-module _ (k : tie.After-known-told) where
-  abbrev x : ℤ
-  x = k .before .field .given .0 .0
-
-  wide : Held w32 (ofZ w32 x) x
-  wide = held-ok w32 x (k .known-told .given .0 .1)
-
-  size : natAbs x ≤ 2 ^ 31
-  size = natAbs-le x (k .known-told .given .0 .1)
+-- the number that was read
+abbrev x : tie.After-known-told → ℤ
+x k = k .before .field .given .0 .0
 
 enum-known-field : tie.Need-enum-known-field
 enum-known-field c = search needs
@@ -61,12 +46,11 @@ returns-2 : tie.Need-returns-2
 returns-2 c =
     let k = c .before .before in
     let s = k .before .before .before .args in
-    (c .by .ensures .0 ∙ below (s .state) (x k) (h-lt (wide k) (num-lit w32 0 tt .holds) (c .before .if1 .taken)) ∙ sym (ap (widthTaken (s .state)) (k .before .field .given .1)), c .by .ensures .1)
+    let told = sign-told (x k) (k .known-told .given .0 .1) (c .before .if1 .taken) in
+    (c .by .ensures .0 ∙ below (s .state) (x k) told ∙ sym (ap (widthTaken (s .state)) (k .before .field .given .1)), c .by .ensures .1)
 
 cast-start-run : tie.Need-cast-start-run
-cast-start-run c =
-    let k = c .before in
-    asks-nat w64 (wide k) (from-zero (x k) (h-lt (wide k) (num-lit w32 0 tt .holds) (c .if1 .left))) (omega (arith, size k))
+cast-start-run c = asks-usize (x (c .before)) (c .before .known-told .given .0 .1) (c .if1 .left)
 
 start-run-requires : tie.Need-start-run-requires
 start-run-requires c κs = search needs
@@ -75,7 +59,13 @@ returns-3 : tie.Need-returns-3
 returns-3 c =
     let k = c .before .before in
     let s = k .before .before .before .args in
-    (c .start-run .ensures .0 ∙ ap (λ z. widthStarted (s .state) (natAbs z)) (wide k .is) ∙ from (s .state) (x k) (h-lt (wide k) (num-lit w32 0 tt .holds) (c .before .if1 .left)) ∙ sym (ap (widthTaken (s .state)) (k .before .field .given .1)), c .start-run .ensures .1)
+    let fits = k .known-told .given .0 .1 in (
+      c .start-run .ensures .0
+          ∙ ap (widthStarted (s .state)) (usize-is (x k) fits)
+          ∙ from (s .state) (x k) (sign-told (x k) fits (c .before .if1 .left))
+          ∙ sym (ap (widthTaken (s .state)) (k .before .field .given .1)),
+      c .start-run .ensures .1,
+    )
 
 pub take-width-spec : {M : Type 1} → statement M
 take-width-spec =
