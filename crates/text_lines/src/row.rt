@@ -11,6 +11,7 @@ use crate::way;
 use decimal::compare;
 use decimal::read;
 use decimal::read::Fields;
+use text_runs::state;
 use text_runs::state::Phase;
 use text_runs::state::Printed;
 use text_runs::state::State;
@@ -61,14 +62,9 @@ pub fn take_between(state: State, line: &[u8]) -> Printed
     ensures { λ r. ⌜ resultOf r ≡ betweenTaken state (now (line .entry)) ⌝ }
     ensures { λ r. ⌜ r .length ≤ 2048 ⌝ }
 {
-    let way = state.way;
     let run = state.run;
     if compare::is_end(line, run.count) {
-        return refuse::silent(State {
-            way: way,
-            phase: Phase::Ended,
-            run: run,
-        });
+        return refuse::silent(state::with_run(state, Phase::Ended, run));
     }
     take_row(state, line)
 }

@@ -6,6 +6,7 @@ ghost use Rattle.text_runs.specs.Line.{widthStarted, widthTaken};
 use calls_forward::forward;
 use decimal::print;
 use text_runs::number::Field;
+use text_runs::state;
 use text_runs::state::Phase;
 use text_runs::state::Printed;
 use text_runs::state::State;
@@ -21,16 +22,11 @@ fn start_run(state: State, width: usize) -> Printed
     if number != 0 {
         return refuse::by(state, number, runs::answer::place(answer));
     }
-    let way = state.way;
     let run = begun.run;
     let mut text = [0u8; 2048];
     let length = print::last_natural(&mut text, 0, width as u64);
     Printed {
-        state: State {
-            way: way,
-            phase: Phase::Between,
-            run: run,
-        },
+        state: state::with_run(state, Phase::Between, run),
         text: text,
         length: length,
     }

@@ -1,6 +1,6 @@
 // How far a text run has come, and what is printed.
 ghost use mathlib.Core.Path.{_≡_};
-ghost use Rattle.text_runs.specs.State.{begun, goesOn, lineBetween, lineNumber};
+ghost use Rattle.text_runs.specs.State.{begun, withRun, goesOn, lineBetween, lineNumber};
 use runs::limits;
 use runs::record;
 use runs::record::Run;
@@ -41,6 +41,18 @@ pub fn begin(way: Way) -> State
         way: way,
         phase: Phase::First,
         run: record::make(0, 0, held, false),
+    }
+}
+
+// The same way on, with another phase and record.
+pub fn with_run(state: State, phase: Phase, run: Run) -> State
+    ensures { λ r. ⌜ r ≡ withRun phase run state ⌝ }
+{
+    let way = state.way;
+    State {
+        way: way,
+        phase: phase,
+        run: run,
     }
 }
 

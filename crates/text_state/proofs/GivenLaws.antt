@@ -1,5 +1,5 @@
 -- What the code answers, as the definitions give it.
-use mathlib.Core.Path.{_≡_, ap}
+use mathlib.Core.Path.{_≡_, ap, ap₂}
 use mathlib.Core.Bool.{cond}
 use mathlib.Core.List.{List, [], _∷_, _++_}
 use Prim.Native.Nat.{ℕ}
@@ -9,19 +9,19 @@ use lib.ListN.{take}
 use Rattle.text_runs.specs.Lines.{lineFeed, refusal}
 use Rattle.text_runs.specs.declared.state.State.{State}
 use Rattle.text_runs.specs.declared.state.Phase.the-variants.{Over}
-use Rattle.text_runs.specs.State.{LineResult, resultOf, inPhase, lineNumber, refused}
+use Rattle.text_runs.specs.State.{LineResult, resultOf, inPhase, withRun, lineNumber, refused}
 
-pub given-text : (s : State) (n : ℕ) (text after : List ℕ) → take n after ≡ text → resultOf (record { state = s; text = after; length = n }) ≡ (s, text)
+pub given-text : (s t : State) (n : ℕ) (text after : List ℕ) → s ≡ t → take n after ≡ text → resultOf (record { state = s; text = after; length = n }) ≡ (t, text)
 unfolding resultOf
-given-text s n text after e = ap (λ (t : List ℕ). (s, t)) e
+given-text s t n text after p e = ap₂ (λ (u : State) (x : List ℕ). (u, x)) p e
 
 pub told-pair : (answer : ℕ × ℕ) {a b : ℕ} → a ≡ answer .0 → b ≡ answer .1 → (a, b) ≡ answer
 told-pair (n, m) p q = rw (p, q)
 
 pub refused-by : (s : State) (number line place : ℕ) → line ≡ lineNumber (s .phase) (s .run)
-    → (record { way = s .way; phase = Over; run = s .run }, refusal number line place ++ (lineFeed ∷ [])) ≡ refused s (number, place)
-unfolding refused inPhase
-refused-by s number line place e = ap (λ n. (record { way = s .way; phase = Over; run = s .run }, refusal number n place ++ (lineFeed ∷ []))) e
+    → (withRun Over (s .run) s, refusal number line place ++ (lineFeed ∷ [])) ≡ refused s (number, place)
+unfolding refused inPhase withRun
+refused-by s number line place e = ap (λ n. (withRun Over (s .run) s, refusal number n place ++ (lineFeed ∷ []))) e
 
 -- ---- an answer's number decides
 module _ (n : ℕ) (yes no : LineResult) where

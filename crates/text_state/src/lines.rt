@@ -13,6 +13,7 @@ use crate::refuse;
 use decimal::print;
 use runs::record::Outcome;
 use runs::record::Run;
+use text_runs::state;
 use text_runs::state::Phase;
 use text_runs::state::Printed;
 use text_runs::state::State;
@@ -88,11 +89,7 @@ pub fn given_row(state: State, outcome: Outcome, out: &[i32]) -> Printed
     let mut text = [0u8; 2048];
     let length = shown_row(way, before, out, &mut text);
     Printed {
-        state: State {
-            way: way,
-            phase: Phase::Between,
-            run: run,
-        },
+        state: state::with_run(state, Phase::Between, run),
         text: text,
         length: length,
     }
@@ -116,11 +113,7 @@ pub fn given_last(state: State, outcome: Outcome, out: &[i32]) -> Printed
     let mut text = [0u8; 2048];
     let length = shown_last(way, before, out, &mut text);
     Printed {
-        state: State {
-            way: way,
-            phase: Phase::Over,
-            run: run,
-        },
+        state: state::with_run(state, Phase::Over, run),
         text: text,
         length: length,
     }

@@ -25,18 +25,13 @@ pub fn by(state: State, number: usize, place: usize) -> Printed
     ensures { λ r. ⌜ resultOf r ≡ refused state (number, place) ⌝ }
     ensures { λ r. ⌜ r .length ≤ 2048 ⌝ }
 {
-    let way = state.way;
     let run = state.run;
     let line = state::line_number(state);
     let mut text = [0u8; 2048];
     let n = print::refusal(&mut text, 0, number, line, place);
     let length = print::bytes(&mut text, n, b"\n");
     Printed {
-        state: State {
-            way: way,
-            phase: Phase::Over,
-            run: run,
-        },
+        state: state::with_run(state, Phase::Over, run),
         text: text,
         length: length,
     }

@@ -46,14 +46,17 @@ slice-aggregate-last-natural c = search needs
 last-natural-requires : tie.Need-last-natural-requires
 last-natural-requires c κs = let start = c .before .before .before .before .before in omega (arith, decimal-within (start .args .width))
 
+with-run-requires : tie.Need-with-run-requires
+with-run-requires c κs = search needs
+
 returns-2 : tie.Need-returns-2
-unfolding widthStarted withRun
+unfolding widthStarted
 returns-2 c =
-    let at-if = c .before .before .before .before in
+    let at-if = c .before .before .before .before .before in
     let at-number = at-if .before in
     let s = at-number .before .before .args in
-    let p = c .before .last-natural .ensures in (
-      given-text _ _ _ _ (p .is)
+    let p = c .before .before .last-natural .ensures in (
+      given-text _ _ _ _ _ (c .with-run .ensures) (p .is)
           ∙ ap (λ (g : (ℕ × ℕ) × Run). (withRun Between (g .1) (s .state), decimal (s .width) ++ (lineFeed ∷ []))) (at-number .before .start .ensures)
           ∙ works _ _ _ (sym (answer at-number) ∙ at-if .if1 .left),
       omega (arith, p .count, decimal-within (s .width), length-append (decimal (s .width)) (lineFeed ∷ [])),
@@ -70,4 +73,5 @@ start-run-spec =
     returns
     slice-aggregate-last-natural
     last-natural-requires
+    with-run-requires
     returns-2)

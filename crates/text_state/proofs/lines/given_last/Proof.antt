@@ -2,7 +2,7 @@
 use borrow.Author.Needs.{needs}
 use native.Mathlib.Omega.{arith}
 use mathlib.Core.Path.{sym, ap, _∙_}
-use Rattle.text_runs.specs.State.{withRun, refused}
+use Rattle.text_runs.specs.State.{refused}
 use Rattle.text_runs.specs.Line.{finishGiven}
 use Rattle.text_state.proofs.GivenLaws.{given-text, told-pair, works, works-not}
 use Rattle.text_state.proofs.lines.given_last.Statement.{statement}
@@ -32,11 +32,15 @@ shown-last-requires c κs =
     let s = at-number .before in
     (omega (arith, s .pre .0), s .pre .1 (sym (at-number .number .ensures) ∙ c .before .before .before .if1 .left))
 
+with-run-requires : tie.Need-with-run-requires
+with-run-requires c κs = tt
+
 returns-2 : tie.Need-returns-2
-unfolding finishGiven withRun
+unfolding finishGiven
 returns-2 c =
-    let at-if1 = c .before .before .before .before .before in
-    (given-text _ _ _ _ (c .before .shown-last .ensures .0) ∙ works _ _ _ (sym (at-if1 .before .number .ensures) ∙ at-if1 .if1 .left), omega (arith, c .before .shown-last .ensures .1))
+    let shown = c .before .before .shown-last .ensures in
+    let at-if1 = c .before .before .before .before .before .before in
+    (given-text _ _ _ _ _ (c .with-run .ensures) (shown .0) ∙ works _ _ _ (sym (at-if1 .before .number .ensures) ∙ at-if1 .if1 .left), omega (arith, shown .1))
 
 pub given-last-spec : {M : Type 1} → statement M
 given-last-spec =
@@ -48,4 +52,5 @@ given-last-spec =
     returns
     slice-aggregate-shown-last
     shown-last-requires
+    with-run-requires
     returns-2)

@@ -2,7 +2,7 @@
 use borrow.Author.Needs.{needs}
 use native.Mathlib.Omega.{arith}
 use mathlib.Core.Path.{sym, ap, _∙_}
-use Rattle.text_runs.specs.State.{withRun, refused}
+use Rattle.text_runs.specs.State.{refused}
 use Rattle.text_runs.specs.Line.{rowGiven}
 use Rattle.text_state.proofs.GivenLaws.{given-text, told-pair, works, works-not}
 use Rattle.text_state.proofs.lines.given_row.Statement.{statement}
@@ -29,11 +29,15 @@ slice-aggregate-shown-row c = search needs
 shown-row-requires : tie.Need-shown-row-requires
 shown-row-requires c κs = search needs
 
+with-run-requires : tie.Need-with-run-requires
+with-run-requires c κs = tt
+
 returns-2 : tie.Need-returns-2
-unfolding rowGiven withRun
+unfolding rowGiven
 returns-2 c =
-    let at-if1 = c .before .before .before .before .before in
-    (given-text _ _ _ _ (c .before .shown-row .ensures .0) ∙ works _ _ _ (sym (at-if1 .before .number .ensures) ∙ at-if1 .if1 .left), omega (arith, c .before .shown-row .ensures .1))
+    let shown = c .before .before .shown-row .ensures in
+    let at-if1 = c .before .before .before .before .before .before in
+    (given-text _ _ _ _ _ (c .with-run .ensures) (shown .0) ∙ works _ _ _ (sym (at-if1 .before .number .ensures) ∙ at-if1 .if1 .left), omega (arith, shown .1))
 
 pub given-row-spec : {M : Type 1} → statement M
 given-row-spec =
@@ -45,4 +49,5 @@ given-row-spec =
     returns
     slice-aggregate-shown-row
     shown-row-requires
+    with-run-requires
     returns-2)

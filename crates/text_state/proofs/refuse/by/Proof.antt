@@ -25,14 +25,17 @@ slice-aggregate-bytes-2 c = search needs
 bytes-requires : tie.Need-bytes-requires
 bytes-requires c κs = search needs
 
+with-run-requires : tie.Need-with-run-requires
+with-run-requires c κs = tt
+
 returns : tie.Need-returns
 returns c =
-    let at-refusal = c .before .before .before .before .before in
+    let at-bytes = c .before .before in
+    let at-refusal = at-bytes .before .before .before .before in
     let start = at-refusal .before .before .before .before in
-    let s = start .args .state in
     let p = at-refusal .refusal .ensures in
-    let q = c .before .bytes .ensures in
-    (given-text _ _ _ _ (put-then (p .0) q .is) ∙ refused-by s _ _ _ (at-refusal .before .before .line-number .ensures), omega (arith, p .1, q .count))
+    let q = at-bytes .bytes .ensures in
+    (given-text _ _ _ _ _ (c .with-run .ensures) (put-then (p .0) q .is) ∙ refused-by (start .args .state) _ _ _ (at-refusal .before .before .line-number .ensures), omega (arith, p .1, q .count))
 
 pub by-spec : {M : Type 1} → statement M
 by-spec =
@@ -44,4 +47,5 @@ by-spec =
     slice-aggregate-bytes
     slice-aggregate-bytes-2
     bytes-requires
+    with-run-requires
     returns)
