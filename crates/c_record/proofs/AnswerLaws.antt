@@ -12,9 +12,6 @@ use Rattle.runs.specs.declared.record.Run.{Run}
 use Rattle.c_record.specs.Record.{packed}
 use Rattle.c_record.specs.Calls.{numbersAfter}
 
-pub told-pair : (answer : ℕ × ℕ) {a b : ℕ} → a ≡ answer .0 → b ≡ answer .1 → (a, b) ≡ answer
-told-pair (n, m) p q = rw (p, q)
-
 pub told-small : (answer : Answer) → told answer .0 ≤ 12
 unfolding told
 told-small Done = omega arith

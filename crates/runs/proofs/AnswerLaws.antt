@@ -23,6 +23,10 @@ use Rattle.runs.proofs.RecordLaws.{width-le}
 use Rattle.runs.specs.Back.{blockOn, firstUpper, firstFrame, laterFrame, unfoldedIn, undoneIn, takenBack}
 use Rattle.runs.proofs.BackLaws.{length-block}
 
+-- the number and the place of an answer, each by itself, are the answer
+pub told-pair : (answer : ℕ × ℕ) {a b : ℕ} → a ≡ answer .0 → b ≡ answer .1 → (a, b) ≡ answer
+told-pair (n, m) p q = rw (p, q)
+
 -- ---- the same answer and the same record
 pub record Alike (g h : CallResult) : Type 0 where
   pub same : (g .0, g .1, h .2) ≡ h

@@ -18,9 +18,8 @@ fn start_run(state: State, width: usize) -> Printed
 {
     let begun = forward::start(width);
     let answer = begun.answer;
-    let number = runs::answer::number(answer);
-    if number != 0 {
-        return refuse::by(state, number, runs::answer::place(answer));
+    if runs::answer::number(answer) != 0 {
+        return refuse::by_answer(state, answer);
     }
     let run = begun.run;
     let mut text = [0u8; 2048];

@@ -15,9 +15,6 @@ pub given-text : (s t : State) (n : ℕ) (text after : List ℕ) → s ≡ t →
 unfolding resultOf
 given-text s t n text after p e = ap₂ (λ (u : State) (x : List ℕ). (u, x)) p e
 
-pub told-pair : (answer : ℕ × ℕ) {a b : ℕ} → a ≡ answer .0 → b ≡ answer .1 → (a, b) ≡ answer
-told-pair (n, m) p q = rw (p, q)
-
 pub refused-by : (s : State) (number line place : ℕ) → line ≡ lineNumber (s .phase) (s .run)
     → (withRun Over (s .run) s, refusal number line place ++ (lineFeed ∷ [])) ≡ refused s (number, place)
 unfolding refused inPhase withRun

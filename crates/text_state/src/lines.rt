@@ -79,9 +79,8 @@ pub fn given_row(state: State, outcome: Outcome, out: &[i32]) -> Printed
     ensures { λ r. ⌜ r .length ≤ 2048 ⌝ }
 {
     let answer = outcome.answer;
-    let number = runs::answer::number(answer);
-    if number != 0 {
-        return refuse::by(state, number, runs::answer::place(answer));
+    if runs::answer::number(answer) != 0 {
+        return refuse::by_answer(state, answer);
     }
     let way = state.way;
     let before = state.run;
@@ -103,9 +102,8 @@ pub fn given_last(state: State, outcome: Outcome, out: &[i32]) -> Printed
     ensures { λ r. ⌜ r .length ≤ 2048 ⌝ }
 {
     let answer = outcome.answer;
-    let number = runs::answer::number(answer);
-    if number != 0 {
-        return refuse::by(state, number, runs::answer::place(answer));
+    if runs::answer::number(answer) != 0 {
+        return refuse::by_answer(state, answer);
     }
     let way = state.way;
     let before = state.run;

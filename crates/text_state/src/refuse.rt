@@ -2,9 +2,11 @@
 ghost use mathlib.Core.Path.{_≡_};
 ghost use mathlib.Core.List.{[]};
 ghost use Prim.Native.Nat.{_≤_};
+ghost use Rattle.runs.specs.Answers.{told};
 ghost use Rattle.text_runs.specs.State.{resultOf, refused};
 ghost use Rattle.text_runs.specs.Line.{badForm};
 use decimal::print;
+use runs::answer::Answer;
 use text_runs::state;
 use text_runs::state::Phase;
 use text_runs::state::Printed;
@@ -35,6 +37,18 @@ pub fn by(state: State, number: usize, place: usize) -> Printed
         text: text,
         length: length,
     }
+}
+
+// By the number and the place of an answer.
+pub fn by_answer(state: State, answer: Answer) -> Printed
+    ensures { λ r. ⌜ resultOf r ≡ refused state (told answer) ⌝ }
+    ensures { λ r. ⌜ r .length ≤ 2048 ⌝ }
+{
+    by(
+        state,
+        runs::answer::number(answer),
+        runs::answer::place(answer),
+    )
 }
 
 pub fn bad_form(state: State) -> Printed

@@ -1,7 +1,8 @@
 -- `c_record::answer::tell` meets its contract.
 use borrow.Author.Needs.{needs}
 use native.Mathlib.Omega.{arith}
-use Rattle.c_record.proofs.AnswerLaws.{told-pair, told-small}
+use Rattle.runs.proofs.AnswerLaws.{told-pair}
+use Rattle.c_record.proofs.AnswerLaws.{told-small}
 use Rattle.c_record.proofs.answer.tell.Statement.{statement}
 use Rattle.c_record.proofs.answer.tell.Tie as tie
 

@@ -13,7 +13,7 @@ use Rattle.text_runs.proofs.DecimalLaws.{decimal-within}
 use Rattle.text_runs.specs.declared.state.Phase.the-variants.{Between}
 use Rattle.text_runs.specs.State.{withRun, refused}
 use Rattle.text_runs.specs.Line.{widthStarted}
-use Rattle.text_state.proofs.GivenLaws.{given-text, told-pair, works, works-not}
+use Rattle.text_state.proofs.GivenLaws.{given-text, works, works-not}
 use Rattle.text_lines.proofs.width.start_run.Statement.{statement}
 use Rattle.text_lines.proofs.width.start_run.Tie as tie
 
@@ -27,18 +27,20 @@ start-requires c κs = search needs
 number-requires : tie.Need-number-requires
 number-requires c κs = search needs
 
-place-requires : tie.Need-place-requires
-place-requires c κs = search needs
-
-by-requires : tie.Need-by-requires
-by-requires c κs = search needs
+by-answer-requires : tie.Need-by-answer-requires
+by-answer-requires c κs = search needs
 
 returns : tie.Need-returns
 unfolding widthStarted
 returns c =
-    let at-start = c .before .before .before .before in
-    let s = at-start .before .args in
-    (c .by .ensures .0 ∙ ap (refused (s .state)) (told-pair _ (c .before .before .before .number .ensures) (c .before .place .ensures) ∙ ap (λ (g : (ℕ × ℕ) × Run). g .0) (at-start .start .ensures)) ∙ works-not _ _ _ (λ e. c .before .before .if1 .taken (answer (c .before .before .before) ∙ e)), c .by .ensures .1)
+    let at-if = c .before in
+    let at-number = at-if .before in
+    let s = at-number .before .before .args in (
+      c .by-answer .ensures .0
+          ∙ ap (λ (g : (ℕ × ℕ) × Run). refused (s .state) (g .0)) (at-number .before .start .ensures)
+          ∙ works-not _ _ _ (λ e. at-if .if1 .taken (answer at-number ∙ e)),
+      c .by-answer .ensures .1,
+    )
 
 slice-aggregate-last-natural : tie.Need-slice-aggregate-last-natural
 slice-aggregate-last-natural c = search needs
@@ -68,8 +70,7 @@ start-run-spec =
     (tie.spec
     start-requires
     number-requires
-    place-requires
-    by-requires
+    by-answer-requires
     returns
     slice-aggregate-last-natural
     last-natural-requires

@@ -1,27 +1,23 @@
 -- `text_state::lines::given_last` meets its contract.
 use borrow.Author.Needs.{needs}
 use native.Mathlib.Omega.{arith}
-use mathlib.Core.Path.{sym, ap, _∙_}
-use Rattle.text_runs.specs.State.{refused}
+use mathlib.Core.Path.{sym, _∙_}
 use Rattle.text_runs.specs.Line.{finishGiven}
-use Rattle.text_state.proofs.GivenLaws.{given-text, told-pair, works, works-not}
+use Rattle.text_state.proofs.GivenLaws.{given-text, works, works-not}
 use Rattle.text_state.proofs.lines.given_last.Statement.{statement}
 use Rattle.text_state.proofs.lines.given_last.Tie as tie
 
 number-requires : tie.Need-number-requires
 number-requires c κs = tt
 
-place-requires : tie.Need-place-requires
-place-requires c κs = tt
-
-by-requires : tie.Need-by-requires
-by-requires c κs = tt
+by-answer-requires : tie.Need-by-answer-requires
+by-answer-requires c κs = tt
 
 returns : tie.Need-returns
 unfolding finishGiven
 returns c =
-    let s = c .before .before .before .before in
-    (c .by .ensures .0 ∙ ap (refused (s .args .state)) (told-pair _ (c .before .before .before .number .ensures) (c .before .place .ensures)) ∙ works-not _ _ _ (λ e. c .before .before .if1 .taken (c .before .before .before .number .ensures ∙ e)), c .by .ensures .1)
+    let at-if1 = c .before in
+    (c .by-answer .ensures .0 ∙ works-not _ _ _ (λ e. at-if1 .if1 .taken (at-if1 .before .number .ensures ∙ e)), c .by-answer .ensures .1)
 
 slice-aggregate-shown-last : tie.Need-slice-aggregate-shown-last
 slice-aggregate-shown-last c = search needs
@@ -47,8 +43,7 @@ given-last-spec =
     tie.close
     (tie.spec
     number-requires
-    place-requires
-    by-requires
+    by-answer-requires
     returns
     slice-aggregate-shown-last
     shown-last-requires
