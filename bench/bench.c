@@ -22,6 +22,7 @@ static const size_t widths[3] = {8, 32, 128};
 struct work {
     size_t width, blocks;
     int32_t *readings, *frames, *out;
+    int64_t total; /* of the last run block by block */
     struct plain plain;
 };
 
@@ -73,15 +74,17 @@ static void blocks_forward(struct work *w, const struct peer *peer)
     if (peer == NULL)
         refused |= lapped_start(N, run, LAPPED_RUN_LENGTH, &place);
     for (at = 0; at < n; at += N)
-        if (peer != NULL)
+        if (peer != NULL) {
             peer->take(&w->plain, run, w->readings + at, w->out + at);
-        else
+            run[LAPPED_RUN_TOTAL] += peer->sum(&w->plain, w->readings + at);
+        } else
             refused |= lapped_take(run, LAPPED_RUN_LENGTH, w->readings + at, N, w->out + at, N, &place);
     if (peer != NULL)
         peer->take(&w->plain, run, zeros, w->out + n);
     else
         refused |= lapped_finish(run, LAPPED_RUN_LENGTH, w->out + n, N, &place);
     must(refused == 0, "a block is refused");
+    w->total = run[LAPPED_RUN_TOTAL];
 }
 
 static void blocks_back(struct work *w, const struct peer *peer)
@@ -95,14 +98,16 @@ static void blocks_back(struct work *w, const struct peer *peer)
     for (at = 0; at <= n; at += N) {
         int32_t *block = at == 0 ? w->out : w->out + at - N;
 
-        if (peer != NULL)
+        if (peer != NULL) {
             peer->back_take(&w->plain, run, at == 0, w->frames + at, block);
-        else
+            run[LAPPED_RUN_TOTAL] += at == 0 ? 0 : peer->sum(&w->plain, block);
+        } else
             refused |= lapped_back_take(run, LAPPED_RUN_LENGTH, w->frames + at, N, block, N, &place);
     }
     if (peer == NULL)
         refused |= lapped_back_finish(run, LAPPED_RUN_LENGTH, &place);
     must(refused == 0, "a frame is refused");
+    w->total = run[LAPPED_RUN_TOTAL];
 }
 
 typedef void going(struct work *w, const struct peer *peer);
@@ -117,6 +122,7 @@ static struct work prepared(size_t width, size_t blocks)
 
     w.width = width;
     w.blocks = blocks;
+    w.total = 0;
     w.readings = malloc((n + width) * sizeof *w.readings);
     w.frames = malloc((n + width) * sizeof *w.frames);
     w.out = malloc((n + width) * sizeof *w.out);
@@ -140,15 +146,20 @@ static void release(struct work *w)
     free(w->out);
 }
 
-/* all give the same numbers */
+/* all give the same numbers, and block by block the same total */
 static void check(struct work *w, going *go, int back)
 {
-    size_t n = w->blocks * w->width;
+    size_t n = w->blocks * w->width, at;
+    int64_t total = 0;
     int i;
 
+    for (at = 0; at < n; at++)
+        total += w->readings[at];
     for (i = -1; i < PEERS; i++) {
         memset(w->out, 1, (n + w->width) * sizeof *w->out);
+        w->total = total + 1;
         go(w, i < 0 ? NULL : peers[i]);
+        must(go == whole_forward || go == whole_back || w->total == total, "the totals differ");
         if (back)
             must(memcmp(w->out, w->readings, n * sizeof *w->out) == 0, "another run comes back");
         else

@@ -142,6 +142,16 @@ static void back_take(const struct plain *p, int64_t *held, int first, const int
         held[n] = folded[n];
 }
 
+static int64_t sum(const struct plain *p, const int32_t *block)
+{
+    int64_t total = 0;
+    int n;
+
+    for (n = 0; n < p->width; n++)
+        total += block[n];
+    return total;
+}
+
 static void forward(const struct plain *p, const int32_t *readings, size_t blocks, int32_t *frames)
 {
     static const int32_t zeros[128];
@@ -163,4 +173,4 @@ static void back(const struct plain *p, const int32_t *frames, size_t blocks, in
         back_take(p, held, 0, frames + f * N, readings + (f - 1) * N);
 }
 
-const struct peer PEER = {FLAGS, start, take, back_take, forward, back};
+const struct peer PEER = {FLAGS, start, take, back_take, sum, forward, back};

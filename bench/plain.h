@@ -21,6 +21,8 @@ struct peer {
     void (*take)(const struct plain *p, int64_t *held, const int32_t *block, int32_t *frame);
     /* the block before the frame, and nothing for the first frame */
     void (*back_take)(const struct plain *p, int64_t *held, int first, const int32_t *frame, int32_t *block);
+    /* the sum of a block, which calls block by block add to the total; whole runs have none */
+    int64_t (*sum)(const struct plain *p, const int32_t *block);
     void (*forward)(const struct plain *p, const int32_t *readings, size_t blocks, int32_t *frames);
     void (*back)(const struct plain *p, const int32_t *frames, size_t blocks, int32_t *readings);
 };

@@ -1,5 +1,6 @@
 /*
- * The paper's sample: one block of width 8 and the finish, forward and back, block by block and as a whole run.
+ * The paper's sample: one block of width 8 and the finish, forward and back, block by block, with the total of the
+ * readings, and as a whole run.
  *
  *     cc -I include examples/one_block.c target/staticlib/liblapped.a -o one_block
  */
@@ -29,9 +30,8 @@ static int refused(const char *call, uint32_t answer, const size_t *place)
 }
 
 /* Each frame as its call leaves it: the block's, then the finish's. */
-static int forward(const int32_t *block, int32_t *frames)
+static int forward(int64_t *run, const int32_t *block, int32_t *frames)
 {
-    int64_t run[LAPPED_RUN_LENGTH];
     size_t place;
 
     return refused("start", lapped_start(WIDTH, run, LAPPED_RUN_LENGTH, &place), &place)
@@ -40,9 +40,8 @@ static int forward(const int32_t *block, int32_t *frames)
 }
 
 /* The first frame only starts the run; the second gives the block. */
-static int back(const int32_t *frames, int32_t *block)
+static int back(int64_t *run, const int32_t *frames, int32_t *block)
 {
-    int64_t run[LAPPED_RUN_LENGTH];
     size_t place;
 
     return refused("start", lapped_start(WIDTH, run, LAPPED_RUN_LENGTH, &place), &place)
@@ -56,17 +55,20 @@ int main(void)
     const int32_t block[WIDTH] = {100, 0, 0, 0, 0, 0, 0, 0};
     const int32_t dead[WIDTH] = {100, 0, LAPPED_DEAD_READING, 0, 0, 0, 0, 0};
     int32_t frames[2 * WIDTH], again[2 * WIDTH], readings[WIDTH];
+    int64_t run[LAPPED_RUN_LENGTH];
     size_t place;
     uint32_t answer;
 
     print("block", block, WIDTH);
-    if (forward(block, frames))
+    if (forward(run, block, frames))
         return 1;
     print("frame 0", frames, WIDTH);
     print("frame 1", frames + WIDTH, WIDTH);
-    if (back(frames, readings))
+    printf("total %ld\n", (long)run[LAPPED_RUN_TOTAL]);
+    if (back(run, frames, readings))
         return 1;
     print("back", readings, WIDTH);
+    printf("total %ld\n", (long)run[LAPPED_RUN_TOTAL]);
 
     if (refused("forward", lapped_forward(WIDTH, block, WIDTH, again, 2 * WIDTH, &place), &place))
         return 1;

@@ -29,14 +29,17 @@
 extern "C" {
 #endif
 
-/* The project's version, which `lapped --version` tells too. */
-#define LAPPED_VERSION 1
+/*
+ * The project's version, which `lapped --version` tells too. 2: the record has a total, and one number more. A caller
+ * that was compiled against version 1 hands in 67 numbers, and is refused with LAPPED_RECORD.
+ */
+#define LAPPED_VERSION 2
 
 /* The answers: 0, or the number of the question that said no. */
 enum lapped_answer {
     LAPPED_DONE = 0,
     LAPPED_WIDTH = 1,         /* the width is not 8, 32 or 128 */
-    LAPPED_RECORD = 2,        /* the run record is not sound, or has not LAPPED_RUN_LENGTH numbers */
+    LAPPED_RECORD = 2,        /* the run record is not sound this way, or has not LAPPED_RUN_LENGTH numbers */
     LAPPED_CLOSED = 3,        /* the run is finished */
     LAPPED_FULL = 4,          /* the run has taken all the blocks or frames that it can take */
     LAPPED_EMPTY = 5,         /* finishing back: no frame has been taken */
@@ -64,17 +67,29 @@ enum {
  * and every call that works changes it. It may be copied, kept and read; the numbers at these places are:
  */
 enum {
-    LAPPED_RUN_LENGTH = 67,
+    LAPPED_RUN_LENGTH = 68,
     LAPPED_RUN_WIDTH = 0,    /* N */
     LAPPED_RUN_COUNT = 1,    /* blocks taken forward, frames taken back */
     LAPPED_RUN_FINISHED = 2, /* 1 after a finish that worked, else 0 */
-    LAPPED_RUN_HELD = 3      /* 64 held values, from here on */
+    LAPPED_RUN_HELD = 3,     /* 64 held values, from here on */
+    LAPPED_RUN_TOTAL = 67    /* the exact sum of the readings taken forward, or given back */
 };
 
 /*
+ * The total: 0 after a start, refused or not. A block that is taken adds its N readings. Going back the first frame
+ * adds nothing, and each later one adds the N readings that it gives. A finish keeps the total, and a refused call
+ * leaves it as it was. On a run from a start it never leaves +-274869518336, which is LAPPED_BLOCKS_MAX * 128 * 32767.
+ *
+ * Each call asks by its way whether the total is at most blocks * N * 32767 in size, finished or not, and refuses with
+ * LAPPED_RECORD if it is not: forward the blocks are the count, back the count less one, or none at count 0. A record
+ * does not say which way it goes. One that has taken a block forward, with total 100, is refused by the functions back,
+ * since a single frame gives no block; one whose total fits both ways is taken.
+ */
+
+/*
  * Start a run of a width, forward or back.
- *   run: run_length is LAPPED_RUN_LENGTH. Filled with an open record that has taken nothing; its numbers before
- *   the call do not matter.
+ *   run: run_length is LAPPED_RUN_LENGTH. Filled with an open record that has taken nothing, of total 0; its numbers
+ *   before the call do not matter.
  * Answers LAPPED_WIDTH, and then the record is of width 0, which every other call refuses; LAPPED_RECORD where
  * run_length is another number, and then nothing is written.
  */
@@ -90,7 +105,7 @@ uint32_t lapped_take(int64_t *run, size_t run_length,
                      int32_t *frame, size_t frame_length, size_t *place);
 
 /*
- * Finish a run forward: give its last frame, and close it.
+ * Finish a run forward: give its last frame, and close it. The count and the total stay.
  *   frame: N coefficients, written.
  * Answers LAPPED_RECORD, CLOSED or OUTPUT_LENGTH.
  */
@@ -108,13 +123,13 @@ uint32_t lapped_back_take(int64_t *run, size_t run_length,
                           int32_t *block, size_t block_length, size_t *place);
 
 /*
- * Finish a run back: close it, if its frames were all there.
+ * Finish a run back: close it, if its frames were all there. The total is then that of the run forward.
  * Answers LAPPED_RECORD, CLOSED, EMPTY or HALVES.
  */
 uint32_t lapped_back_finish(int64_t *run, size_t run_length, size_t *place);
 
 /*
- * A whole run forward.
+ * A whole run forward. It has no record, and tells no total.
  *   readings: b * N of them, b from 0 to LAPPED_BLOCKS_MAX. frames: (b + 1) * N coefficients, written.
  * Answers LAPPED_WIDTH, INPUT_LENGTH, OUTPUT_LENGTH, DEAD_MARK or RANGE; place counts through the run.
  */

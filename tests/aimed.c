@@ -200,12 +200,130 @@ static void aim_lifts(size_t N, size_t m, bool fourth)
     expect(memcmp(again, frame, N * sizeof *frame) == 0, "they give another frame");
 }
 
+/* ---- the total: question 2 goes by the way */
+
+/* how large the total of so many blocks can be */
+static int64_t total_limit(size_t N, int64_t blocks)
+{
+    return blocks * (int64_t)N * LAPPED_READING_MAX;
+}
+
+/* every call with a record of such a count and total; zeros come in and are held, so that nothing is added to it */
+static void aim_record(size_t N, int64_t count, int64_t finished, int64_t total)
+{
+    static const int32_t zeros[WIDEST];
+    enum entry entry;
+
+    for (entry = TAKE; entry <= BACK_FINISH; entry = (enum entry)(entry + 1)) {
+        bool back = entry == BACK_TAKE || entry == BACK_FINISH, block = entry == TAKE || entry == BACK_TAKE;
+        int64_t run[LAPPED_RUN_LENGTH] = {0}, limit = total_limit(N, back && count > 0 ? count - 1 : count);
+        bool sound = count <= LAPPED_BLOCKS_MAX + back && -limit <= total && total <= limit;
+        uint32_t answer;
+
+        run[LAPPED_RUN_WIDTH] = (int64_t)N;
+        run[LAPPED_RUN_COUNT] = count;
+        run[LAPPED_RUN_FINISHED] = finished;
+        run[LAPPED_RUN_TOTAL] = total;
+        answer = with_record(entry, run, LAPPED_RUN_LENGTH, block ? zeros : NULL, block ? N : 0, NULL, entry == BACK_FINISH ? 0 : N);
+        expect((answer != LAPPED_RECORD) == sound, sound ? "a total that fits is refused" : "a total that does not fit is taken");
+        expect(run[LAPPED_RUN_TOTAL] == total, "zeros change the total");
+    }
+}
+
+/* the limit of one block less, of the count and of one block more: on it, one below, one beyond, of either sign; and any others */
+static void aim_totals(size_t N, int64_t count, int64_t finished)
+{
+    static const int64_t others[] = {0, 1, -1, (int64_t)1 << 31, (int64_t)1 << 32, -((int64_t)1 << 32), ((int64_t)1 << 40) + 1,
+                                     INT64_MAX, INT64_MIN, INT64_MIN + 1, INT64_MIN + 100};
+    int64_t blocks, off;
+    size_t i;
+
+    for (blocks = count > 2 ? count - 2 : 0; blocks <= count + 1; blocks++)
+        for (off = -1; off <= 1; off++) {
+            aim_record(N, count, finished, total_limit(N, blocks) + off);
+            aim_record(N, count, finished, -total_limit(N, blocks) - off);
+        }
+    for (i = 0; i < sizeof others / sizeof *others; i++)
+        aim_record(N, count, finished, others[i]);
+}
+
+/* a record of so many blocks (frames back), with the greatest total, takes a block of the greatest readings more, and gives it back */
+static void aim_sum(size_t N, int64_t count, int32_t reading)
+{
+    int64_t forward[LAPPED_RUN_LENGTH] = {0}, back[LAPPED_RUN_LENGTH] = {0}, sign = reading < 0 ? -1 : 1;
+    int32_t block[WIDEST], frames[2 * WIDEST], again[WIDEST];
+    size_t i;
+
+    for (i = 0; i < N; i++)
+        block[i] = reading;
+    start(N, forward, LAPPED_RUN_LENGTH);
+    forward[LAPPED_RUN_COUNT] = count;
+    forward[LAPPED_RUN_TOTAL] = sign * total_limit(N, count);
+    expect(with_record(TAKE, forward, LAPPED_RUN_LENGTH, block, N, frames, N) == LAPPED_DONE, "a block of the greatest readings is refused");
+    expect(forward[LAPPED_RUN_TOTAL] == sign * total_limit(N, count + 1), "its sum is not added");
+    expect(with_record(FINISH, forward, LAPPED_RUN_LENGTH, NULL, 0, frames + N, N) == LAPPED_DONE, "the finish after it is refused");
+    expect(forward[LAPPED_RUN_TOTAL] == sign * total_limit(N, count + 1), "the finish changes the total");
+
+    start(N, back, LAPPED_RUN_LENGTH);
+    expect(with_record(BACK_TAKE, back, LAPPED_RUN_LENGTH, frames, N, NULL, N) == LAPPED_DONE, "its first frame is refused");
+    expect(back[LAPPED_RUN_TOTAL] == 0, "the first frame adds to the total");
+    back[LAPPED_RUN_COUNT] = count + 1;
+    back[LAPPED_RUN_TOTAL] = sign * total_limit(N, count);
+    expect(with_record(BACK_TAKE, back, LAPPED_RUN_LENGTH, frames + N, N, again, N) == LAPPED_DONE, "its second frame is refused");
+    expect(memcmp(again, block, N * sizeof *block) == 0, "another block comes back");
+    expect(back[LAPPED_RUN_TOTAL] == sign * total_limit(N, count + 1), "its sum is not added back");
+    expect(with_record(BACK_FINISH, back, LAPPED_RUN_LENGTH, NULL, 0, NULL, 0) == LAPPED_DONE, "the finish back is refused");
+    expect(back[LAPPED_RUN_TOTAL] == sign * total_limit(N, count + 1), "the finish back changes the total");
+}
+
+/* a record that calls of one way made, handed to those of the other: one frame gives no block, so it can have no total */
+static void aim_other_way(size_t N, int32_t first, bool sound)
+{
+    int64_t made[LAPPED_RUN_LENGTH] = {0}, run[LAPPED_RUN_LENGTH];
+    int32_t block[WIDEST] = {0}, frame[WIDEST];
+
+    block[0] = first;
+    block[1] = sound ? -first : 0;
+    start(N, made, LAPPED_RUN_LENGTH);
+    with_record(TAKE, made, LAPPED_RUN_LENGTH, block, N, frame, N);
+    memcpy(run, made, sizeof run);
+    expect((with_record(BACK_TAKE, run, LAPPED_RUN_LENGTH, frame, N, NULL, N) != LAPPED_RECORD) == sound, "a forward record back");
+    memcpy(run, made, sizeof run);
+    expect((with_record(BACK_FINISH, run, LAPPED_RUN_LENGTH, NULL, 0, NULL, 0) != LAPPED_RECORD) == sound, "a forward record finished back");
+    with_record(FINISH, made, LAPPED_RUN_LENGTH, NULL, 0, frame, N);
+    expect((with_record(BACK_FINISH, made, LAPPED_RUN_LENGTH, NULL, 0, NULL, 0) != LAPPED_RECORD) == sound, "a finished forward record back");
+    start(N, made, LAPPED_RUN_LENGTH);
+    memset(block, 0, sizeof block);
+    with_record(BACK_TAKE, made, LAPPED_RUN_LENGTH, block, N, NULL, N);
+    expect(with_record(TAKE, made, LAPPED_RUN_LENGTH, block, N, NULL, N) == LAPPED_DONE, "a record of one frame, with no total, forward");
+}
+
+static void aimed_at_totals(size_t N)
+{
+    static const int64_t counts[] = {0, 1, 2, 3, 1000, 65534, 65535, 65536, 65537, 65538};
+    size_t i;
+
+    for (i = 0; i < sizeof counts / sizeof *counts; i++) {
+        aim_totals(N, counts[i], 0);
+        aim_totals(N, counts[i], 1);
+        if (counts[i] < LAPPED_BLOCKS_MAX) {
+            aim_sum(N, counts[i], LAPPED_READING_MAX);
+            aim_sum(N, counts[i], -LAPPED_READING_MAX);
+        }
+    }
+    aim_other_way(N, 100, false);
+    aim_other_way(N, -1, false);
+    aim_other_way(N, 100, true);
+}
+
 void aimed(void)
 {
     static const size_t widths[3] = {8, 32, 128};
     size_t w, m, i;
     int off;
 
+    for (w = 0; w < 3; w++)
+        aimed_at_totals(widths[w]);
     for (w = 0; w < 3; w++)
         for (m = 0; m < widths[w] / 2; m++)
             for (i = 0; i < TIMES; i++) {

@@ -35,7 +35,7 @@ uint32_t with_width(enum entry entry, size_t width, const int32_t *input, size_t
 /* What holds of the calls by themselves, whatever the reference says. */
 void expect(bool holds, const char *what);
 
-/* The count of calls, by entry, answer and width. The number of differences. */
+/* The count of calls, by entry, answer and width. The number of differences; an answer that no call of its entry met is one too. */
 uint64_t report(void);
 
 #endif

@@ -95,16 +95,29 @@ static size_t off_by_one(size_t n)
     }
 }
 
+/* the limit of the total at a record's own count, or at one block more or less, and near it; of either sign */
+static int64_t near_limit(const int64_t *run)
+{
+    int64_t blocks = (int64_t)((uint64_t)run[LAPPED_RUN_COUNT] % 65540) + within(1);
+    int64_t total = blocks * (int64_t)((uint64_t)run[LAPPED_RUN_WIDTH] % 129) * LAPPED_READING_MAX + within(1);
+
+    return once_in(2) ? total : -total;
+}
+
 static void damage_record(int64_t *run)
 {
+    static const size_t places[4] = {LAPPED_RUN_WIDTH, LAPPED_RUN_COUNT, LAPPED_RUN_FINISHED, LAPPED_RUN_TOTAL};
     static const int64_t odd[] = {-1, 0, 1, 2, 3, 7, 8, 9, 32, 33, 64, 128, 129, 50000, -50000, 50001, -50001, 65535, 65536, 65537,
                                   65538, INT64_MIN, INT64_MAX, INT64_MIN + 8, (int64_t)1 << 32, ((int64_t)1 << 32) + 8};
     size_t times = once_in(4) ? 2 : 1;
 
     while (times-- > 0) {
-        size_t at = once_in(2) ? below(3) : 3 + below(LAPPED_RUN_LENGTH - 3);
+        size_t at = once_in(3) ? LAPPED_RUN_HELD + below(64) : places[below(4)];
 
-        run[at] = once_in(16) ? (int64_t)next() : odd[below(sizeof odd / sizeof *odd)];
+        if (at == LAPPED_RUN_TOTAL && below(4) != 0)
+            run[at] = near_limit(run);
+        else
+            run[at] = once_in(16) ? (int64_t)next() : odd[below(sizeof odd / sizeof *odd)];
     }
 }
 
@@ -143,7 +156,23 @@ static void stages_alone(size_t times)
 struct kept {
     int32_t blocks[BLOCKS][WIDEST], frames[BLOCKS + 1][WIDEST];
     size_t count, width;
+    int64_t total;
 };
+
+static int64_t sum_of(const int32_t *x, size_t count)
+{
+    int64_t sum = 0;
+    size_t i;
+
+    for (i = 0; i < count; i++)
+        sum += x[i];
+    return sum;
+}
+
+static void total_is(const int64_t *run, int64_t total)
+{
+    expect(run[LAPPED_RUN_TOTAL] == total, "the total is not that of the readings");
+}
 
 /* takes some blocks, with refused calls between, and finishes: the blocks taken and the frames given */
 static void run_forward(struct kept *k)
@@ -156,6 +185,7 @@ static void run_forward(struct kept *k)
         run[i] = (int64_t)next();
     start(N, run, LAPPED_RUN_LENGTH);
     k->count = 0;
+    k->total = 0;
     while (k->count < blocks) {
         size_t given = once_in(12) ? off_by_one(N) : N, out = once_in(12) ? off_by_one(N) : N;
         int32_t frame[WIDEST + 1];
@@ -163,8 +193,10 @@ static void run_forward(struct kept *k)
         fill(block, given, LAPPED_READING_MAX);
         if (once_in(6))
             damage(block, given, LAPPED_READING_MAX);
+        total_is(run, k->total);
         if (with_record(TAKE, run, LAPPED_RUN_LENGTH, block, given, frame, out) != LAPPED_DONE)
             continue;
+        k->total += sum_of(block, N);
         memcpy(k->blocks[k->count], block, N * sizeof *block);
         memcpy(k->frames[k->count++], frame, N * sizeof *frame);
     }
@@ -177,12 +209,13 @@ static void run_forward(struct kept *k)
         with_record(FINISH, run, LAPPED_RUN_LENGTH, NULL, 0, NULL, N);
         with_record(BACK_FINISH, run, LAPPED_RUN_LENGTH, NULL, 0, NULL, 0);
     }
+    total_is(run, k->total);
 }
 
-/* the very frames back, each with refused calls before it: the very blocks */
+/* the very frames back, each with refused calls before it: the very blocks, and their total */
 static void run_back(const struct kept *k)
 {
-    int64_t run[LAPPED_RUN_LENGTH] = {0};
+    int64_t run[LAPPED_RUN_LENGTH] = {0}, total = 0;
     int32_t frame[WIDEST + 1], block[WIDEST + 1];
     size_t f, N = k->width;
 
@@ -204,12 +237,15 @@ static void run_back(const struct kept *k)
         }
         expect(with_record(BACK_TAKE, run, LAPPED_RUN_LENGTH, k->frames[f], N, block, N) == LAPPED_DONE, "a frame is not taken back");
         expect(f == 0 || memcmp(block, k->blocks[f - 1], N * sizeof *block) == 0, "another block comes back");
+        total += f == 0 ? 0 : sum_of(k->blocks[f - 1], N);
+        total_is(run, total);
     }
     expect(with_record(BACK_FINISH, run, LAPPED_RUN_LENGTH, NULL, 0, NULL, 0) == LAPPED_DONE, "a run back does not finish");
     if (once_in(4)) {
         with_record(BACK_TAKE, run, LAPPED_RUN_LENGTH, k->frames[0], N, NULL, N);
         with_record(BACK_FINISH, run, LAPPED_RUN_LENGTH, NULL, 0, NULL, 0);
     }
+    total_is(run, k->total);
 }
 
 /* frames that were changed, left out or exchanged */
@@ -328,6 +364,7 @@ static void longest(size_t N)
         expect(with_record(TAKE, run, LAPPED_RUN_LENGTH, readings + i, N, frames + i, N) == LAPPED_DONE, "a block of the longest run");
     expect(with_record(TAKE, run, LAPPED_RUN_LENGTH, readings + n, N, NULL, N) == LAPPED_FULL, "one block more");
     expect(with_record(FINISH, run, LAPPED_RUN_LENGTH, NULL, 0, frames + n, N) == LAPPED_DONE, "its finish");
+    total_is(run, sum_of(readings, n));
     start(N, run, LAPPED_RUN_LENGTH);
     for (i = 0; i <= n; i += N) {
         expect(with_record(BACK_TAKE, run, LAPPED_RUN_LENGTH, frames + i, N, block, N) == LAPPED_DONE, "a frame of the longest run");
@@ -335,6 +372,7 @@ static void longest(size_t N)
     }
     expect(with_record(BACK_TAKE, run, LAPPED_RUN_LENGTH, frames, N, NULL, N) == LAPPED_FULL, "one frame more");
     expect(with_record(BACK_FINISH, run, LAPPED_RUN_LENGTH, NULL, 0, NULL, 0) == LAPPED_DONE, "its finish back");
+    total_is(run, sum_of(readings, n));
     expect(with_width(FORWARD, N, readings, n, again, n + N) == LAPPED_DONE, "the longest whole run");
     expect(memcmp(again, frames, (n + N) * sizeof *again) == 0, "its frames, whole and one by one");
     expect(with_width(BACK, N, frames, n + N, again, n) == LAPPED_DONE, "the longest whole run back");

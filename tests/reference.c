@@ -6,7 +6,8 @@
 
 typedef __int128 wide;
 
-enum { WIDEST = 128, HALF = 64, HELD = 64, NUMBERS = 3 + HELD };
+/* a record: width, count, finished, the held values, the total */
+enum { WIDEST = 128, HALF = 64, HELD = 64, TOTAL = 3 + HELD, NUMBERS = TOTAL + 1 };
 
 /* ---- tables: the nearest whole number to 2^28 times the true value */
 
@@ -249,8 +250,28 @@ static void narrow(const wide *x, size_t count, int32_t *out)
         out[i] = (int32_t)x[i];
 }
 
-/* question 2, of a record with the greatest count `top` */
-static bool sound(const int64_t *run, size_t run_length, int64_t top)
+static wide sum_of(const wide *x, size_t count)
+{
+    wide sum = 0;
+    size_t i;
+
+    for (i = 0; i < count; i++)
+        sum += x[i];
+    return sum;
+}
+
+enum way { FORWARD, BACK };
+
+/* whether a record of this count can have such a total: going back, the first frame gives no block */
+static bool total_fits(enum way way, wide width, wide count, wide total)
+{
+    wide blocks = way == BACK && count > 0 ? count - 1 : count, limit = blocks * width * 32767;
+
+    return -limit <= total && total <= limit;
+}
+
+/* question 2, of a record that goes this way */
+static bool sound(const int64_t *run, size_t run_length, enum way way)
 {
     const struct tables *t;
     bool zero;
@@ -259,7 +280,9 @@ static bool sound(const int64_t *run, size_t run_length, int64_t top)
     if (run_length != NUMBERS)
         return false;
     t = run[0] < 0 ? NULL : tables_of((uint64_t)run[0]);
-    if (t == NULL || run[1] < 0 || run[1] > top || (run[2] != 0 && run[2] != 1))
+    if (t == NULL || run[1] < 0 || run[1] > (way == FORWARD ? 65536 : 65537) || (run[2] != 0 && run[2] != 1))
+        return false;
+    if (!total_fits(way, t->width, run[1], run[TOTAL]))
         return false;
     zero = run[1] == 0 || run[2] == 1;
     for (i = 0; i < HELD; i++) {
@@ -306,10 +329,10 @@ static void frame_of(int64_t *run, const wide *block, int32_t *frame)
 uint32_t reference_take(int64_t *run, size_t run_length, const int32_t *block, size_t block_length,
                         int32_t *frame, size_t frame_length, size_t *place)
 {
-    wide wide_block[WIDEST];
+    wide wide_block[WIDEST] = {0};
     size_t i;
 
-    if (!sound(run, run_length, 65536))
+    if (!sound(run, run_length, FORWARD))
         return refuse(RECORD, 0, place);
     if (run[2] == 1)
         return refuse(CLOSED, 0, place);
@@ -328,6 +351,7 @@ uint32_t reference_take(int64_t *run, size_t run_length, const int32_t *block, s
         return refuse(RANGE, i, place);
     frame_of(run, wide_block, frame);
     run[1]++;
+    run[TOTAL] += (int64_t)sum_of(wide_block, block_length);
     return refuse(DONE, 0, place);
 }
 
@@ -335,7 +359,7 @@ uint32_t reference_finish(int64_t *run, size_t run_length, int32_t *frame, size_
 {
     const wide zeros[WIDEST] = {0};
 
-    if (!sound(run, run_length, 65536))
+    if (!sound(run, run_length, FORWARD))
         return refuse(RECORD, 0, place);
     if (run[2] == 1)
         return refuse(CLOSED, 0, place);
@@ -354,7 +378,7 @@ uint32_t reference_back_take(int64_t *run, size_t run_length, const int32_t *fra
     wide coefficients[WIDEST] = {0}, folded[WIDEST], readings[WIDEST];
     size_t i, N, M;
 
-    if (!sound(run, run_length, 65537))
+    if (!sound(run, run_length, BACK))
         return refuse(RECORD, 0, place);
     if (run[2] == 1)
         return refuse(CLOSED, 0, place);
@@ -391,6 +415,7 @@ uint32_t reference_back_take(int64_t *run, size_t run_length, const int32_t *fra
         if (i < N)
             return refuse(UNFOLDED, i, place);
         narrow(readings, N, block);
+        run[TOTAL] += (int64_t)sum_of(readings, N);
     }
     for (i = 0; i < M; i++)
         run[3 + i] = (int64_t)folded[i];
@@ -402,7 +427,7 @@ uint32_t reference_back_finish(int64_t *run, size_t run_length, size_t *place)
 {
     size_t i, M;
 
-    if (!sound(run, run_length, 65537))
+    if (!sound(run, run_length, BACK))
         return refuse(RECORD, 0, place);
     if (run[2] == 1)
         return refuse(CLOSED, 0, place);

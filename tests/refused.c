@@ -9,7 +9,8 @@
 #include <string.h>
 #include <sys/mman.h>
 
-enum { PAGE = 65536, ROOM = 4 * LAPPED_WIDTH_MAX };
+/* BEFORE: the length of a record for a caller that was compiled against version 1 */
+enum { PAGE = 65536, ROOM = 4 * LAPPED_WIDTH_MAX, BEFORE = 67 };
 
 static int64_t *run;    /* at the page's start */
 static int32_t *output; /* behind it */
@@ -68,6 +69,13 @@ static void halves(int32_t lower, int32_t upper, int32_t *frame)
 static void closed(void) { run[LAPPED_RUN_FINISHED] = 1; }
 static void unsound(void) { run[LAPPED_RUN_WIDTH] = 9; }
 static void count(int64_t n) { run[LAPPED_RUN_COUNT] = n; }
+static void total(int64_t n) { run[LAPPED_RUN_TOTAL] = n; }
+/* a record of one block of the greatest readings */
+static void greatest(void)
+{
+    count(1);
+    total((int64_t)width * LAPPED_READING_MAX);
+}
 static void hold(int64_t value)
 {
     count(1);
@@ -79,15 +87,19 @@ static void calls_forward(void)
 {
     int32_t block[LAPPED_WIDTH_MAX + 1] = {0};
     size_t n = width;
-    REFUSED(lapped_start, LAPPED_RECORD, width, run, LAPPED_RUN_LENGTH - 1);
-    REFUSED(lapped_start, LAPPED_WIDTH, width + 1, run, LAPPED_RUN_LENGTH - 1);
-    REFUSED(lapped_take, LAPPED_RECORD, run, LAPPED_RUN_LENGTH - 1, block, n, output, n);
+    REFUSED(lapped_start, LAPPED_RECORD, width, run, BEFORE);
+    REFUSED(lapped_start, LAPPED_WIDTH, width + 1, run, BEFORE);
+    REFUSED(lapped_take, LAPPED_RECORD, run, BEFORE, block, n, output, n);
+    REFUSED(lapped_finish, LAPPED_RECORD, run, BEFORE, output, n);
     unsound();
+    REFUSED(lapped_take, LAPPED_RECORD, RUN, block, n, output, n);
+    total(1);
     REFUSED(lapped_take, LAPPED_RECORD, RUN, block, n, output, n);
     closed();
     REFUSED(lapped_take, LAPPED_CLOSED, RUN, block, n, output, n);
     count(LAPPED_BLOCKS_MAX);
     REFUSED(lapped_take, LAPPED_FULL, RUN, block, n, output, n);
+    greatest();
     REFUSED(lapped_take, LAPPED_INPUT_LENGTH, RUN, block, n + 1, output, n);
     REFUSED(lapped_take, LAPPED_OUTPUT_LENGTH, RUN, block, n, output, n - 1);
     block[n - 1] = 32768;
@@ -96,6 +108,9 @@ static void calls_forward(void)
     REFUSED(lapped_take, LAPPED_DEAD_MARK, RUN, block, n, output, n);
     unsound();
     REFUSED(lapped_finish, LAPPED_RECORD, RUN, output, n);
+    total(-1);
+    REFUSED(lapped_finish, LAPPED_RECORD, RUN, output, n);
+    greatest();
     closed();
     REFUSED(lapped_finish, LAPPED_CLOSED, RUN, output, n);
     REFUSED(lapped_finish, LAPPED_OUTPUT_LENGTH, RUN, output, n + 1);
@@ -105,8 +120,13 @@ static void calls_back(void)
 {
     int32_t frame[LAPPED_WIDTH_MAX + 1] = {0};
     size_t n = width;
+    REFUSED(lapped_back_take, LAPPED_RECORD, run, BEFORE, frame, n, output, n);
     REFUSED(lapped_back_take, LAPPED_RECORD, run, LAPPED_RUN_LENGTH + 1, frame, n, output, n);
+    count(1);
+    REFUSED(lapped_back_finish, LAPPED_RECORD, run, BEFORE);
     unsound();
+    REFUSED(lapped_back_take, LAPPED_RECORD, RUN, frame, n, output, n);
+    greatest();
     REFUSED(lapped_back_take, LAPPED_RECORD, RUN, frame, n, output, n);
     closed();
     REFUSED(lapped_back_take, LAPPED_CLOSED, RUN, frame, n, output, n);
@@ -124,7 +144,13 @@ static void calls_back(void)
     halves(0, LAPPED_FOLDED_MAX, frame);
     hold(LAPPED_FOLDED_MAX);
     REFUSED(lapped_back_take, LAPPED_UNFOLDED, RUN, frame, n, output, n);
+    hold(LAPPED_FOLDED_MAX);
+    greatest();
+    count(2);
+    REFUSED(lapped_back_take, LAPPED_UNFOLDED, RUN, frame, n, output, n);
     unsound();
+    REFUSED(lapped_back_finish, LAPPED_RECORD, RUN);
+    greatest();
     REFUSED(lapped_back_finish, LAPPED_RECORD, RUN);
     closed();
     REFUSED(lapped_back_finish, LAPPED_CLOSED, RUN);

@@ -149,7 +149,7 @@ pub fn first_frame(
     requires { ⌜ Filled width (now t) ⌝ }
     requires { ⌜ (length (now frame) ≡ width) × (now held ≡ zeros (halfWidth width)) ⌝ }
     requires { ⌜ WideRoom width (now top) (now bottom) (now y) (now z) ⌝ }
-    ensures { λ _. ⌜ (takenBack (started width .1) (now (frame .entry)) (zeros width) .0 .0 ≡ 0 → (opened width 1 (now (held .exit)) ≡ takenBack (started width .1) (now (frame .entry)) (zeros width) .1) × Within foldedLimit (now (held .exit))) ⌝ }
+    ensures { λ _. ⌜ (takenBack (started width .1) (now (frame .entry)) (zeros width) .0 .0 ≡ 0 → (opened width 1 (pos 0) (now (held .exit)) ≡ takenBack (started width .1) (now (frame .entry)) (zeros width) .1) × Within foldedLimit (now (held .exit))) ⌝ }
 {
     let mut block = step::zero_block();
     undo::undo(

@@ -14,7 +14,7 @@ use Rattle.c_record.specs.Record.{runLength, packed, unpacked}
 abbrev pub PackedResult : Type 0
 PackedResult = (ℕ × ℕ) × List ℤ × List ℤ
 
--- a fresh start: question 1, then 2 to the numbers that it is to fill. Where there are 67 of them a refused start fills them too, with the
+-- a fresh start: question 1, then 2 to the numbers that it is to fill. Where there are 68 of them a refused start fills them too, with the
 -- record of width 0 that `started` gives.
 unfoldable pub lappedStart : ℕ → List ℤ → (ℕ × ℕ) × List ℤ
 lappedStart N numbers =

@@ -1,25 +1,25 @@
--- The run record as a program in C holds it: 67 numbers, which the program owns.
+-- The run record as a program in C holds it: 68 numbers, which the program owns.
 use mathlib.Core.Bool.{Bool, cond}
-use mathlib.Core.List.{List, [], _∷_}
+use mathlib.Core.List.{List, [], _∷_, _++_}
 use Prim.Native.Nat.{ℕ}
 use lib.Dec.{eqb, leb}
 use lib.IntN.{ℤ, pos, natAbs}
-use lib.ListN.{length, drop}
+use lib.ListN.{length, take, drop}
 use lib.Signed.{nonNeg}
 use Rattle.integers.specs.Places.{at}
 use Rattle.runs.specs.declared.record.Run.{Run}
 use Rattle.runs.specs.Record.{opened}
 use Rattle.runs.specs.Gate.{allYes}
 
--- three numbers and 64 held values
+-- three numbers, 64 held values and the total
 abbrev pub runLength : ℕ
-runLength = 67
+runLength = 68
 
--- the width, the count, 1 where the run is finished and 0 where it is open, and the held values
+-- the width, the count, 1 where the run is finished and 0 where it is open, the held values, and the total
 unfoldable pub packed : Run → List ℤ
-packed run = pos (run .width) ∷ pos (run .count) ∷ pos (cond (run .finished) 1 0) ∷ run .held
+packed run = pos (run .width) ∷ pos (run .count) ∷ pos (cond (run .finished) 1 0) ∷ run .held ++ run .total ∷ []
 
--- whether numbers are those of some record: 67 of them, a width and a count from 0 up, and 0 or 1
+-- whether numbers are those of some record: 68 of them, a width and a count from 0 up, and 0 or 1
 unfoldable pub isRecord : List ℤ → Bool
 isRecord numbers =
     allYes
@@ -34,5 +34,11 @@ isRecord numbers =
 unfoldable pub unpacked : List ℤ → Run
 unpacked numbers =
     cond (isRecord numbers)
-    (record { width = natAbs (at numbers 0); count = natAbs (at numbers 1); held = drop 3 numbers; finished = eqb (natAbs (at numbers 2)) 1 })
-    (opened 0 0 [])
+    (record {
+      width = natAbs (at numbers 0);
+      count = natAbs (at numbers 1);
+      held = take 64 (drop 3 numbers);
+      finished = eqb (natAbs (at numbers 2)) 1;
+      total = at numbers 67;
+    })
+    (opened 0 0 (pos 0) [])

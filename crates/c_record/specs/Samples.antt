@@ -8,6 +8,7 @@ use lib.IntN.{ℤ, pos, negℤ}
 use lib.ListN.{replicate}
 use Rattle.integers.specs.Floor.{round, floorDiv}
 use Rattle.integers.specs.Places.{tab, sum}
+use Rattle.integers.specs.Vectors.{sumOf}
 use Rattle.tables.specs.Widths.{byWidth, halfWidth}
 use Rattle.tables.specs.Angles.{halfTurn, reflected, belowZero, signed}
 use Rattle.tables.specs.Numbers.{sines, halfTangents, halfTangents8, secants, secants8, cosineOf, sineOf, halfTangentOf, secantOf}
@@ -15,7 +16,7 @@ use Rattle.steps.specs.Steps.{rootLog, tangent, sine, cosine, oddOf, secant, al
 use Rattle.runs.specs.declared.record.Run.{Run}
 use Rattle.runs.specs.Answers.{firstWhere, beyond}
 use Rattle.runs.specs.Record.{zeros, recordOf, zeroPadded, opened, advanced, closed}
-use Rattle.runs.specs.Gate.{ask, askEach, nothing, inside, allYes, sound, dead, admitted}
+use Rattle.runs.specs.Gate.{ask, askEach, nothing, inside, allYes, blocksBehind, sound, dead, admitted}
 use Rattle.runs.specs.Forward.{started, frameOn, takenIn, taken, ended}
 use Rattle.runs.specs.Back.{framed, blockOn, firstUpper, firstFrame, laterFrame, unfoldedIn, undoneIn, takenBack, firstHeld, endedBack}
 use Rattle.runs.specs.Cases.{sample, sampleOutput}
@@ -33,8 +34,8 @@ abbrev ones : ℕ → List ℤ
 ones n = replicate n (pos 1)
 
 -- a record's numbers
-abbrev numbers : ℕ → ℕ → ℕ → List ℤ → List ℤ
-numbers width count finished held = pos width ∷ pos count ∷ pos finished ∷ held
+abbrev numbers : ℕ → ℕ → ℕ → List ℤ → ℤ → List ℤ
+numbers width count finished held total = pos width ∷ pos count ∷ pos finished ∷ held ++ total ∷ []
 
 -- the sample's frames
 abbrev one : List ℤ
@@ -49,26 +50,26 @@ marked = pos 0 ∷ pos 5 ∷ less 32768 ∷ zeros 5
 
 -- the numbers of a fresh record, of those after the first block and after the first frame back, and numbers that are no record's
 abbrev fresh : List ℤ
-fresh = numbers 8 0 0 (zeros 64)
+fresh = numbers 8 0 0 (zeros 64) (pos 0)
 
 abbrev forward1 : List ℤ
-forward1 = numbers 8 1 0 (less 10 ∷ zeros 63)
+forward1 = numbers 8 1 0 (less 10 ∷ zeros 63) (pos 100)
 
 abbrev back1 : List ℤ
-back1 = numbers 8 1 0 (zeros 3 ++ pos 100 ∷ zeros 60)
+back1 = numbers 8 1 0 (zeros 3 ++ pos 100 ∷ zeros 60) (pos 0)
 
 abbrev damaged : List ℤ
-damaged = numbers 8 0 2 (zeros 64)
+damaged = numbers 8 0 2 (zeros 64) (pos 0)
 
--- ---- which numbers are a record's: 67, the width and the count from 0 up, 0 or 1
+-- ---- which numbers are a record's: 68, the width and the count from 0 up, 0 or 1
 records : Said {A = Bool}
     ((isRecord fresh, true)
-    ∷ (isRecord (numbers 9 70000 1 (ones 64)), true)
-    ∷ (isRecord (numbers 8 0 0 (zeros 63)), false)
-    ∷ (isRecord (numbers 8 0 0 (zeros 65)), false)
-    ∷ (isRecord (less 8 ∷ pos 0 ∷ zeros 65), false)
-    ∷ (isRecord (pos 8 ∷ less 1 ∷ zeros 65), false)
-    ∷ (isRecord (pos 8 ∷ pos 0 ∷ less 1 ∷ zeros 64), false)
+    ∷ (isRecord (numbers 9 70000 1 (ones 64) (less 1)), true)
+    ∷ (isRecord (numbers 8 0 0 (zeros 63) (pos 0)), false)
+    ∷ (isRecord (numbers 8 0 0 (zeros 65) (pos 0)), false)
+    ∷ (isRecord (less 8 ∷ pos 0 ∷ zeros 66), false)
+    ∷ (isRecord (pos 8 ∷ less 1 ∷ zeros 66), false)
+    ∷ (isRecord (pos 8 ∷ pos 0 ∷ less 1 ∷ zeros 65), false)
     ∷ (isRecord damaged, false)
     ∷ [])
 unfolding isRecord allYes
@@ -76,42 +77,44 @@ records = refl
 
 -- ---- the record of numbers, and the numbers of a record
 unpacked-given : Said {A = Run}
-    ((unpacked (numbers 32 7 1 (less 10 ∷ zeros 63)), recordOf 32 7 (less 10 ∷ zeros 63) true)
-    ∷ (unpacked forward1, recordOf 8 1 (less 10 ∷ zeros 63) false)
-    ∷ (unpacked damaged, recordOf 0 0 (zeros 64) false)
+    ((unpacked (numbers 32 7 1 (less 10 ∷ zeros 63) (less 5)), recordOf 32 7 (less 10 ∷ zeros 63) true (less 5))
+    ∷ (unpacked forward1, recordOf 8 1 (less 10 ∷ zeros 63) false (pos 100))
+    ∷ (unpacked damaged, recordOf 0 0 (zeros 64) false (pos 0))
     ∷ [])
 unfolding unpacked isRecord allYes opened zeroPadded
 unpacked-given = refl
 
-packed-given : packed (recordOf 32 7 (less 10 ∷ zeros 63) true) ∷ packed (recordOf 8 1 (ones 64) false) ∷ [] ≡ numbers 32 7 1 (less 10 ∷ zeros 63) ∷ numbers 8 1 0 (ones 64) ∷ []
+packed-given : packed (recordOf 32 7 (less 10 ∷ zeros 63) true (less 5)) ∷ packed (recordOf 8 1 (ones 64) false (pos 3)) ∷ [] ≡ numbers 32 7 1 (less 10 ∷ zeros 63) (less 5) ∷ numbers 8 1 0 (ones 64) (pos 3) ∷ []
 unfolding packed
 packed-given = refl
 
 -- ---- a fresh start: 1 before 2, and a refused one packed where there is room
 start-given : Said {A = (ℕ × ℕ) × List ℤ}
-    ((lappedStart 8 (ones 67), ((0, 0), fresh))
-    ∷ (lappedStart 9 (ones 67), ((1, 0), zeros 67))
-    ∷ (lappedStart 9 (ones 66), ((1, 0), ones 66))
-    ∷ (lappedStart 8 (ones 66), ((2, 0), ones 66))
-    ∷ (lappedStart 8 (ones 68), ((2, 0), ones 68))
+    ((lappedStart 8 (ones 68), ((0, 0), fresh))
+    ∷ (lappedStart 9 (ones 68), ((1, 0), zeros 68))
+    ∷ (lappedStart 9 (ones 67), ((1, 0), ones 67))
+    ∷ (lappedStart 8 (ones 67), ((2, 0), ones 67))
+    ∷ (lappedStart 8 (ones 69), ((2, 0), ones 69))
     ∷ [])
 unfolding lappedStart started packed opened zeroPadded halfWidth byWidth
 start-given = refl
 
--- ---- the calls: what a refusal leaves, forward 2, 8 and 7, back 2, 11 and 5; one block there and back, and the finishes
+-- ---- the calls: what a refusal leaves, forward 2, 8 and 7, back 2, 11 and 5; one block there and back, and the finishes; and a record of the
+-- other way
 calls-given : Said {A = PackedResult}
     ((lappedTake damaged sample sampleOutput, ((2, 0), damaged, sampleOutput))
     ∷ (lappedTake fresh marked sampleOutput, ((8, 2), fresh, sampleOutput))
     ∷ (lappedTake fresh sample sampleOutput, ((0, 0), forward1, one))
     ∷ (lappedFinish forward1 (ones 7), ((7, 0), forward1, ones 7))
-    ∷ (lappedFinish forward1 sampleOutput, ((0, 0), numbers 8 1 1 (zeros 64), two))
+    ∷ (lappedFinish forward1 sampleOutput, ((0, 0), numbers 8 1 1 (zeros 64) (pos 100), two))
     ∷ (lappedBackTake damaged one sampleOutput, ((2, 0), damaged, sampleOutput))
     ∷ (lappedBackTake fresh two sampleOutput, ((11, 4), fresh, sampleOutput))
     ∷ (lappedBackTake fresh one sampleOutput, ((0, 0), back1, sampleOutput))
-    ∷ (lappedBackTake back1 two sampleOutput, ((0, 0), numbers 8 2 0 (zeros 64), sample))
+    ∷ (lappedBackTake back1 two sampleOutput, ((0, 0), numbers 8 2 0 (zeros 64) (pos 100), sample))
     ∷ (lappedBackFinish fresh, ((5, 0), fresh, []))
     ∷ (lappedBackFinish back1, ((11, 3), back1, []))
-    ∷ (lappedBackFinish (numbers 8 2 0 (zeros 64)), ((0, 0), numbers 8 2 1 (zeros 64), []))
+    ∷ (lappedBackFinish (numbers 8 2 0 (zeros 64) (pos 100)), ((0, 0), numbers 8 2 1 (zeros 64) (pos 100), []))
+    ∷ (lappedBackTake forward1 two sampleOutput, ((2, 0), forward1, sampleOutput))
     ∷ [])
-unfolding lappedTake lappedFinish lappedBackTake lappedBackFinish handedToC numbersAfter packed unpacked isRecord byWidth halfWidth halfTurn reflected belowZero signed sines halfTangents halfTangents8 secants secants8 cosineOf sineOf halfTangentOf secantOf round floorDiv tab sum rootLog tangent sine cosine oddOf secant alternate tangentAmount sineAmount rotatedA rotatedB lower held topOf bottomOf amount1 amount2 amount3 stage1 stage2 stage3 stage4 stage5 stages frame firstWhere beyond ask askEach nothing inside allYes sound admitted zeroPadded opened advanced closed frameOn takenIn taken ended dead unrotatedA unrotatedB unfolded unstage1 unstage2 unstage3 unstage4 unstage5 interleaved unstages framed blockOn firstUpper firstFrame laterFrame unfoldedIn undoneIn takenBack firstHeld endedBack
+unfolding lappedTake lappedFinish lappedBackTake lappedBackFinish handedToC numbersAfter packed unpacked isRecord byWidth halfWidth halfTurn reflected belowZero signed sines halfTangents halfTangents8 secants secants8 cosineOf sineOf halfTangentOf secantOf round floorDiv tab sum rootLog tangent sine cosine oddOf secant alternate tangentAmount sineAmount rotatedA rotatedB lower held topOf bottomOf amount1 amount2 amount3 stage1 stage2 stage3 stage4 stage5 stages frame firstWhere beyond ask askEach nothing inside allYes blocksBehind sound admitted sumOf zeroPadded opened advanced closed frameOn takenIn taken ended dead unrotatedA unrotatedB unfolded unstage1 unstage2 unstage3 unstage4 unstage5 interleaved unstages framed blockOn firstUpper firstFrame laterFrame unfoldedIn undoneIn takenBack firstHeld endedBack
 calls-given = refl

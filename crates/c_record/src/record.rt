@@ -1,9 +1,9 @@
-// The run record as 67 numbers: the width, the count, whether it is finished, and the held values.
+// The run record as 68 numbers: the width, the count, whether it is finished, the held values, and the total.
 ghost use mathlib.Core.Path.{_≡_};
 ghost use mathlib.Core.Bool.{true};
 ghost use Prim.Native.Nat.{_<_};
 ghost use lib.IntN.{pos};
-ghost use lib.ListN.{length, drop, set};
+ghost use lib.ListN.{length, take, drop, set};
 ghost use Rattle.integers.specs.Places.{at};
 ghost use Rattle.runs.specs.Answers.{told};
 ghost use Rattle.runs.specs.Record.{frameLimit, recordOf, nextCount};
@@ -18,12 +18,13 @@ pub struct Head {
     pub width: usize,
     pub count: usize,
     pub finished: bool,
+    pub total: i64,
 }
 
 pub fn is_record(numbers: &[i64]) -> bool
     ensures { λ r. ⌜ r ≡ isRecord (now (numbers .entry)) ⌝ }
 {
-    if numbers.len() != 67 {
+    if numbers.len() != 68 {
         return false;
     }
     if numbers[0] < 0 {
@@ -38,29 +39,33 @@ pub fn is_record(numbers: &[i64]) -> bool
     numbers[2] < 2
 }
 
-// The numbers before the held values.
+// The numbers beside the held values.
 pub fn front(numbers: &[i64]) -> Head
     requires { ⌜ isRecord (now numbers) ≡ true ⌝ }
-    ensures { λ r. ⌜ recordOf (r .width) (r .count) (drop 3 (now (numbers .entry))) (r .finished) ≡ unpacked (now (numbers .entry)) ⌝ }
-    ensures { λ r. ⌜ at (now (numbers .entry)) 1 ≡ pos (r .count) ⌝ }
+    ensures { λ r. ⌜ recordOf (r .width) (r .count) (take 64 (drop 3 (now (numbers .entry)))) (r .finished) (r .total) ≡ unpacked (now (numbers .entry)) ⌝ }
+    ensures { λ r. ⌜ (at (now (numbers .entry)) 1 ≡ pos (r .count)) × (at (now (numbers .entry)) 67 ≡ r .total) ⌝ }
 {
     Head {
         width: numbers[0] as usize,
         count: numbers[1] as usize,
         finished: numbers[2] == 1,
+        total: numbers[67],
     }
 }
 
-// The count of a record in its place, after a call that gave this answer. A refused call stores nothing.
-pub fn store_count(count: usize, answer: Answer, numbers: &mut [i64])
+// The count and the total of a record in their places, after a call that gave this answer, where the count was this and the total is now this. A
+// refused call stores nothing.
+pub fn store(count: usize, total: i64, answer: Answer, numbers: &mut [i64])
     requires { ⌜ (told answer .0 ≡ 0 → count < frameLimit) ⌝ }
-    requires { ⌜ (length (now numbers) ≡ 67) × (at (now numbers) 1 ≡ pos count) ⌝ }
-    ensures { λ _. ⌜ now (numbers .exit) ≡ set (now (numbers .entry)) 1 (pos (nextCount (told answer .0) count)) ⌝ }
+    requires { ⌜ (length (now numbers) ≡ 68) × (at (now numbers) 1 ≡ pos count) ⌝ }
+    requires { ⌜ ((told answer .0 ≡ 0 → ⊥) → at (now numbers) 67 ≡ total) ⌝ }
+    ensures { λ _. ⌜ now (numbers .exit) ≡ set (set (now (numbers .entry)) 1 (pos (nextCount (told answer .0) count))) 67 total ⌝ }
 {
     if runs::answer::number(answer) != 0 {
         return;
     }
     numbers[1] = (count + 1) as i64;
+    numbers[67] = total;
 }
 
 // The record that the numbers are; where they are none, a record of width 0.
@@ -69,11 +74,11 @@ pub fn unpack(numbers: &[i64]) -> Run
 {
     let mut held = record::nothing_held();
     if !is_record(numbers) {
-        return record::make(0, 0, held, false);
+        return record::make(0, 0, held, false, 0);
     }
-    vectors::copy(&numbers[3..], &mut held);
+    vectors::copy(&numbers[3..67], &mut held);
     let head = front(numbers);
-    record::make(head.width, head.count, held, head.finished)
+    record::make(head.width, head.count, held, head.finished, head.total)
 }
 
 pub fn pack(run: Run, numbers: &mut [i64])
@@ -81,8 +86,10 @@ pub fn pack(run: Run, numbers: &mut [i64])
     ensures { λ _. ⌜ now (numbers .exit) ≡ packed run ⌝ }
 {
     let held = run.held;
+    let total = run.total;
     numbers[0] = run.width as i64;
     numbers[1] = run.count as i64;
     numbers[2] = run.finished as i64;
-    vectors::copy(&held, &mut numbers[3..]);
+    vectors::copy(&held, &mut numbers[3..67]);
+    numbers[67] = total;
 }

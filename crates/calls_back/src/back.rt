@@ -19,8 +19,18 @@ pub fn take(run: Run, frame: &[i32], block: &mut [i32]) -> Outcome
     ensures { λ r. ⌜ (told (r .answer), r .run, now (block .exit)) ≡ takenBack run (now (frame .entry)) (now (block .entry)) ⌝ }
 {
     let mut held = run.held;
-    let answer = in_place::take(run.width, run.count, run.finished, &mut held, frame, block);
-    questions::after_take(run, held, answer)
+    let before = run.total;
+    let answer = in_place::take(
+        run.width,
+        run.count,
+        run.finished,
+        before,
+        &mut held,
+        frame,
+        block,
+    );
+    let total = in_place::total_after(before, run.count, answer, block);
+    questions::after_take(run, held, answer, total)
 }
 
 // Question 11 at the finish: the first held value that is not zero.
@@ -37,11 +47,13 @@ pub fn finish(run: Run) -> Outcome
     ensures { λ r. ⌜ (told (r .answer), r .run, []) ≡ endedBack run ⌝ }
 {
     let held = run.held;
+    let total = run.total;
     let asked = questions::still_open(
         limits::FRAME_LIMIT,
         run.width,
         run.count,
         run.finished,
+        total,
         &held,
     );
     if runs::answer::number(asked) != 0 {
@@ -55,7 +67,7 @@ pub fn finish(run: Run) -> Outcome
         return record::hand_back(run, Answer::Halves(place));
     }
     record::hand_back(
-        record::make(run.width, run.count, record::nothing_held(), true),
+        record::make(run.width, run.count, record::nothing_held(), true, total),
         Answer::Done,
     )
 }

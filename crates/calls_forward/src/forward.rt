@@ -22,9 +22,9 @@ pub fn start(width: usize) -> Outcome
     let held = record::nothing_held();
     let half = widths::half_width(width);
     if half == 0 {
-        return record::hand_back(record::make(0, 0, held, false), Answer::Width);
+        return record::hand_back(record::make(0, 0, held, false, 0), Answer::Width);
     }
-    record::hand_back(record::make(width, 0, held, false), Answer::Done)
+    record::hand_back(record::make(width, 0, held, false, 0), Answer::Done)
 }
 
 fn close(run: Run, half: usize, frame: &mut [i32]) -> Run
@@ -33,10 +33,11 @@ fn close(run: Run, half: usize, frame: &mut [i32]) -> Run
     ensures { λ r. ⌜ (r ≡ closed run) × (now (frame .exit) ≡ frameOn run (zeros (run .width))) ⌝ }
 {
     let width = run.width;
+    let total = run.total;
     let zeros = step::zero_block();
     let mut held = run.held;
     in_place::step_in(width, &zeros[..width], &mut held[..half], frame);
-    record::make(width, run.count, record::nothing_held(), true)
+    record::make(width, run.count, record::nothing_held(), true, total)
 }
 
 // Take a block: its readings in, its frame out.
@@ -44,8 +45,18 @@ pub fn take(run: Run, block: &[i32], frame: &mut [i32]) -> Outcome
     ensures { λ r. ⌜ (told (r .answer), r .run, now (frame .exit)) ≡ taken run (now (block .entry)) (now (frame .entry)) ⌝ }
 {
     let mut held = run.held;
-    let answer = in_place::take(run.width, run.count, run.finished, &mut held, block, frame);
-    questions::after_take(run, held, answer)
+    let before = run.total;
+    let answer = in_place::take(
+        run.width,
+        run.count,
+        run.finished,
+        before,
+        &mut held,
+        block,
+        frame,
+    );
+    let total = questions::next_total(before, answer, block);
+    questions::after_take(run, held, answer, total)
 }
 
 // Finish: the frame of the last block's held half.
@@ -54,7 +65,14 @@ pub fn finish(run: Run, frame: &mut [i32]) -> Outcome
 {
     let width = run.width;
     let held = run.held;
-    let asked = questions::still_open(limits::BLOCK_LIMIT, width, run.count, run.finished, &held);
+    let asked = questions::still_open(
+        limits::BLOCK_LIMIT,
+        width,
+        run.count,
+        run.finished,
+        run.total,
+        &held,
+    );
     if runs::answer::number(asked) != 0 {
         return record::hand_back(run, asked);
     }

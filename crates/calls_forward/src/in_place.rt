@@ -7,7 +7,7 @@ ghost use Rattle.tables.specs.Widths.{halfWidth};
 ghost use Rattle.steps.specs.Limits.{readingLimit, foldedLimit};
 ghost use Rattle.steps.specs.Steps.{held, frame};
 ghost use Rattle.runs.specs.Answers.{told};
-ghost use Rattle.runs.specs.Record.{recordOf, nextCount};
+ghost use Rattle.runs.specs.Record.{recordOf, nextCount, nextTotal};
 ghost use Rattle.runs.specs.Forward.{taken};
 use frames::step;
 use gate::questions;
@@ -89,23 +89,26 @@ pub fn step_in(width: usize, block: &[i32], held: &mut [i64], frame: &mut [i32])
     in_large_room(width, block, held, frame);
 }
 
-// The record is handed back in the held values and, where the call has worked, in one more of the count.
+// The record is handed back in the held values and, where the call has worked, in one more of the count and the block's readings added to the
+// total, by whoever has these numbers.
 pub fn take(
     width: usize,
     count: usize,
     finished: bool,
+    total: i64,
     held: &mut [i64],
     block: &[i32],
     frame: &mut [i32],
 ) -> Answer
     requires { ⌜ length (now held) ≡ 64 ⌝ }
-    ensures { λ r. ⌜ (told r, recordOf width (nextCount (told r .0) count) (now (held .exit)) finished, now (frame .exit)) ≡ taken (recordOf width count (now (held .entry)) finished) (now (block .entry)) (now (frame .entry)) ⌝ }
+    ensures { λ r. ⌜ (told r, recordOf width (nextCount (told r .0) count) (now (held .exit)) finished (nextTotal (told r .0) total (now (block .entry))), now (frame .exit)) ≡ taken (recordOf width count (now (held .entry)) finished total) (now (block .entry)) (now (frame .entry)) ⌝ }
 {
     let asked = questions::admitted(
         limits::BLOCK_LIMIT,
         width,
         count,
         finished,
+        total,
         held,
         block.len(),
         frame.len(),

@@ -11,6 +11,12 @@ use runs::record::Outcome;
 use runs::record::Run;
 use slices::vectors;
 
+// The totals of the record before the call and of the one after it.
+pub struct Totals {
+    pub before: i64,
+    pub after: i64,
+}
+
 fn held_in(x: &[i32]) -> [i64; 64]
     requires { ⌜ length (now x) ≡ 64 ⌝ }
 {
@@ -19,11 +25,12 @@ fn held_in(x: &[i32]) -> [i64; 64]
     held
 }
 
-fn record_in(x: &[i32]) -> Run
+fn record_in(x: &[i32], total: i64) -> Run
     requires { ⌜ length (now x) ≡ 67 ⌝ }
 {
     let held = held_in(&x[3..]);
-    record::make(line::at(x, 0), line::at(x, 1), held, line::at(x, 2) == 1)
+    let finished = line::at(x, 2) == 1;
+    record::make(line::at(x, 0), line::at(x, 1), held, finished, total)
 }
 
 fn same_held(x: &[i64; 64], y: &[i64; 64]) -> bool {
@@ -43,6 +50,7 @@ fn same_record(x: Run, y: Run) -> bool {
     (x.width == y.width)
         & (x.count == y.count)
         & (x.finished == y.finished)
+        & (x.total == y.total)
         & same_held(&x_held, &y_held)
 }
 
@@ -64,38 +72,39 @@ fn same_answer(answer: Answer, x: &[i32]) -> bool {
     (answer::number(answer) == line::at(x, 2)) & (answer::place(answer) == line::at(x, 3))
 }
 
-fn as_told(given: Outcome, x: &[i32]) -> bool
+fn as_told(given: Outcome, x: &[i32], after: i64) -> bool
     requires { ⌜ 139 ≤ length (now x) ⌝ }
 {
     let answer = given.answer;
     let run = given.run;
-    same_answer(answer, x) & same_record(run, record_in(&x[72..139]))
+    same_answer(answer, x) & same_record(run, record_in(&x[72..139], after))
 }
 
-fn outcome(x: &[i32], end: usize, output: &mut [i32]) -> Outcome
+fn outcome(x: &[i32], before: i64, end: usize, output: &mut [i32]) -> Outcome
     requires { ⌜ (139 ≤ end) × (end ≤ length (now x)) ⌝ }
 {
-    let run = record_in(&x[5..72]);
+    let run = record_in(&x[5..72], before);
     call::repeated(line::at(x, 0), line::at(x, 1), run, &x[139..end], output)
 }
 
 // Room for an output, with 7 in every place.
-fn marked() -> [i32; 1024]
+pub fn marked() -> [i32; 1024]
     ensures { λ r. ⌜ 1024 ≡ length r ⌝ }
 {
     [7; 1024]
 }
 
-fn tried(x: &[i32], end: usize, told: &[i32]) -> bool
+fn tried(x: &[i32], totals: Totals, end: usize, told: &[i32]) -> bool
     requires { ⌜ (139 ≤ end) × (end ≤ length (now x)) ⌝ }
     requires { ⌜ length (now told) ≤ 1024 ⌝ }
 {
     let m = told.len();
     let mut output = marked();
-    as_told(outcome(x, end, &mut output[0..m]), x) & begins(&output, told)
+    let given = outcome(x, totals.before, end, &mut output[0..m]);
+    as_told(given, x, totals.after) & begins(&output, told)
 }
 
-pub fn agrees(x: &[i32]) -> bool {
+pub fn agrees(x: &[i32], totals: Totals) -> bool {
     if x.len() < 139 {
         return false;
     }
@@ -108,5 +117,5 @@ pub fn agrees(x: &[i32]) -> bool {
         return false;
     }
     let end = 139 + n;
-    tried(x, end, &x[end..])
+    tried(x, totals, end, &x[end..])
 }

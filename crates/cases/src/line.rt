@@ -1,6 +1,7 @@
-// The numbers of a line.
+// The numbers and words of a line.
 ghost use Prim.Native.Nat.{_+_, _≤_};
 ghost use lib.ListN.{length};
+use decimal::compare;
 use decimal::read;
 use decimal::search;
 use text_runs::number::Field;
@@ -13,8 +14,46 @@ pub fn end(text: &[u8], from: usize, byte: u8) -> usize
     search::end_of(text, from, byte)
 }
 
+// Where part n begins, if each part ends at a byte; the text's end if there are fewer.
+pub fn begin(text: &[u8], n: usize, byte: u8) -> usize
+    ensures { λ r. ⌜ r ≤ length (now (text .entry)) ⌝ }
+{
+    let mut at = 0;
+    let mut left = n;
+    while 0 < left {
+        at = end(text, at, byte);
+        if at == text.len() {
+            return at;
+        }
+        at += 1;
+        left -= 1;
+    }
+    at
+}
+
+// Whether part n is a word.
+pub fn is(text: &[u8], n: usize, byte: u8, word: &[u8]) -> bool {
+    let from = begin(text, n, byte);
+    compare::same(&text[from..end(text, from, byte)], word)
+}
+
+// Part n as a number of 64 bits.
+pub fn whole(text: &[u8], n: usize, byte: u8) -> Field {
+    let from = begin(text, n, byte);
+    read::total(&text[from..end(text, from, byte)])
+}
+
+// Part n as a size, and a million if it is no number.
+pub fn count(text: &[u8], n: usize, byte: u8) -> usize {
+    let found = whole(text, n, byte);
+    let Field::Number(x) = found else {
+        return 1000000;
+    };
+    size(x)
+}
+
 // A number below zero counts as a million, which no length, count or answer of a case is.
-pub fn size(x: i32) -> usize {
+pub fn size(x: i64) -> usize {
     if x < 0 {
         return 1000000;
     }
@@ -24,7 +63,7 @@ pub fn size(x: i32) -> usize {
 // The number at a place, and a million past the end too.
 pub fn at(x: &[i32], i: usize) -> usize {
     if i < x.len() {
-        return size(x[i]);
+        return size(x[i] as i64);
     }
     1000000
 }
@@ -71,7 +110,7 @@ fn field(text: &[u8], numbers: &mut [i32], n: usize) -> usize
     let Field::Number(x) = found else {
         return n;
     };
-    fill(numbers, n, often(text, star), x)
+    fill(numbers, n, often(text, star), x as i32)
 }
 
 // The numbers of all fields from a place on; none if a field puts nothing.

@@ -2,16 +2,21 @@
 use mathlib.Core.Path.{_≡_, refl, sym, ap, _∙_}
 use mathlib.Core.List.{List, [], _∷_, _++_, append-assoc, append-nil}
 use mathlib.Core.Option.{Option, none, some}
-use Prim.Native.Nat.{ℕ, zero, suc, _+_, _≤_, _<_}
+use Prim.Native.Nat.{ℕ, zero, suc, _+_, _^_, _≤_, _<_}
 use native.Mathlib.Numerals.{add-one}
 use native.Mathlib.Omega.{arith}
 use lib.IntN.{ℤ}
 use lib.ListN.{length, take, drop, set, drop-of-length-le}
 use lib.Seq.{drop-cons, drop-drop, take-suc-set}
-use Rattle.text_runs.specs.Decimal.{numberIn}
+use lib.Signed.{mag}
+use mir.Syntax.{w32, w64}
+use mir.Val.{SFits, toZ, ofZ}
+use Rattle.integers.proofs.Held.{held-ok, asks-cast, h-cast}
+use Rattle.text_runs.specs.Decimal.{signedIn, numberIn}
 use Rattle.text_runs.specs.Lines.{comma, fields, upTo, numberInFront, allNumbers, numbersIn}
 use Rattle.text_runs.specs.declared.number.Field.the-variants as Field
 use Rattle.text_runs.proofs.FieldLaws.{behind, fields-split}
+use Rattle.text_runs.proofs.Inverse.{number-fits}
 
 -- ---- the fields left
 -- the fields from a place on; beyond the end there is none
@@ -53,9 +58,20 @@ ahead-more xs x (some ys) = ap some (sym (append-assoc xs (x ∷ []) ys))
 ahead-more xs x none = refl
 
 pub number-long : (s : List ℕ) (x : ℤ) → numberIn s ≡ Field.Number x → 0 < length s
-unfolding numberIn
+unfolding numberIn signedIn
 number-long [] x e = absurd (let z : _≡_ {A = ℕ} 0 1 = cc in omega arith)
 number-long (b ∷ bs) x e = omega arith
+
+-- a number read, made an i32
+module _ (s : List ℕ) (x : ℤ) (h : mag x < 2 ^ 63) (e : numberIn s ≡ Field.Number x) where
+  narrow-fits : SFits w32 x
+  narrow-fits = record { sfits = number-fits s x e }
+
+  pub asks-narrow : SFits w32 (toZ w64 (ofZ w64 x))
+  asks-narrow = asks-cast w32 (held-ok w64 x h) narrow-fits
+
+  pub narrow-is : toZ w32 (ofZ w32 (toZ w64 (ofZ w64 x))) ≡ x
+  narrow-is = h-cast w32 (held-ok w64 x h) narrow-fits .is
 
 -- n numbers are read, and stand in the list `out`
 module _ (line : List ℕ) (i : ℕ) (out : List ℤ) (n : ℕ) where

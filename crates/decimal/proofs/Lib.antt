@@ -3,3 +3,4 @@ pub mod PrintLaws
 pub mod CompareLaws
 pub mod ReadLaws
 pub mod FieldsRead
+pub mod EndRead

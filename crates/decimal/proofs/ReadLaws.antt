@@ -9,10 +9,11 @@ use borrow.Author.Tests.{leb-true, le-leb, lt-leb, eq-eqb, ne-eqb}
 use lib.Dec.{leb}
 use lib.ListN.{length, getD, take, drop, length-drop}
 use lib.Seq.{drop-cons, drop-length, take-all}
-use lib.IntN.{pos, negℤ}
-use mir.Syntax.{w32}
+use lib.IntN.{pos, negsuc, negℤ, _-ℤ_}
+use mir.Syntax.{w64}
 use mir.Val.{SFits}
-use Rattle.text_runs.specs.Decimal.{isDigit, allDigits, valueOf, valued, leads, sized, negative, positive, numberIn}
+use Rattle.integers.proofs.Words.{to-below}
+use Rattle.text_runs.specs.Decimal.{isDigit, allDigits, valueOf, valued, leads, sized, negative, positive, signedIn, least64}
 use Rattle.decimal.specs.Own.Reading.{sizeWithin}
 use Rattle.text_runs.specs.declared.number.Size.{Size}
 use Rattle.text_runs.specs.declared.number.Size.the-variants as Size
@@ -69,12 +70,12 @@ pub size-within : {limit n : ℕ} {s : Size} → sizeWithin limit s → s ≡ Si
 unfolding sizeWithin
 size-within {limit} h e = subst (sizeWithin limit) e h
 
-pub sized-within : (limit : ℕ) (s : List ℕ) → sizeWithin limit (sized limit s)
+pub sized-within : (limit most : ℕ) → limit ≤ most → (s : List ℕ) → sizeWithin most (sized limit s)
 unfolding sizeWithin sized valued
-sized-within limit s = by-test (leads s) (allDigits s) (leb (valueOf 0 s) limit) refl
+sized-within limit most h s = by-test (leads s) (allDigits s) (leb (valueOf 0 s) limit) refl
   where
-    by-test : (l d t : Bool) → leb (valueOf 0 s) limit ≡ t → sizeWithin limit (cond l (cond (d && t) (Size.Of (valueOf 0 s)) Size.Bad) Size.Bad)
-    by-test true true true e = leb-true (valueOf 0 s) limit e
+    by-test : (l d t : Bool) → leb (valueOf 0 s) limit ≡ t → sizeWithin most (cond l (cond (d && t) (Size.Of (valueOf 0 s)) Size.Bad) Size.Bad)
+    by-test true true true e = omega (arith, leb-true (valueOf 0 s) limit e)
     by-test true true false e = tt
     by-test true false t e = tt
     by-test false d t e = tt
@@ -100,26 +101,31 @@ pub plus-bad : {s : Size} → s ≡ Size.Bad → Field.Bad ≡ positive s
 unfolding positive
 plus-bad e = sym (ap positive e)
 
--- 32 bits have one negative number more
-pub minus-fits : (n : ℕ) → n ≤ 2147483648 → SFits w32 (negℤ (pos n))
-minus-fits zero h = record { sfits = omega arith }
-minus-fits (suc n) h = record { sfits = omega arith }
+-- 64 bits have one number more below zero than above: the size less one is taken from −1
+pub less-than : (n : ℕ) → (n ≡ 0 → ⊥) → negsuc 0 -ℤ pos (n - 1) ≡ negℤ (pos n)
+less-than zero z = absurd (z refl)
+less-than (suc n) z = let e : suc n - 1 ≡ n = omega arith in rw e (to-below n)
+
+pub below-fits : (n : ℕ) → n ≤ least64 → (n ≡ 0 → ⊥) → SFits w64 (negsuc 0 -ℤ pos (n - 1))
+below-fits zero h z = absurd (z refl)
+below-fits (suc n) h z = rw (less-than (suc n) z) (record { sfits = omega arith })
 
 -- ---- a field
-pub rest-part : (s : List ℕ) → take (length s - 1) (drop 1 s) ≡ drop 1 s
-rest-part s = take-all (length s - 1) (drop 1 s) (omega (arith, length-drop 1 s))
+pub rest-part : (k : ℕ) (s : List ℕ) → take (length s - k) (drop k s) ≡ drop k s
+rest-part k s = take-all (length s - k) (drop k s) (omega (arith, length-drop k s))
 
-pub no-field : (s : List ℕ) → length s ≡ 0 → Field.Bad ≡ numberIn s
-unfolding numberIn
-no-field [] e = refl
-no-field (b ∷ bs) e = absurd (omega (arith, e))
+module _ (limit : ℕ) where
+  pub no-field : (s : List ℕ) → length s ≡ 0 → Field.Bad ≡ signedIn limit s
+  unfolding signedIn
+  no-field [] e = refl
+  no-field (b ∷ bs) e = absurd (omega (arith, e))
 
-pub signed : (s : List ℕ) → (length s ≡ 0 → ⊥) → getD s 0 0 ≡ 45 → negative (sized 2147483648 (drop 1 s)) ≡ numberIn s
-unfolding numberIn
-signed [] h e = absurd (h refl)
-signed (b ∷ bs) h e = rw (eq-eqb b 45 e)
+  pub signed : (s : List ℕ) → (length s ≡ 0 → ⊥) → getD s 0 0 ≡ 45 → negative (sized limit (drop 1 s)) ≡ signedIn limit s
+  unfolding signedIn
+  signed [] h e = absurd (h refl)
+  signed (b ∷ bs) h e = rw (eq-eqb b 45 e)
 
-pub unsigned : (s : List ℕ) → (length s ≡ 0 → ⊥) → (getD s 0 0 ≡ 45 → ⊥) → positive (sized 2147483647 s) ≡ numberIn s
-unfolding numberIn
-unsigned [] h e = absurd (h refl)
-unsigned (b ∷ bs) h e = rw (ne-eqb b 45 e)
+  pub unsigned : (s : List ℕ) → (length s ≡ 0 → ⊥) → (getD s 0 0 ≡ 45 → ⊥) → positive (sized (limit - 1) s) ≡ signedIn limit s
+  unfolding signedIn
+  unsigned [] h e = absurd (h refl)
+  unsigned (b ∷ bs) h e = rw (ne-eqb b 45 e)

@@ -55,16 +55,23 @@ pub fn last_natural(out: &mut [u8], at: usize, n: u64) -> usize
     bytes(out, m, b"\n")
 }
 
+// A number of 64 bits. The size of the least is above the greatest, so what is turned is one less.
+fn signed(out: &mut [u8], at: usize, x: i64) -> usize
+    requires { ⌜ at + length (printed x) ≤ length (now out) ⌝ }
+    ensures { λ r. ⌜ Put at (now (out .entry)) (printed x) r (now (out .exit)) ⌝ }
+{
+    if x < 0 {
+        let n = bytes(out, at, b"-");
+        return natural(out, n, (-1 - x) as u64 + 1);
+    }
+    natural(out, at, x as u64)
+}
+
 pub fn number(out: &mut [u8], at: usize, x: i32) -> usize
     requires { ⌜ at + 11 ≤ length (now out) ⌝ }
     ensures { λ r. ⌜ Put at (now (out .entry)) (printed x) r (now (out .exit)) × (r ≤ at + 11) ⌝ }
 {
-    let wide = x as i64;
-    if wide < 0 {
-        let n = bytes(out, at, b"-");
-        return natural(out, n, (0 - wide) as u64);
-    }
-    natural(out, at, wide as u64)
+    signed(out, at, x as i64)
 }
 
 // A number behind a comma.
@@ -93,12 +100,15 @@ pub fn numbers(out: &mut [u8], at: usize, x: &[i32]) -> usize
     n
 }
 
-pub fn end_line(out: &mut [u8], at: usize, count: usize) -> usize
-    requires { ⌜ at + 24 ≤ length (now out) ⌝ }
-    ensures { λ r. ⌜ Put at (now (out .entry)) (endLine count) r (now (out .exit)) × (r ≤ at + 24) ⌝ }
+// The end line, with its total.
+pub fn end_line(out: &mut [u8], at: usize, count: usize, total: i64) -> usize
+    requires { ⌜ at + 45 ≤ length (now out) ⌝ }
+    ensures { λ r. ⌜ Put at (now (out .entry)) (endLine count total) r (now (out .exit)) × (r ≤ at + 45) ⌝ }
 {
-    let n = bytes(out, at, b"end,");
-    natural(out, n, count as u64)
+    let tag = bytes(out, at, b"end,");
+    let m = natural(out, tag, count as u64);
+    let n = bytes(out, m, b",");
+    signed(out, n, total)
 }
 
 // The digits of n behind a comma.

@@ -24,7 +24,7 @@ use Rattle.runs.specs.Back.{takenBack, undoneIn, unfoldedIn, firstFrame, laterF
 use Rattle.text_runs.specs.declared.number.Field.{Field}
 use Rattle.text_runs.specs.declared.number.Field.the-variants as Field
 use Rattle.text_runs.specs.Decimal.{numberIn}
-use Rattle.text_runs.specs.Lines.{same, endLine, numbersIn}
+use Rattle.text_runs.specs.Lines.{numbersIn, endTotal}
 use Rattle.text_runs.specs.declared.state.Way.{Way}
 use Rattle.text_runs.specs.declared.state.Way.the-variants.{Forward, Back}
 use Rattle.text_runs.specs.declared.state.Phase.{Phase}
@@ -32,7 +32,7 @@ use Rattle.text_runs.specs.declared.state.Phase.the-variants.{First, Between, E
 use Rattle.text_runs.specs.declared.state.State.{State}
 use Rattle.text_runs.specs.State.{LineResult, begun, goesOn, refused, inPhase, withRun}
 use Rattle.text_runs.specs.Way.{takenBy, lentOutput}
-use Rattle.text_runs.specs.Line.{lineTaken, formed, notFormed, badForm, widthStarted, widthTaken, rowGiven, rowTaken, betweenTaken, lineLimit}
+use Rattle.text_runs.specs.Line.{lineTaken, formed, notFormed, badForm, widthStarted, widthTaken, rowGiven, rowTaken, betweenBy, betweenTaken, lineLimit}
 use Rattle.feeding.specs.Text.{sessionBegun, sessionAfter, textLine, textProgram}
 use Rattle.feeding.specs.TextTheorems.{leftIn, linesLeft, LinesFall, OverWithin}
 use Rattle.feeding.proofs.BudgetLaws.{over-within-budget}
@@ -115,7 +115,7 @@ some-left : (phase : Phase) (count : ℕ) → not (goesOn phase) ≡ false → 0
 unfolding leftIn goesOn
 some-left First count on = omega arith
 some-left Between count on = omega arith
-some-left Ended count on = omega arith
+some-left (Ended total) count on = omega arith
 some-left Over count on = absurd (false≢true (sym on))
 
 refused-falls : (s : State) (answer : ℕ × ℕ) → 0 < left s → left (refused s answer .0) < left s
@@ -148,16 +148,16 @@ module _ (s : State) where
       (λ t. rw t (refused-falls s (g .0) (rw e (omega arith))))
       (tested (eqb (g .0 .0) 0))
 
-  between-falls : s .phase ≡ Between → (bytes : List ℕ) → left (betweenTaken s bytes .0) < left s
-  unfolding betweenTaken inPhase leftIn
-  between-falls e bytes =
-      ⊎-elim (λ (t : same bytes (endLine (s .run .count)) ≡ true). rw t (rw e (omega arith))) (λ t. rw t (row-falls e (numbersIn bytes))) (tested (same bytes (endLine (s .run .count))))
+  between-falls : s .phase ≡ Between → (bytes : List ℕ) (end : Field) → left (betweenBy s bytes end .0) < left s
+  unfolding betweenBy inPhase leftIn
+  between-falls e bytes (Field.Number total) = rw e (omega arith)
+  between-falls e bytes Field.Bad = row-falls e (numbersIn bytes)
 
   formed-falls : (phase : Phase) → s .phase ≡ phase → not (goesOn phase) ≡ false → (bytes : List ℕ) → left (formed phase s bytes .0) < left s
-  unfolding formed badForm leftIn goesOn
+  unfolding formed betweenTaken badForm leftIn goesOn
   formed-falls First e on bytes = width-falls e (numberIn bytes)
-  formed-falls Between e on bytes = between-falls e bytes
-  formed-falls Ended e on bytes = refused-falls s (13, 0) (rw e (omega arith))
+  formed-falls Between e on bytes = between-falls e bytes (endTotal (s .run .count) bytes)
+  formed-falls (Ended total) e on bytes = refused-falls s (13, 0) (rw e (omega arith))
   formed-falls Over e on bytes = absurd (false≢true (sym on))
 
 pub lines-fall : LinesFall

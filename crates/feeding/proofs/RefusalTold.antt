@@ -9,7 +9,7 @@ use lib.Dec.{leb}
 use lib.IntN.{ℤ, pos}
 use Rattle.runs.specs.declared.record.Run.{Run}
 use Rattle.runs.specs.Record.{frameLimit}
-use Rattle.text_runs.specs.Decimal.{decimal, printed, bits32, allBits}
+use Rattle.text_runs.specs.Decimal.{decimal, printed, fits, allBits}
 use Rattle.text_runs.specs.Lines.{lineFeed, refusedTag, behindCommas, row, refusal, numbersIn, upTo, same}
 use Rattle.text_runs.specs.declared.state.Phase.{Phase}
 use Rattle.text_runs.specs.declared.state.Phase.the-variants.{First, Between, Ended, Over}
@@ -36,7 +36,7 @@ line-few : (phase : Phase) (run : Run) → lineNumber phase run ≤ 65539
 unfolding lineNumber
 line-few First run = omega arith
 line-few Between run = between-few (run .count)
-line-few Ended run = between-few (run .count)
+line-few (Ended total) run = between-few (run .count)
 line-few Over run = between-few (run .count)
 
 module _ (number line place : ℕ) where
@@ -61,7 +61,7 @@ module _ (number line place : ℕ) where
       ap (endingAfter before Over) (ap (λ (t : List ℕ). t ++ lineFeed ∷ []) refusal-row ∙ append-assoc refusedTag (row three) (lineFeed ∷ [])) ∙ said bits
 
 pub refusal-told : RefusalTold
-unfolding refused allBits bits32
+unfolding refused allBits fits
 refusal-told before s number place n p =
     let line : ℕ = lineNumber (s .phase) (s .run) in
     let is : endingAfter before Over (refusal number line place ++ lineFeed ∷ []) ≡ Refused (pos number) (pos line) (pos place) =

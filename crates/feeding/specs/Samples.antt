@@ -6,7 +6,7 @@ use Prim.Native.Nat.{ℕ}
 use lib.IntN.{pos}
 use lib.ListN.{replicate}
 use Rattle.text_runs.specs.Bytes.{bytes}
-use Rattle.text_runs.specs.Decimal.{isDigit, allDigits, valueOf, valued, leads, sized, negative, positive, numberIn}
+use Rattle.text_runs.specs.Decimal.{isDigit, allDigits, valueOf, valued, leads, sized, negative, positive, signedIn, numberIn}
 use Rattle.text_runs.specs.Lines.{lineFeed, refusedTag, longer, fields, numberInFront, allNumbers, numbersIn, upTo, same}
 use Rattle.text_runs.specs.Input as Input
 use Rattle.text_runs.specs.Input.{linesOf}
@@ -61,9 +61,9 @@ lines-handed = refl
 -- what a last line says
 endings : Said
     ((endingAfter Open Over (bytes "refused,6,2,0\n"), Refused (pos 6) (pos 2) (pos 0))
-    ∷ (endingAfter Open Over (bytes "1,2\nend,2\n"), Whole)
+    ∷ (endingAfter Open Over (bytes "1,2\nend,2,3\n"), Whole)
     ∷ (endingAfter Open Between (bytes "1,2\n"), Open)
     ∷ (endingAfter (Refused (pos 6) (pos 2) (pos 0)) Over (bytes ""), Refused (pos 6) (pos 2) (pos 0))
     ∷ [])
-unfolding bytes endingAfter goesOn lastSaid refusedTag same upTo refusedBy isDigit allDigits valueOf valued leads sized negative positive numberIn longer fields numberInFront allNumbers numbersIn
+unfolding bytes endingAfter goesOn lastSaid refusedTag same upTo refusedBy isDigit allDigits valueOf valued leads sized negative positive signedIn numberIn longer fields numberInFront allNumbers numbersIn
 endings = refl

@@ -40,7 +40,7 @@ broken-over : (phase : Phase) (s : State) → s .phase ≡ phase → not (goesOn
 unfolding notFormed badForm refused inPhase goesOn
 broken-over First s e = refl
 broken-over Between s e = refl
-broken-over Ended s e = refl
+broken-over (Ended total) s e = refl
 broken-over Over s e = rw e
 
 pub stops : (s : Session) → isOver (textBroken s .0) ≡ true
@@ -51,14 +51,14 @@ formed-quiet : (phase : Phase) (s : State) (bytes : List ℕ) → not (goesOn ph
 unfolding formed goesOn
 formed-quiet First s bytes o = absurd (false≢true o)
 formed-quiet Between s bytes o = absurd (false≢true o)
-formed-quiet Ended s bytes o = absurd (false≢true o)
+formed-quiet (Ended total) s bytes o = absurd (false≢true o)
 formed-quiet Over s bytes o = refl
 
 broken-quiet : (phase : Phase) (s : State) → not (goesOn phase) ≡ true → notFormed phase s ≡ (s, [])
 unfolding notFormed goesOn
 broken-quiet First s o = absurd (false≢true o)
 broken-quiet Between s o = absurd (false≢true o)
-broken-quiet Ended s o = absurd (false≢true o)
+broken-quiet (Ended total) s o = absurd (false≢true o)
 broken-quiet Over s o = refl
 
 pub quiet : (s : Session) → isOver s ≡ true → ((bytes : List ℕ) → textLine s bytes ≡ (s, [])) × (textBroken s ≡ (s, []))

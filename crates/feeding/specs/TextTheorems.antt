@@ -36,7 +36,7 @@ LiveRun =
 unfoldable pub leftIn : Phase → ℕ → ℕ
 leftIn First count = 65540
 leftIn Between count = 2 + (frameLimit - count)
-leftIn Ended count = 1
+leftIn (Ended total) count = 1
 leftIn Over count = 0
 
 abbrev pub linesLeft : Session → ℕ

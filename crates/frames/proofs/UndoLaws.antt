@@ -1,12 +1,13 @@
 -- What questions 9 to 12 decide of a frame, test by test, where a run holds the lower half of the frame before.
-use mathlib.Core.Path.{_≡_, refl, sym, ap, ap₂, _∙_}
+use mathlib.Core.Path.{_≡_, refl, sym, ap, _∙_}
 use mathlib.Core.Bool.{Bool, true, false, cond}
 use mathlib.Core.List.{List, [], _∷_}
 use Prim.Native.Nat.{ℕ, suc, _+_}
 use native.Mathlib.Nat.{add-suc, add-zero}
 use borrow.Author.Tests.{eq-eqb, ne-eqb}
-use lib.IntN.{ℤ, pos}
+use lib.IntN.{ℤ, pos, _+ℤ_}
 use lib.ListN.{length, take, drop}
+use Rattle.integers.specs.Vectors.{sumOf}
 use Rattle.tables.specs.Widths.{halfWidth}
 use Rattle.steps.specs.Steps.{unstages, unfolded}
 use Rattle.runs.specs.Answers.{told, firstWhere, firstBeyond}
@@ -15,7 +16,7 @@ use Rattle.runs.specs.declared.answer.Answer.the-variants.{Done, Halves, Unfold
 use Rattle.runs.specs.declared.answer.Found.{Found}
 use Rattle.runs.specs.declared.answer.Found.the-variants.{At, Nothing}
 use Rattle.runs.specs.declared.record.Run.{Run}
-use Rattle.runs.specs.Record.{nextCount, opened}
+use Rattle.runs.specs.Record.{nextCount, nextTotal, readingsGiven, opened}
 use Rattle.runs.specs.Alone.{StagesResult, refusedAt, unstagesAsked}
 use Rattle.runs.specs.Gate.{CallResult, askEach, firstOut}
 use Rattle.runs.proofs.RecordLaws.{take-filled}
@@ -38,9 +39,9 @@ first-from test (x ∷ xs) m k = by (test x) (first-from test xs m (suc k))
     by false h = rw (← add-suc m k) h
 
 -- ---- 11 and 12, where a run holds `low`
-module _ (N count : ℕ) (low folded out : List ℤ) where
+module _ (N count : ℕ) (t : ℤ) (low folded out : List ℤ) where
   abbrev run : Run
-  run = opened N count low
+  run = opened N count t low
 
   abbrev upper : List ℤ
   upper = drop (halfWidth N) folded
@@ -49,9 +50,9 @@ module _ (N count : ℕ) (low folded out : List ℤ) where
   unfolding firstUpper opened
   upper-at f e = ap (firstWhere _ upper) (sym (add-zero (halfWidth N))) ∙ first-from _ upper (halfWidth N) 0 ∙ ap (from (halfWidth N)) e
 
-  framed-is : (kept : List ℤ) → kept ≡ take (halfWidth N) folded → opened N (suc count) kept ≡ framed run folded
+  framed-is : (given kept : List ℤ) → kept ≡ take (halfWidth N) folded → opened N (suc count) (t +ℤ sumOf given) kept ≡ framed run given folded
   unfolding framed opened
-  framed-is kept e = ap (opened N (suc count)) e
+  framed-is given kept e = ap (opened N (suc count) (t +ℤ sumOf given)) e
 
   module _ (z : count ≡ 0) where
     is-first : firstFrame run folded out ≡ unfoldedIn run folded out
@@ -59,13 +60,17 @@ module _ (N count : ℕ) (low folded out : List ℤ) where
     is-first = rw (eq-eqb _ _ z)
 
     pub upper-refused : (half place : ℕ) → half ≡ halfWidth N → firstBeyond (pos 0) upper 0 ≡ At place
-        → (told (Halves (half + place)), opened N (nextCount (told (Halves (half + place)) .0) count) low, out) ≡ unfoldedIn run folded out
-    unfolding told nextCount firstFrame askEach from
-    upper-refused half place h e = sym (ap (λ f. askEach 11 f run out ((0, 0), framed run folded, out)) (upper-at (At place) e) ∙ ap (λ n. ((11, n + place), run, out)) (sym h)) ∙ is-first
+        → (told (Halves (half + place)), opened N (nextCount (told (Halves (half + place)) .0) count) (nextTotal (told (Halves (half + place)) .0) t (readingsGiven count out)) low, out) ≡ unfoldedIn run folded out
+    unfolding told nextCount nextTotal firstFrame askEach from
+    upper-refused half place h e = sym (ap (λ f. askEach 11 f run out ((0, 0), framed run [] folded, out)) (upper-at (At place) e) ∙ ap (λ n. ((11, n + place), run, out)) (sym h)) ∙ is-first
 
-    pub first-done : (kept : List ℤ) → kept ≡ take (halfWidth N) folded → firstBeyond (pos 0) upper 0 ≡ Nothing → (told Done, opened N (nextCount (told Done .0) count) kept, out) ≡ unfoldedIn run folded out
-    unfolding told nextCount firstFrame askEach from
-    first-done kept k e = ap (λ (r : Run). ((0, 0), r, out)) (framed-is kept k) ∙ sym (ap (λ f. askEach 11 f run out ((0, 0), framed run folded, out)) (upper-at Nothing e)) ∙ is-first
+    pub first-done : (kept : List ℤ) → kept ≡ take (halfWidth N) folded → firstBeyond (pos 0) upper 0 ≡ Nothing
+        → (told Done, opened N (nextCount (told Done .0) count) (nextTotal (told Done .0) t (readingsGiven count out)) kept, out) ≡ unfoldedIn run folded out
+    unfolding told nextCount nextTotal readingsGiven firstFrame askEach from
+    first-done kept k e =
+        ap (λ (b : Bool). ((0, 0), opened N (suc count) (t +ℤ sumOf (cond b [] out)) kept, out)) (eq-eqb count 0 z)
+        ∙ ap (λ (r : Run). ((0, 0), r, out)) (framed-is [] kept k)
+        ∙ sym (ap (λ f. askEach 11 f run out ((0, 0), framed run [] folded, out)) (upper-at Nothing e)) ∙ is-first
 
   -- the block between what is held and the frame's upper half
   pub block-is : (half : ℕ) → half ≡ halfWidth N → length low ≡ halfWidth N → unfolded N low (drop half folded) ≡ blockOn run folded
@@ -81,15 +86,20 @@ module _ (N count : ℕ) (low folded out : List ℤ) where
     unfolding unfoldedIn opened
     is-later = rw (ne-eqb _ _ n)
 
-    pub later-refused : (place : ℕ) → firstOut (blockOn run folded) 0 ≡ At place → (told (Unfolded place), opened N (nextCount (told (Unfolded place) .0) count) low, out) ≡ unfoldedIn run folded out
-    unfolding told nextCount laterFrame askEach
-    later-refused place e = sym (ap (λ f. askEach 12 f run out ((0, 0), framed run folded, blockOn run folded)) e) ∙ is-later
+    pub later-refused : (place : ℕ) → firstOut (blockOn run folded) 0 ≡ At place
+        → (told (Unfolded place), opened N (nextCount (told (Unfolded place) .0) count) (nextTotal (told (Unfolded place) .0) t (readingsGiven count out)) low, out) ≡ unfoldedIn run folded out
+    unfolding told nextCount nextTotal laterFrame askEach
+    later-refused place e = sym (ap (λ f. askEach 12 f run out ((0, 0), framed run (blockOn run folded) folded, blockOn run folded)) e) ∙ is-later
 
     pub later-done : (kept block : List ℤ) → kept ≡ take (halfWidth N) folded → block ≡ blockOn run folded → firstOut (blockOn run folded) 0 ≡ Nothing
-        → (told Done, opened N (nextCount (told Done .0) count) kept, block) ≡ unfoldedIn run folded out
-    unfolding told nextCount laterFrame askEach
+        → (told Done, opened N (nextCount (told Done .0) count) (nextTotal (told Done .0) t (readingsGiven count block)) kept, block) ≡ unfoldedIn run folded out
+    unfolding told nextCount nextTotal readingsGiven laterFrame askEach
     later-done kept block k b e =
-        ap₂ (λ (r : Run) (w : List ℤ). ((0, 0), r, w)) (framed-is kept k) b ∙ sym (ap (λ f. askEach 12 f run out ((0, 0), framed run folded, blockOn run folded)) e) ∙ is-later
+        ap (λ (c : Bool). ((0, 0), opened N (suc count) (t +ℤ sumOf (cond c [] block)) kept, block)) (ne-eqb count 0 n)
+        ∙ ap (λ (w : List ℤ). ((0, 0), opened N (suc count) (t +ℤ sumOf w) kept, w)) b
+        ∙ ap (λ (r : Run). ((0, 0), r, blockOn run folded)) (framed-is (blockOn run folded) kept k)
+        ∙ sym (ap (λ f. askEach 12 f run out ((0, 0), framed run (blockOn run folded) folded, blockOn run folded)) e)
+        ∙ is-later
 
 -- ---- 9 and 10
 module _ (made folded out : List ℤ) (run : Run) (next : CallResult) (answer : ℕ × ℕ) where
@@ -100,14 +110,15 @@ module _ (made folded out : List ℤ) (run : Run) (next : CallResult) (answer : 
   refused-alike Nothing (At place) e h = ap (λ (x : StagesResult). (x .0, run, out)) e
   refused-alike Nothing Nothing e h = absurd (h (ap (λ (x : StagesResult). x .0 .0) e))
 
-module _ (N count : ℕ) (low frame out folded : List ℤ) (answer : Answer) (e : (told answer, folded) ≡ unstagesAsked N frame folded) where
+module _ (N count : ℕ) (t : ℤ) (low frame out folded : List ℤ) (answer : Answer) (e : (told answer, folded) ≡ unstagesAsked N frame folded) where
   abbrev asked : Run
-  asked = opened N count low
+  asked = opened N count t low
 
-  pub undo-refused : (told answer .0 ≡ 0 → ⊥) → (told answer, opened N (nextCount (told answer .0) count) low, out) ≡ undoneIn asked frame out
-  unfolding nextCount undoneIn unstagesAsked opened
+  pub undo-refused : (told answer .0 ≡ 0 → ⊥)
+      → (told answer, opened N (nextCount (told answer .0) count) (nextTotal (told answer .0) t (readingsGiven count out)) low, out) ≡ undoneIn asked frame out
+  unfolding nextCount nextTotal undoneIn unstagesAsked opened
   undo-refused h =
-      ap (λ b. (told answer, opened N (cond b (suc count) count) low, out)) (ne-eqb (told answer .0) 0 h)
+      ap (λ b. (told answer, opened N (cond b (suc count) count) (cond b (t +ℤ sumOf (readingsGiven count out)) t) low, out)) (ne-eqb (told answer .0) 0 h)
       ∙ refused-alike (unstages N frame) folded out asked (unfoldedIn asked (unstages N frame) out) (told answer) _ _ e h
 
   pub undo-passed : told answer .0 ≡ 0 → unfoldedIn asked (unstages N frame) out ≡ undoneIn asked frame out

@@ -1,6 +1,7 @@
 // One frame back: its folded values, the block before it, and what it holds for the next.
 ghost use mathlib.Core.Path.{_≡_};
 ghost use Prim.Native.Nat.{_%_, _^_, _≤_, _<_};
+ghost use lib.IntN.{ℤ};
 ghost use lib.ListN.{length, take, drop};
 ghost use Rattle.integers.specs.Places.{Within};
 ghost use Rattle.tables.specs.Widths.{halfWidth};
@@ -8,7 +9,7 @@ ghost use Rattle.steps.specs.Limits.{foldedLimit};
 ghost use Rattle.steps.specs.Steps;
 ghost use Rattle.width_tables.specs.Filled.{Filled};
 ghost use Rattle.runs.specs.Answers.{told};
-ghost use Rattle.runs.specs.Record.{nextCount, opened};
+ghost use Rattle.runs.specs.Record.{nextCount, nextTotal, readingsGiven, opened};
 ghost use Rattle.runs.specs.Back.{unfoldedIn, undoneIn};
 ghost use Rattle.frames.specs.Own.WideRoom.{WideRoom};
 ghost use Rattle.frames.specs.Own.Unrefused.{Unrefused};
@@ -66,7 +67,7 @@ fn unfolded_in(
     requires { ⌜ (length (now folded) ≡ width) × (length (now held) ≡ halfWidth width) × (length (now wide) ≡ width) × (length (now block) ≡ width) ⌝ }
     requires { ⌜ Within foldedLimit (now folded) ⌝ }
     requires { ⌜ Within foldedLimit (now held) ⌝ }
-    ensures { λ r. ⌜ (told r, opened width (nextCount (told r .0) count) (now (held .exit)), now (block .exit)) ≡ unfoldedIn (opened width count (now (held .entry))) (now (folded .entry)) (now (block .entry)) ⌝ }
+    ensures { λ r. ⌜ ((total : ℤ) → (told r, opened width (nextCount (told r .0) count) (nextTotal (told r .0) total (readingsGiven count (now (block .exit)))) (now (held .exit)), now (block .exit)) ≡ unfoldedIn (opened width count total (now (held .entry))) (now (folded .entry)) (now (block .entry))) ⌝ }
 {
     let half = width / 2;
     if count == 0 {
@@ -104,7 +105,7 @@ pub fn undo(
     requires { ⌜ (length (now frame) ≡ width) × (length (now held) ≡ halfWidth width) × (length (now block) ≡ width) ⌝ }
     requires { ⌜ WideRoom width (now top) (now bottom) (now y) (now z) ⌝ }
     requires { ⌜ Within foldedLimit (now held) ⌝ }
-    ensures { λ r. ⌜ (told r, opened width (nextCount (told r .0) count) (now (held .exit)), now (block .exit)) ≡ undoneIn (opened width count (now (held .entry))) (now (frame .entry)) (now (block .entry)) ⌝ }
+    ensures { λ r. ⌜ ((total : ℤ) → (told r, opened width (nextCount (told r .0) count) (nextTotal (told r .0) total (readingsGiven count (now (block .exit)))) (now (held .exit)), now (block .exit)) ≡ undoneIn (opened width count total (now (held .entry))) (now (frame .entry)) (now (block .entry))) ⌝ }
 {
     let asked = transform::unstaged(width, t, frame, top, bottom, y, z);
     if runs::answer::number(asked) != 0 {

@@ -1,5 +1,5 @@
 -- What the first questions of a call tell its code: what a refusal gives, what follows without one, and what is known then.
-use mathlib.Core.Path.{_≡_, refl, sym, ap, _∙_}
+use mathlib.Core.Path.{_≡_, refl, sym, ap, ap₂, _∙_}
 use mathlib.Core.Bool.{Bool, true, false, cond, not, _&&_, and-eq-true-iff}
 use mathlib.Core.List.{List, []}
 use Prim.Native.Nat.{ℕ, suc, _/_, _%_, _≤_, _<_}
@@ -12,9 +12,9 @@ use Rattle.tables.specs.Widths.{halfWidth}
 use Rattle.runs.specs.Answers.{told}
 use Rattle.runs.specs.declared.answer.Answer.{Answer}
 use Rattle.runs.specs.declared.record.Run.{Run}
-use Rattle.runs.specs.Record.{zeros, recordOf, nextCount}
+use Rattle.runs.specs.Record.{zeros, recordOf, nextCount, nextTotal}
 use Rattle.runs.specs.Gate.{CallResult, ask, sound, admitted}
-use Rattle.runs.proofs.Refusals.{count-kept}
+use Rattle.runs.proofs.Refusals.{count-kept, total-kept}
 use Rattle.gate.specs.Own.Asked.{answered, StillOpen, Admitted, wholeParts, inParts}
 
 module _ (answer : Answer) (run : Run) (out : List ℤ) (next : CallResult) where
@@ -54,10 +54,10 @@ module _ {top : ℕ} {run : Run} {answer : Answer} (a : StillOpen top run answer
 
 -- ---- 2, 3, 4, 6 and 7
 module _ {top : ℕ} {run : Run} {given room : ℕ} {answer : Answer} (a : Admitted top run given room answer) (xs out : List ℤ) (next : CallResult) (l : length xs ≡ given) (m : length out ≡ room) where
-  pub admitted-refused : (told answer .0 ≡ 0 → ⊥)
-      → (told answer, recordOf (run .width) (nextCount (told answer .0) (run .count)) (run .held) (run .finished), out) ≡ admitted top run xs out next
-  admitted-refused h =
-      ap (λ (n : ℕ). (told answer, recordOf (run .width) n (run .held) (run .finished), out)) (sym (count-kept (told answer .0) (run .count) h))
+  pub admitted-refused : (readings : List ℤ) → (told answer .0 ≡ 0 → ⊥)
+      → (told answer, recordOf (run .width) (nextCount (told answer .0) (run .count)) (run .held) (run .finished) (nextTotal (told answer .0) (run .total) readings), out) ≡ admitted top run xs out next
+  admitted-refused readings h =
+      ap₂ (λ (n : ℕ) (t : ℤ). (told answer, recordOf (run .width) n (run .held) (run .finished) t, out)) (sym (count-kept (told answer .0) (run .count) h)) (sym (total-kept (told answer .0) (run .total) readings h))
       ∙ refused answer run out next h
       ∙ a .asked xs out next l m
 

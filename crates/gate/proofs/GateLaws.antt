@@ -2,10 +2,10 @@
 use mathlib.Core.Path.{_≡_, refl, sym, ap, subst, _∙_}
 use mathlib.Core.Bool.{Bool, true, false, cond, _&&_, and-false}
 use mathlib.Core.List.{List, [], _∷_}
-use Prim.Native.Nat.{ℕ, zero, suc, _+_, _-_, _≤_, _<_, zero-le}
+use Prim.Native.Nat.{ℕ, zero, suc, _+_, _-_, _*_, _≤_, _<_, zero-le}
 use native.Mathlib.Omega.{arith}
-use borrow.Author.Tests.{eqb-true, eqb-false, eq-eqb, ne-eqb, lt-ltb, le-ltb, le-leb, lt-leb}
-use lib.Dec.{eqb}
+use borrow.Author.Tests.{eqb-true, eqb-false, eq-eqb, ne-eqb, ltb-true, ltb-false, lt-ltb, le-ltb, le-leb, lt-leb}
+use lib.Dec.{eqb, leb}
 use lib.Bits.{bitOr, or-add-and, and-le-l, and-le-r}
 use lib.IntN.{ℤ, pos, negsuc, natAbs, _-ℤ_}
 use lib.Signed.{_≤ℤ_}
@@ -25,7 +25,7 @@ use Rattle.runs.specs.Answers.{beyond, firstBeyond}
 use Rattle.runs.specs.declared.answer.Found.the-variants.{At, Nothing}
 use Rattle.gate.proofs.LimitLaws.{stops, goes-on, ends}
 use Rattle.runs.specs.declared.record.Run.{Run}
-use Rattle.runs.specs.Gate.{nothing, inside, allYes, sound, dead, firstDead}
+use Rattle.runs.specs.Gate.{nothing, inside, allYes, blocksBehind, sound, dead, firstDead}
 use Rattle.runs.proofs.Searches.{all-within, All, none-found, inside-all, all-inside}
 use Rattle.runs.proofs.RecordLaws.{all-take, all-drop}
 
@@ -165,24 +165,36 @@ module _ (top : ℕ) (run : Run) where
     no-count h = rw (lt-ltb 0 M wide, lt-leb _ _ h)
 
     module _ (n : run .count ≤ top) where
-      pub rest-held : inside (pos 0) (drop M (run .held)) ≡ false → false ≡ sound top run
-      unfolding sound allYes
-      rest-held r = rw (lt-ltb 0 M wide, le-leb _ _ n, r, and-false)
+      abbrev most : ℕ
+      most = blocksBehind top (run .count) * run .width * readingLimit
 
-      module _ (r : inside (pos 0) (drop M (run .held)) ≡ true) where
-        pub none-taken : run .count ≡ 0 → inside (pos 0) front ≡ sound top run
+      pub no-total : beyond (pos most) (run .total) ≡ true → false ≡ sound top run
+      unfolding sound allYes beyond
+      no-total b = rw (lt-ltb 0 M wide, le-leb _ _ n, lt-leb _ _ (ltb-true _ _ b), and-false, and-false, and-false)
+
+      module _ (b : beyond (pos most) (run .total) ≡ false) where
+        fits : leb (natAbs (run .total)) most ≡ true
+        unfolding beyond
+        fits = le-leb (natAbs (run .total)) most (ltb-false most (natAbs (run .total)) b)
+
+        pub rest-held : inside (pos 0) (drop M (run .held)) ≡ false → false ≡ sound top run
         unfolding sound allYes
-        none-taken e =
-            rw (lt-ltb 0 M wide, le-leb _ _ n, r, eq-eqb _ _ e, inside-front foldedLimit M (run .held) r, inside-front 0 M (run .held) r)
-            (both-asked _ _ (inside-up 0 foldedLimit front zero-le))
+        rest-held r = rw (lt-ltb 0 M wide, le-leb _ _ n, fits, r, and-false)
 
-        module _ (k : run .count ≡ 0 → ⊥) where
-          pub run-over : run .finished ≡ true → inside (pos 0) front ≡ sound top run
+        module _ (r : inside (pos 0) (drop M (run .held)) ≡ true) where
+          pub none-taken : run .count ≡ 0 → inside (pos 0) front ≡ sound top run
           unfolding sound allYes
-          run-over e =
-              rw (lt-ltb 0 M wide, le-leb _ _ n, r, ne-eqb _ _ k, e, inside-front foldedLimit M (run .held) r, inside-front 0 M (run .held) r)
+          none-taken e =
+              rw (lt-ltb 0 M wide, le-leb _ _ n, fits, r, eq-eqb _ _ e, inside-front foldedLimit M (run .held) r, inside-front 0 M (run .held) r)
               (both-asked _ _ (inside-up 0 foldedLimit front zero-le))
 
-          pub run-open : run .finished ≡ false → inside (pos foldedLimit) front ≡ sound top run
-          unfolding sound allYes
-          run-open e = rw (lt-ltb 0 M wide, le-leb _ _ n, r, ne-eqb _ _ k, e, inside-front foldedLimit M (run .held) r) (last-asked _)
+          module _ (k : run .count ≡ 0 → ⊥) where
+            pub run-over : run .finished ≡ true → inside (pos 0) front ≡ sound top run
+            unfolding sound allYes
+            run-over e =
+                rw (lt-ltb 0 M wide, le-leb _ _ n, fits, r, ne-eqb _ _ k, e, inside-front foldedLimit M (run .held) r, inside-front 0 M (run .held) r)
+                (both-asked _ _ (inside-up 0 foldedLimit front zero-le))
+
+            pub run-open : run .finished ≡ false → inside (pos foldedLimit) front ≡ sound top run
+            unfolding sound allYes
+            run-open e = rw (lt-ltb 0 M wide, le-leb _ _ n, fits, r, ne-eqb _ _ k, e, inside-front foldedLimit M (run .held) r) (last-asked _)

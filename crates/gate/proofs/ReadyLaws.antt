@@ -5,10 +5,11 @@ use mathlib.Core.List.{List, _∷_, _++_}
 use Prim.Native.Nat.{ℕ, zero, suc, _-_, _≤_, _<_}
 use native.Mathlib.Omega.{arith}
 use borrow.Author.Tests.{ltb-true, leb-true}
-use lib.IntN.{ℤ, pos}
+use lib.IntN.{ℤ, pos, _+ℤ_}
 use lib.ListN.{length, take, drop, length-drop, take-append-drop}
 use lib.Seq.{length-take-le}
 use Rattle.integers.specs.Places.{Within}
+use Rattle.integers.specs.Vectors.{sumOf}
 use Rattle.integers.proofs.PlaceLaws.{within-all}
 use Rattle.tables.specs.Widths.{halfWidth}
 use Rattle.tables.proofs.ByWidth.{half-width-le}
@@ -55,10 +56,10 @@ passed top m run half e h l = record {
 }
 
 -- ---- held values written in front of zeros
-module _ (N half count : ℕ) (kept low : List ℤ) (rest : drop half kept ≡ zeros (64 - halfWidth N)) (long : length low ≡ halfWidth N) where
-  pub stored-opened : (xs : List ℤ) → xs ≡ low ++ drop half kept → record { width = N; count = count; held = xs; finished = false } ≡ opened N count low
+module _ (N half count : ℕ) (t : ℤ) (kept low : List ℤ) (rest : drop half kept ≡ zeros (64 - halfWidth N)) (long : length low ≡ halfWidth N) where
+  pub stored-opened : (xs : List ℤ) → xs ≡ low ++ drop half kept → record { width = N; count = count; held = xs; finished = false; total = t } ≡ opened N count t low
   unfolding opened zeroPadded
-  stored-opened xs e = ap (λ (h : List ℤ). record { width = N; count = count; held = h; finished = false }) (e ∙ ap (λ xs. low ++ xs) (rest ∙ ap (λ n. zeros (64 - n)) (sym long)))
+  stored-opened xs e = ap (λ (h : List ℤ). record { width = N; count = count; held = h; finished = false; total = t }) (e ∙ ap (λ xs. low ++ xs) (rest ∙ ap (λ n. zeros (64 - n)) (sym long)))
 
 module _ (run : Run) (half : ℕ) (ready : Ready run half) where
   abbrev N : ℕ
@@ -68,15 +69,15 @@ module _ (run : Run) (half : ℕ) (ready : Ready run half) where
   pub rest-zero : drop half (run .held) ≡ zeros (64 - halfWidth N)
   rest-zero = ap (λ n. drop n (run .held)) (ready .half-is) ∙ ready .rest
 
-  pub run-is : run .finished ≡ false → half ≤ length (run .held) → run ≡ opened N (run .count) (take half (run .held))
+  pub run-is : run .finished ≡ false → half ≤ length (run .held) → run ≡ opened N (run .count) (run .total) (take half (run .held))
   run-is o l =
-      ap (λ (f : Bool). record { width = N; count = run .count; held = run .held; finished = f }) o
-      ∙ stored-opened N half (run .count) (run .held) (take half (run .held)) rest-zero (length-take-le half (run .held) l ∙ ready .half-is) (run .held) (sym (take-append-drop half (run .held)))
+      ap (λ (f : Bool). record { width = N; count = run .count; held = run .held; finished = f; total = run .total }) o
+      ∙ stored-opened N half (run .count) (run .total) (run .held) (take half (run .held)) rest-zero (length-take-le half (run .held) l ∙ ready .half-is) (run .held) (sym (take-append-drop half (run .held)))
 
   module _ (block : List ℤ) where
-    pub advanced-is : run .finished ≡ false → (xs : List ℤ) → xs ≡ held N block ++ drop half (run .held) → recordOf N (suc (run .count)) xs (run .finished) ≡ advanced run block
+    pub advanced-is : run .finished ≡ false → (xs : List ℤ) → xs ≡ held N block ++ drop half (run .held) → recordOf N (suc (run .count)) xs (run .finished) (run .total +ℤ sumOf block) ≡ advanced run block
     unfolding advanced
-    advanced-is o xs e = ap (recordOf N (suc (run .count)) xs) o ∙ stored-opened N half (suc (run .count)) (run .held) (held N block) rest-zero (length-held N block) xs e
+    advanced-is o xs e = ap (λ (f : Bool). recordOf N (suc (run .count)) xs f (run .total +ℤ sumOf block)) o ∙ stored-opened N half (suc (run .count)) (run .total +ℤ sumOf block) (run .held) (held N block) rest-zero (length-held N block) xs e
 
     pub frame-on : frame N (take half (run .held)) block ≡ frameOn run block
     unfolding frameOn

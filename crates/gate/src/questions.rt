@@ -2,12 +2,15 @@
 ghost use mathlib.Core.Path.{_≡_};
 ghost use mathlib.Core.Bool.{cond};
 ghost use Prim.Native.Nat.{_*_, _%_, _≤_, _<_};
-ghost use lib.IntN.{pos};
+ghost use lib.IntN.{pos, natAbs, _+ℤ_};
 ghost use lib.ListN.{length};
 ghost use lib.Signed.{_≤ℤ_};
+ghost use Rattle.integers.specs.Vectors.{sumOf};
+ghost use Rattle.steps.specs.Limits.{readingLimit};
 ghost use Rattle.runs.specs.Answers.{told, beyond, firstBeyond};
-ghost use Rattle.runs.specs.Record.{blockLimit, frameLimit, recordOf, outcomeOf, nextCount};
-ghost use Rattle.runs.specs.Gate.{firstDead};
+ghost use Rattle.runs.specs.Record.{blockLimit, frameLimit, recordOf, outcomeOf, nextCount, nextTotal};
+ghost use Rattle.runs.specs.Gate.{blocksBehind, firstDead};
+ghost use Rattle.runs.specs.Totals.{totalLimit};
 ghost use Rattle.gate.specs.Own.Asked.{StillOpen, Admitted, inParts};
 ghost use Rattle.gate.specs.Own.Faults.{faultOf};
 use constants::widths;
@@ -72,16 +75,50 @@ fn clear(x: &[i64]) -> bool
     any == 0
 }
 
+// The blocks of a run: b blocks give b + 1 frames, and the count is of blocks forward, of frames back.
+fn blocks_behind(top: usize, count: usize) -> usize
+    requires { ⌜ (count ≤ top) × (top ≤ frameLimit) ⌝ }
+    ensures { λ r. ⌜ (r ≡ blocksBehind top count) × (r ≤ blockLimit) ⌝ }
+{
+    let frames = count + (limits::FRAME_LIMIT - top);
+    if frames == 0 {
+        return 0;
+    }
+    frames - 1
+}
+
+// The greatest size that their total can have.
+fn greatest_total(top: usize, width: usize, count: usize) -> usize
+    requires { ⌜ (count ≤ top) × (top ≤ frameLimit) × (width ≤ 128) ⌝ }
+    ensures { λ r. ⌜ (r ≡ blocksBehind top count * width * readingLimit) × (r ≤ totalLimit) ⌝ }
+{
+    blocks_behind(top, count) * width * limits::READING_LIMIT as usize
+}
+
+fn total_beyond(total: i64, limit: usize) -> bool
+    requires { ⌜ limit ≤ totalLimit ⌝ }
+    ensures { λ r. ⌜ r ≡ beyond (pos limit) total ⌝ }
+{
+    let high = limit as i64;
+    if high < total {
+        return true;
+    }
+    total < 0 - high
+}
+
 // Question 2. The held values of the record are lent.
-fn sound(top: usize, width: usize, count: usize, finished: bool, held: &[i64]) -> bool
-    requires { ⌜ length (now held) ≡ 64 ⌝ }
-    ensures { λ r. ⌜ r ≡ Rattle.runs.specs.Gate.sound top (recordOf width count (now (held .entry)) finished) ⌝ }
+fn sound(top: usize, width: usize, count: usize, finished: bool, total: i64, held: &[i64]) -> bool
+    requires { ⌜ (top ≤ frameLimit) × (length (now held) ≡ 64) ⌝ }
+    ensures { λ r. ⌜ r ≡ Rattle.runs.specs.Gate.sound top (recordOf width count (now (held .entry)) finished total) ⌝ }
 {
     let half = widths::half_width(width);
     if half == 0 {
         return false;
     }
     if top < count {
+        return false;
+    }
+    if total_beyond(total, greatest_total(top, width, count)) {
         return false;
     }
     if !clear(&held[half..]) {
@@ -97,11 +134,18 @@ fn sound(top: usize, width: usize, count: usize, finished: bool, held: &[i64]) -
 }
 
 // Questions 2 and 3, to every call on a record.
-pub fn still_open(top: usize, width: usize, count: usize, finished: bool, held: &[i64]) -> Answer
-    requires { ⌜ length (now held) ≡ 64 ⌝ }
-    ensures { λ r. ⌜ StillOpen top (recordOf width count (now (held .entry)) finished) r ⌝ }
+pub fn still_open(
+    top: usize,
+    width: usize,
+    count: usize,
+    finished: bool,
+    total: i64,
+    held: &[i64],
+) -> Answer
+    requires { ⌜ (top ≤ frameLimit) × (length (now held) ≡ 64) ⌝ }
+    ensures { λ r. ⌜ StillOpen top (recordOf width count (now (held .entry)) finished total) r ⌝ }
 {
-    if !sound(top, width, count, finished, held) {
+    if !sound(top, width, count, finished, total, held) {
         return Answer::Record;
     }
     if finished {
@@ -116,14 +160,15 @@ pub fn admitted(
     width: usize,
     count: usize,
     finished: bool,
+    total: i64,
     held: &[i64],
     given: usize,
     out: usize,
 ) -> Answer
-    requires { ⌜ length (now held) ≡ 64 ⌝ }
-    ensures { λ r. ⌜ Admitted top (recordOf width count (now (held .entry)) finished) given out r ⌝ }
+    requires { ⌜ (top ≤ frameLimit) × (length (now held) ≡ 64) ⌝ }
+    ensures { λ r. ⌜ Admitted top (recordOf width count (now (held .entry)) finished total) given out r ⌝ }
 {
-    let open = still_open(top, width, count, finished, held);
+    let open = still_open(top, width, count, finished, total, held);
     if runs::answer::number(open) != 0 {
         return open;
     }
@@ -260,11 +305,26 @@ fn next_count(count: usize, answer: Answer) -> usize
     count + 1
 }
 
-// What a call hands back that took a block or a frame: the held values, and one more of the count where it has worked.
-pub fn after_take(run: Run, held: [i64; 64], answer: Answer) -> Outcome
+// The total after it, of a block's readings that it took or gave.
+pub fn next_total(total: i64, answer: Answer, readings: &[i32]) -> i64
+    requires { ⌜ (told answer .0 ≡ 0 → (length (now readings) ≤ 128) × (natAbs (total +ℤ sumOf (now readings)) ≤ totalLimit)) ⌝ }
+    ensures { λ r. ⌜ r ≡ nextTotal (told answer .0) total (now (readings .entry)) ⌝ }
+{
+    let number = runs::answer::number(answer);
+    if number != 0 {
+        return total;
+    }
+    total + vectors::sum(readings)
+}
+
+// What a call hands back that took a block or a frame: the held values, the total, and one more of the count where it has worked.
+pub fn after_take(run: Run, held: [i64; 64], answer: Answer, total: i64) -> Outcome
     requires { ⌜ (told answer .0 ≡ 0 → run .count < frameLimit) ⌝ }
-    ensures { λ r. ⌜ r ≡ outcomeOf (recordOf (run .width) (nextCount (told answer .0) (run .count)) held (run .finished)) answer ⌝ }
+    ensures { λ r. ⌜ r ≡ outcomeOf (recordOf (run .width) (nextCount (told answer .0) (run .count)) held (run .finished) total) answer ⌝ }
 {
     let count = next_count(run.count, answer);
-    record::hand_back(record::make(run.width, count, held, run.finished), answer)
+    record::hand_back(
+        record::make(run.width, count, held, run.finished, total),
+        answer,
+    )
 }

@@ -12,3 +12,4 @@ pub mod Fills
 pub mod Num
 pub mod Signs
 pub mod Permutations
+pub mod Sums

@@ -47,10 +47,10 @@ floor-fits w (pos a) (suc p) h = record { sfits = omega (arith, div-le-self a (s
 floor-fits w (negsuc a) (suc p) h = record { sfits = omega (arith, div-le-self a (suc p), h .sfits) }
 
 -- −1 − z counts from −1 down
-from-below : (a : ℕ) → negsuc 0 -ℤ negsuc a ≡ pos a
+pub from-below : (a : ℕ) → negsuc 0 -ℤ negsuc a ≡ pos a
 from-below a = rw (le-ltb (suc a) 1 (omega arith)) (ap pos (omega arith))
 
-to-below : (n : ℕ) → negsuc 0 -ℤ pos n ≡ negsuc n
+pub to-below : (n : ℕ) → negsuc 0 -ℤ pos n ≡ negsuc n
 to-below n = simp zs (omega arith)
 
 pub floor-above : (v p : ℤ) → pos 0 <ℤ p → ltZ v (pos 0) ≡ false → quotZ v p ≡ floorDiv v (above p)

@@ -1,8 +1,10 @@
 -- Lists of whole numbers: the inner product, and a matrix as the list of its rows.
-use mathlib.Core.List.{List, [], _∷_, map}
 use mathlib.Core.Path.{_≡_}
+use mathlib.Core.Bool.{Bool, false}
+use mathlib.Core.List.{List, [], _∷_, map}
 use Prim.Native.Nat.{ℕ, _+_, _≤_}
-use lib.IntN.{ℤ, pos, natAbs, _+ℤ_, _*ℤ_}
+use lib.Dec.{eqb}
+use lib.IntN.{ℤ, pos, negsuc, natAbs, _+ℤ_, _*ℤ_}
 use lib.ListN.{length, replicate}
 
 -- the inner product; the shorter list decides
@@ -19,6 +21,22 @@ abbrev pub plus : List ℤ → List ℤ → List ℤ
 plus [] ys = []
 plus (x ∷ xs) [] = []
 plus (x ∷ xs) (y ∷ ys) = (x +ℤ y) ∷ plus xs ys
+
+-- the sum of a list, and of the lists of a list
+unfoldable pub sumOf : List ℤ → ℤ
+sumOf [] = pos 0
+sumOf (x ∷ xs) = x +ℤ sumOf xs
+
+unfoldable pub totalOf : List (List ℤ) → ℤ
+totalOf [] = pos 0
+totalOf (xs ∷ rows) = sumOf xs +ℤ totalOf rows
+
+-- whether two numbers are the same
+unfoldable pub alike : ℤ → ℤ → Bool
+alike (pos m) (pos n) = eqb m n
+alike (pos m) (negsuc n) = false
+alike (negsuc m) (pos n) = false
+alike (negsuc m) (negsuc n) = eqb m n
 
 -- the sizes' sum
 abbrev pub sumAbs : List ℤ → ℕ

@@ -2,36 +2,42 @@
 use mathlib.Core.Path.{_≡_, refl, sym, ap, ap₂, subst, _∙_}
 use mathlib.Core.Bool.{Bool, true, false, cond}
 use mathlib.Core.List.{List, [], _∷_, _++_}
-use Prim.Native.Nat.{ℕ, suc, _-_, _^_, _≤_, _<_}
+use Prim.Native.Nat.{ℕ, zero, suc, _+_, _^_, _≤_, _<_}
+use native.Mathlib.Nat.{zero-add}
 use native.Mathlib.Omega.{arith}
 use borrow.Author.Tests.{ltb-true, leb-true, eqb-true, eqb-false, eq-eqb, ne-eqb}
 use borrow.Rule.Slice.PartMut.{putMid}
 use lib.Dec.{eqb}
-use lib.IntN.{ℤ, pos}
-use lib.ListN.{length, take, set}
+use lib.IntN.{ℤ, pos, natAbs, _+ℤ_}
+use lib.ListN.{length, take, drop, set}
+use lib.Seq.{length-take-le, getD-drop}
 use Rattle.integers.specs.Places.{at}
+use Rattle.integers.specs.Vectors.{sumOf}
 use Rattle.tables.specs.Widths.{byWidth, halfWidth}
 use Rattle.runs.specs.Answers.{told}
 use Rattle.runs.specs.declared.answer.Answer.the-variants.{Record}
 use Rattle.runs.specs.declared.answer.Found.{Found}
 use Rattle.runs.specs.declared.answer.Found.the-variants.{At, Nothing}
 use Rattle.runs.specs.declared.record.Run.{Run}
-use Rattle.runs.specs.Record.{blockLimit, frameLimit, zeros, recordOf, nextCount, opened, closed}
+use Rattle.runs.specs.Record.{blockLimit, frameLimit, zeros, recordOf, nextCount, nextTotal, opened, closed}
 use Rattle.runs.specs.Gate as Gate
 use Rattle.runs.specs.Gate.{ask, askEach, admitted, sound}
 use Rattle.runs.specs.Forward.{started, taken, ended}
 use Rattle.runs.specs.Back.{takenBack, endedBack}
+use Rattle.runs.specs.Totals.{totalLimit}
 use Rattle.runs.proofs.AskLaws.{record-refused}
 use Rattle.runs.proofs.CallLaws.{every-answer}
 use Rattle.runs.proofs.RecordLaws.{width-le}
-use Rattle.runs.proofs.Refusals.{Same, admitted-few, same-taken, same-taken-back}
+use Rattle.runs.proofs.Refusals.{Same, total-raised, admitted-passed, admitted-few, same-taken, same-taken-back}
+use Rattle.runs.proofs.TotalsFit.{forward-fits, back-fits}
+use Rattle.runs.proofs.AnswerLaws.{sound-wide}
 use Rattle.c_record.specs.Record.{runLength, isRecord, packed, unpacked}
 use Rattle.c_record.specs.Ready.{Packable}
 use Rattle.c_record.specs.Calls.{PackedResult, numbersAfter, handedToC, lappedStart, lappedTake, lappedBackTake}
-use Rattle.c_record.proofs.RecordLaws.{has-room, no-record, packed-unpacked, held-put}
+use Rattle.c_record.proofs.RecordLaws.{has-room, last-long, total-stored, no-record, packed-unpacked}
 use Rattle.c_record.proofs.AnswerLaws.{kept-refused, kept-worked}
 
--- ---- a sound record is one of 67 numbers, and its own fit
+-- ---- a sound record is one of 68 numbers, and its own fit
 module _ (numbers : List ℤ) (top : ℕ) (s : sound top (unpacked numbers) ≡ true) where
   wide : 0 < halfWidth (unpacked numbers .width)
   unfolding sound
@@ -115,6 +121,15 @@ unfolding taken takenBack
 few-either true run given out e = admitted-few frameLimit run given out _ e
 few-either false run given out e = let n = admitted-few blockLimit run given out _ e in omega arith
 
+fits-either : (back : Bool) (run : Run) (given out : List ℤ) → either back run given out .0 .0 ≡ 0 → natAbs (either back run given out .1 .total) ≤ totalLimit
+fits-either true run given out e = back-fits run given out e
+fits-either false run given out e = forward-fits run given out e
+
+long-either : (back : Bool) (run : Run) (given out : List ℤ) → either back run given out .0 .0 ≡ 0 → (length given ≤ 128) × (length out ≤ 128)
+unfolding taken takenBack
+long-either true run given out e = let p = admitted-passed frameLimit run given out _ e in let w = width-le (run .width) (sound-wide frameLimit run (p .sound-is)) in (omega (arith, p .long), omega (arith, p .room))
+long-either false run given out e = let p = admitted-passed blockLimit run given out _ e in let w = width-le (run .width) (sound-wide blockLimit run (p .sound-is)) in (omega (arith, p .long), omega (arith, p .room))
+
 handed-either : (back : Bool) (numbers given out : List ℤ) → handedToC numbers (either back (unpacked numbers) given out) ≡ cond back lappedBackTake lappedTake numbers given out
 unfolding lappedTake lappedBackTake
 handed-either true numbers given out = refl
@@ -142,33 +157,57 @@ module _ (numbers given out : List ℤ) (n : isRecord numbers ≡ false) where
       handed-is numbers (λ (r : Run). either back r given out) run run (told Record) out refl (refused-either back) a numbers p (kept-refused numbers 2 run (λ z. omega arith))
       ∙ handed-either back numbers given out
 
--- what is stored in the held values leaves the count
-second : (numbers held : List ℤ) → length numbers ≡ runLength → at (take 3 numbers ++ held) 1 ≡ at numbers 1
-second [] held l = absurd (omega arith)
-second (a ∷ []) held l = absurd (omega arith)
-second (a ∷ b ∷ numbers) held l = refl
+-- what is stored in the held values leaves the count and the total
+second : (numbers rest : List ℤ) → length numbers ≡ runLength → at (take 3 numbers ++ rest) 1 ≡ at numbers 1
+second [] rest l = absurd (omega arith)
+second (a ∷ []) rest l = absurd (omega arith)
+second (a ∷ b ∷ numbers) rest l = refl
 
-pub count-stays : (numbers held : List ℤ) → length numbers ≡ runLength → at (putMid 3 (length numbers - 3) numbers held) 1 ≡ at numbers 1
-count-stays numbers held l = ap (λ xs. at xs 1) (held-put numbers held l) ∙ second numbers held l
+pub count-stays : (numbers held : List ℤ) → length numbers ≡ runLength → at (putMid 3 64 numbers held) 1 ≡ at numbers 1
+count-stays numbers held l = second numbers (held ++ drop 64 (drop 3 numbers)) l
 
--- the call in place: the held values, then the count
-module _ (numbers : List ℤ) (r : isRecord numbers ≡ true) (run : Run) (is : run ≡ unpacked numbers) (answer : ℕ × ℕ) (held : List ℤ) where
+at-behind : (xs ys : List ℤ) (n k : ℕ) → n ≡ length xs + k → at (xs ++ ys) n ≡ at ys k
+at-behind [] ys n k e = ap (at ys) (e ∙ zero-add k)
+at-behind (x ∷ xs) ys zero k e = absurd (omega arith)
+at-behind (x ∷ xs) ys (suc n) k e = at-behind xs ys n k (omega arith)
+
+pub total-stays : (numbers held : List ℤ) → length numbers ≡ runLength → length held ≡ 64 → at (putMid 3 64 numbers held) 67 ≡ at numbers 67
+total-stays numbers held l m =
+    let last = drop 64 (drop 3 numbers) in
+    let three : length (take 3 numbers) ≡ 3 = length-take-le 3 numbers (omega arith) in
+    at-behind (take 3 numbers) (held ++ last) 67 64 (omega (arith, three))
+    ∙ at-behind held last 64 0 (omega (arith, m))
+    ∙ getD-drop 64 (drop 3 numbers) 0 (pos 0)
+    ∙ getD-drop 3 numbers 64 (pos 0)
+
+-- the call in place: the held values, then the count and the total
+module _ (numbers : List ℤ) (r : isRecord numbers ≡ true) (run : Run) (is : run ≡ unpacked numbers) (answer : ℕ × ℕ) (held readings : List ℤ) (long : length held ≡ 64) where
   abbrev after : Run
-  after = recordOf (run .width) (nextCount (answer .0) (run .count)) held (run .finished)
+  after = recordOf (run .width) (nextCount (answer .0) (run .count)) held (run .finished) (nextTotal (answer .0) (run .total) readings)
 
   abbrev left : List ℤ
-  left = set (putMid 3 (length numbers - 3) numbers held) 1 (pos (after .count))
+  left = set (set (putMid 3 64 numbers held) 1 (pos (after .count))) 67 (after .total)
 
   packed-run : packed run ≡ numbers
   packed-run = ap packed is ∙ packed-unpacked numbers r
 
   stored : left ≡ packed after
   unfolding packed
-  stored = ap (λ (l : List ℤ). set l 1 (pos (after .count))) (held-put numbers held (has-room numbers r) ∙ ap (λ (l : List ℤ). take 3 l ++ held) (sym packed-run))
+  stored =
+      ap (λ (l : List ℤ). set (set (take 3 l ++ (held ++ drop 64 (drop 3 numbers))) 1 (pos (after .count))) 67 (after .total)) (sym packed-run)
+      ∙ total-stored _ _ _ held (drop 64 (drop 3 numbers)) (after .total) long (last-long numbers (has-room numbers r))
 
   module _ (back : Bool) (given out now : List ℤ) (e : (answer, after, now) ≡ either back run given out) where
     pub few-taken : answer .0 ≡ 0 → run .count < frameLimit
     few-taken z = few-either back run given out (ap (λ (g : Gate.CallResult). g .0 .0) (sym e) ∙ z)
+
+    pub fits-taken : answer .0 ≡ 0 → natAbs (run .total +ℤ sumOf readings) ≤ totalLimit
+    fits-taken z =
+        rw (total-raised (answer .0) (run .total) readings z)
+        (subst (λ (g : Gate.CallResult). natAbs (g .1 .total) ≤ totalLimit) (sym e) (fits-either back run given out (ap (λ (g : Gate.CallResult). g .0 .0) (sym e) ∙ z)))
+
+    pub long-taken : answer .0 ≡ 0 → (length given ≤ 128) × (length out ≤ 128)
+    long-taken z = long-either back run given out (ap (λ (g : Gate.CallResult). g .0 .0) (sym e) ∙ z)
 
     kept-is : left ≡ numbersAfter (answer .0) after numbers
     kept-is = by (eqb (answer .0) 0) refl
@@ -189,7 +228,7 @@ module _ (N : ℕ) (numbers : List ℤ) where
   unfolding started opened
   start-fits l = by (eqb (halfWidth N) 0) refl
     where
-      by : (b : Bool) → eqb (halfWidth N) 0 ≡ b → Packable (cond {A = (ℕ × ℕ) × Run} b ((1, 0), opened 0 0 []) ((0, 0), opened N 0 []) .1) numbers
+      by : (b : Bool) → eqb (halfWidth N) 0 ≡ b → Packable (cond {A = (ℕ × ℕ) × Run} b ((1, 0), opened 0 0 (pos 0) []) ((0, 0), opened N 0 (pos 0) []) .1) numbers
       by true e = record { narrow = omega arith; few = omega arith; room = l }
       by false e = let h : 0 < halfWidth N = omega (arith, eqb-false (halfWidth N) 0 e) in record { narrow = omega (arith, width-le N h); few = omega arith; room = l }
 

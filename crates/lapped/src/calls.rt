@@ -2,18 +2,24 @@
 ghost use mathlib.Core.Path.{_≡_};
 ghost use mathlib.Core.Bool.{cond};
 ghost use mathlib.Core.List.{[]};
+ghost use Prim.Native.Nat.{_≤_};
+ghost use lib.IntN.{natAbs, _+ℤ_};
 ghost use lib.ListN.{length};
+ghost use Rattle.integers.specs.Vectors.{sumOf};
 ghost use Rattle.runs.specs.Answers.{told};
-ghost use Rattle.runs.specs.Record.{recordOf, nextCount};
+ghost use Rattle.runs.specs.Record.{recordOf, nextCount, nextTotal};
 ghost use Rattle.runs.specs.Forward.{taken};
 ghost use Rattle.runs.specs.Back.{takenBack};
+ghost use Rattle.runs.specs.Totals.{totalLimit};
 ghost use Rattle.c_record.specs.Calls.{lappedStart, lappedTake, lappedFinish, lappedBackTake, lappedBackFinish};
+ghost use Rattle.c_record.specs.Ready.{readingsOf};
 use c_record::answer;
 use c_record::record;
 use c_record::record::Head;
 use calls_back::back;
 use calls_forward::forward;
 use calls_forward::in_place;
+use gate::questions;
 use runs::answer::Answer;
 
 // A fresh run of a width, either way.
@@ -23,7 +29,7 @@ pub extern "C" fn lapped_start(width: usize, run: &mut [i64], place: &mut usize)
 {
     let fresh = forward::start(width);
     let answer = fresh.answer;
-    if run.len() == 67 {
+    if run.len() == 68 {
         let begun = fresh.run;
         record::pack(begun, run);
         return answer::tell(answer, place);
@@ -37,15 +43,28 @@ pub extern "C" fn lapped_start(width: usize, run: &mut [i64], place: &mut usize)
 // One code for both ways. The held values stay where they lie in the record.
 fn take_held(back: bool, head: Head, held: &mut [i64], given: &[i32], out: &mut [i32]) -> Answer
     requires { ⌜ length (now held) ≡ 64 ⌝ }
-    ensures { λ r. ⌜ (told r, recordOf (head .width) (nextCount (told r .0) (head .count)) (now (held .exit)) (head .finished), now (out .exit)) ≡ cond back takenBack taken (recordOf (head .width) (head .count) (now (held .entry)) (head .finished)) (now (given .entry)) (now (out .entry)) ⌝ }
+    ensures { λ r. ⌜ (told r, recordOf (head .width) (nextCount (told r .0) (head .count)) (now (held .exit)) (head .finished) (nextTotal (told r .0) (head .total) (readingsOf back (head .count) (now (given .entry)) (now (out .exit)))), now (out .exit)) ≡ cond back takenBack taken (recordOf (head .width) (head .count) (now (held .entry)) (head .finished) (head .total)) (now (given .entry)) (now (out .entry)) ⌝ }
 {
     let width = head.width;
     let count = head.count;
     let finished = head.finished;
+    let total = head.total;
     if back {
-        return calls_back::in_place::take(width, count, finished, held, given, out);
+        return calls_back::in_place::take(width, count, finished, total, held, given, out);
     }
-    in_place::take(width, count, finished, held, given, out)
+    in_place::take(width, count, finished, total, held, given, out)
+}
+
+// The total after it: forward of the readings given, back of those that came out.
+fn total_after(back: bool, head: Head, answer: Answer, given: &[i32], out: &[i32]) -> i64
+    requires { ⌜ (told answer .0 ≡ 0 → (length (now given) ≤ 128) × (length (now out) ≤ 128) × (natAbs (head .total +ℤ sumOf (readingsOf back (head .count) (now given) (now out))) ≤ totalLimit)) ⌝ }
+    ensures { λ r. ⌜ r ≡ nextTotal (told answer .0) (head .total) (readingsOf back (head .count) (now (given .entry)) (now (out .entry))) ⌝ }
+{
+    let total = head.total;
+    if back {
+        return calls_back::in_place::total_after(total, head.count, answer, out);
+    }
+    questions::next_total(total, answer, given)
 }
 
 fn take_either_way(
@@ -61,8 +80,9 @@ fn take_either_way(
         return answer::tell(Answer::Record, place);
     }
     let head = record::front(run);
-    let answer = take_held(back, head, &mut run[3..], given, out);
-    record::store_count(head.count, answer, run);
+    let answer = take_held(back, head, &mut run[3..67], given, out);
+    let total = total_after(back, head, answer, given, out);
+    record::store(head.count, total, answer, run);
     answer::tell(answer, place)
 }
 

@@ -10,14 +10,17 @@ use Rattle.tables.specs.Widths.{halfWidth}
 use Rattle.steps.specs.Limits.{coefficientLimit}
 use Rattle.runs.specs.Answers.{firstBeyond}
 use Rattle.runs.specs.Record.{frameLimit}
-use Rattle.text_runs.specs.Lines.{endLine, numbersIn, same}
+use Rattle.text_runs.specs.Lines.{numbersIn, endTotal}
+use Rattle.text_runs.specs.declared.number.Field.{Field}
+use Rattle.text_runs.specs.declared.number.Field.the-variants as Field
 use Rattle.reels.specs.declared.verdict.Verdict.{Verdict}
 use Rattle.reels.specs.declared.verdict.Verdict.the-variants.{Taken, Width, Full, Empty, Length, Form, OtherWidth, RunTooMany}
 use Rattle.reels.specs.declared.reel.ReelPhase.{ReelPhase}
 use Rattle.reels.specs.declared.reel.ReelPhase.the-variants.{FirstRun, Frames, NextRun, Whole, Refused}
 use Rattle.reels.specs.declared.reel.Reel.{Reel}
 use Rattle.reels.specs.Verdicts.{verdictTold}
-use Rattle.reels.specs.Reel.{runLimit, reelOver, toPhase, reelRefused, takenOr, widthAsked, rangeAsked, frameAsked, frameLine, endAsked, runLine, reelBroken}
+use Rattle.reels.specs.Reel.{runLimit, reelOver, toPhase, reelRefused, takenOr, widthAsked, rangeAsked, frameAsked, frameLine, endAsked, runLineBy, runLine, reelBroken}
+use Rattle.reel_lines.specs.Own.Totals.{isTotal}
 
 -- a line that is taken, and one that is not
 pub taken-on : (s : Reel) (told : ℕ × ℕ) (next : Reel) → told .0 ≡ 0 → takenOr s told next ≡ next
@@ -101,14 +104,20 @@ broken-stays NextRun s e = absurd (false≢true e)
 broken-stays Whole s e = refl
 broken-stays (Refused number line place) s e = refl
 
--- ---- a line behind the width, and whether it is whole
-pub end-read : (s : Reel) (bytes : List ℕ) → same bytes (endLine (s .count)) ≡ true → runLine s bytes ≡ takenOr s (verdictTold (endAsked (s .count))) (toPhase NextRun s)
-unfolding runLine
-end-read s bytes e = rw e
+-- ---- a line behind the width, by whether it has a total, and whether it is whole
+module _ (s : Reel) (bytes : List ℕ) where
+  run-line : (end : Field) → runLineBy s bytes end ≡ cond (isTotal end) (takenOr s (verdictTold (endAsked (s .count))) (toPhase NextRun s)) (frameLine s (numbersIn bytes))
+  unfolding runLineBy isTotal
+  run-line (Field.Number total) = refl
+  run-line Field.Bad = refl
 
-pub frame-read : (s : Reel) (bytes : List ℕ) → same bytes (endLine (s .count)) ≡ false → runLine s bytes ≡ frameLine s (numbersIn bytes)
-unfolding runLine
-frame-read s bytes e = rw e
+  pub end-read : isTotal (endTotal (s .count) bytes) ≡ true → runLine s bytes ≡ takenOr s (verdictTold (endAsked (s .count))) (toPhase NextRun s)
+  unfolding runLine
+  end-read e = run-line (endTotal (s .count) bytes) ∙ rw e
+
+  pub frame-read : isTotal (endTotal (s .count) bytes) ≡ false → runLine s bytes ≡ frameLine s (numbersIn bytes)
+  unfolding runLine
+  frame-read e = run-line (endTotal (s .count) bytes) ∙ rw e
 
 pub as-whole : (whole : Bool) (x y : Reel) → not whole ≡ false → x ≡ cond whole x y
 as-whole true x y e = refl

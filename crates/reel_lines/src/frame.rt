@@ -6,14 +6,14 @@ ghost use lib.ListN.{length};
 ghost use Rattle.integers.specs.Places.{at, Within};
 ghost use Rattle.steps.specs.Limits.{coefficientLimit};
 ghost use Rattle.runs.specs.Record.{frameLimit};
-ghost use Rattle.text_runs.specs.Lines.{numbersIn};
+ghost use Rattle.text_runs.specs.Lines.{numbersIn, endTotal};
 ghost use Rattle.reels.specs.Verdicts.{verdictTold};
 ghost use Rattle.reels.specs.Page.{squared};
 ghost use Rattle.reels.specs.Reel.{runLimit, toPhase, takenOr, frameAsked, squaresAdded, frameLine, endAsked, runLine};
 ghost use Rattle.reels.specs.declared.reel.ReelPhase.the-variants.{NextRun};
 ghost use Rattle.reels.specs.Limits.{SumsWithin, WithinLimits};
+ghost use Rattle.reel_lines.specs.Own.Totals.{isTotal};
 use crate::refuse;
-use decimal::compare;
 use decimal::read;
 use decimal::read::Fields;
 use gate::questions;
@@ -25,6 +25,7 @@ use reels::verdict::Verdict;
 use runs::answer::Found;
 use runs::limits;
 use slices::room;
+use text_runs::number::Field;
 
 fn square_at(frame: &[i32], i: usize) -> i64
     requires { ⌜ i < length (now frame) ⌝ }
@@ -114,11 +115,22 @@ fn end_run(reel: Reel) -> Reel
     reel::to_phase(reel, ReelPhase::NextRun)
 }
 
+// Whether a line is the end line of a run of so many frames. Frames that do not go back have no total, so its value is not asked.
+fn is_end(line: &[u8], count: usize) -> bool
+    ensures { λ r. ⌜ r ≡ isTotal (endTotal count (now (line .entry))) ⌝ }
+{
+    let end = read::end_total(line, count);
+    match end {
+        Field::Number(_total) => true,
+        Field::Bad => false,
+    }
+}
+
 pub fn take_between(reel: Reel, line: &[u8]) -> Reel
     requires { ⌜ WithinLimits reel × (length (now line) ≤ 2048) ⌝ }
     ensures { λ r. ⌜ r ≡ runLine reel (now (line .entry)) ⌝ }
 {
-    if compare::is_end(line, reel.count) {
+    if is_end(line, reel.count) {
         return end_run(reel);
     }
     take_row(reel, line)

@@ -10,13 +10,13 @@ use lib.IntN.{ℤ, pos, negsuc}
 use Rattle.text_runs.specs.declared.number.Field.{Field}
 use Rattle.text_runs.specs.declared.number.Field.the-variants as Field
 use Rattle.text_runs.specs.Decimal.{numberIn}
-use Rattle.text_runs.specs.Lines.{endLine, numbersIn, same}
+use Rattle.text_runs.specs.Lines.{numbersIn, endTotal}
 use Rattle.text_runs.proofs.UpToLaws.{tested}
 use Rattle.feeding.specs.Program.{handed}
 use Rattle.reels.specs.declared.reel.Reel.{Reel}
 use Rattle.reels.specs.declared.reel.ReelPhase.{ReelPhase}
 use Rattle.reels.specs.declared.reel.ReelPhase.the-variants.{FirstRun, Frames, NextRun, Whole, Refused}
-use Rattle.reels.specs.Reel.{reelOver, toPhase, reelRefused, takenOr, runBegun, widthLine, frameAdded, frameLine, runLine, reelTaken, reelBroken, reelEnded, reelSays, reelGiven}
+use Rattle.reels.specs.Reel.{reelOver, toPhase, reelRefused, takenOr, runBegun, widthLine, frameAdded, frameLine, runLineBy, runLine, reelTaken, reelBroken, reelEnded, reelSays, reelGiven}
 use Rattle.reels.specs.Limits.{WithinLimits}
 use Rattle.reels.specs.Program.{reelIsOver, reelLine, reelCut, reelLast, reelProgram}
 use Rattle.reels.proofs.LimitsKept.{limits-kept}
@@ -61,16 +61,16 @@ unfolding isWhole frameLine frameAdded reelRefused toPhase
 frame-no-page s none = refl
 frame-no-page s (some frame) = taken-no-page s _ (frameAdded s frame) refl
 
-run-no-page : (s : Reel) (bytes : List ℕ) → isWhole (runLine s bytes .phase) ≡ false
-unfolding isWhole runLine toPhase
-run-no-page s bytes =
-    ⊎-elim (λ e. rw e (taken-no-page s _ (toPhase NextRun s) refl)) (λ e. rw e (frame-no-page s (numbersIn bytes))) (tested (same bytes (endLine (s .count))))
+run-no-page : (s : Reel) (bytes : List ℕ) (field : Field) → isWhole (runLineBy s bytes field .phase) ≡ false
+unfolding isWhole runLineBy toPhase
+run-no-page s bytes (Field.Number total) = taken-no-page s _ (toPhase NextRun s) refl
+run-no-page s bytes Field.Bad = frame-no-page s (numbersIn bytes)
 
 line-no-page : (phase : ReelPhase) (s : Reel) (whole : Bool) (bytes : List ℕ) → reelOver phase ≡ false → isWhole (cond whole (reelTaken phase s bytes) (reelBroken phase s) .phase) ≡ false
-unfolding isWhole reelTaken reelBroken reelRefused toPhase reelOver
+unfolding isWhole reelTaken runLine reelBroken reelRefused toPhase reelOver
 line-no-page FirstRun s true bytes on = width-no-page s (numberIn bytes)
 line-no-page FirstRun s false bytes on = refl
-line-no-page Frames s true bytes on = run-no-page s bytes
+line-no-page Frames s true bytes on = run-no-page s bytes (endTotal (s .count) bytes)
 line-no-page Frames s false bytes on = refl
 line-no-page NextRun s true bytes on = width-no-page s (numberIn bytes)
 line-no-page NextRun s false bytes on = refl

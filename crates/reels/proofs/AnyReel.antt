@@ -11,7 +11,7 @@ use Rattle.integers.specs.Vectors.{Rows}
 use Rattle.distance.specs.Statement.{IsWidth}
 use Rattle.runs.specs.Record.{frameLimit}
 use Rattle.runs.proofs.RecordLaws.{width-le}
-use Rattle.text_runs.specs.Decimal.{decimal}
+use Rattle.text_runs.specs.Decimal.{decimal, bits64}
 use Rattle.text_runs.specs.Lines.{endLine}
 use Rattle.text_runs.specs.Input.{Line, linesOf}
 use Rattle.text_runs.proofs.RowLaws.{row-no-feed}
@@ -21,7 +21,7 @@ use Rattle.reels.specs.declared.reel.Reel.{Reel}
 use Rattle.reels.specs.Verdicts.{verdictTold}
 use Rattle.reels.specs.Reel.{runLimit, reelBegun, reelOver, toPhase, runBegun, squaresAdded, frameAdded, reelTaken, reelBroken, reelEnded}
 use Rattle.reels.specs.Program.{reelIsOver}
-use Rattle.reels.specs.EveryReel.{FramesInRange, EachRun, textsOf}
+use Rattle.reels.specs.EveryReel.{FramesAndTotal, FramesInRange, EachRun, textsOf}
 use Rattle.reels.proofs.ReelSteps.{reelAt}
 use Rattle.reels.proofs.ReelTexts.{texts-lines}
 use Rattle.reels.proofs.AnyReelLine.{WholeLine, width-is, FrameIs, run-line-is}
@@ -29,34 +29,51 @@ use Rattle.reels.proofs.ReelRefusals.{Refuses, refused-end, whole-are, 
 
 -- ---- the lines of runs, behind so many; and those of the other frames of a run, behind so many of its frames, and of the runs behind
 pub record RunsAre (N runs : ℕ) (lines : List Line) : Type 0 where
-  pub more : List (List (List ℤ))
+  pub more : List FramesAndTotal
   pub each : EachRun N more
   pub few : runs + length more ≤ runLimit
   pub lines-are : lines ≡ linesOf (textsOf N more)
 
 pub record FramesAre (N runs count : ℕ) (lines : List Line) : Type 0 where
   pub frames : List (List ℤ)
-  pub total : ℕ
-  pub counted : total ≡ count + length frames
+  pub total : ℤ
+  pub bits : bits64 total
+  pub all : ℕ
+  pub counted : all ≡ count + length frames
   pub rows : Rows N frames
   pub within : FramesInRange frames
-  pub some : 1 ≤ total
-  pub few : total ≤ frameLimit
+  pub some : 1 ≤ all
+  pub few : all ≤ frameLimit
   pub behind : List Line
   pub runs-are : RunsAre N runs behind
-  pub lines-are : lines ≡ linesBetween frames ((true, endLine total) ∷ behind)
+  pub lines-are : lines ≡ linesBetween frames ((true, endLine all total) ∷ behind)
 
 -- a line in front: the end line, a frame, a width
 module _ (N runs count : ℕ) (lines : List Line) where
-  end-front : 1 ≤ count → count ≤ frameLimit → RunsAre N runs lines → FramesAre N runs count ((true, endLine count) ∷ lines)
+  end-front : (total : ℤ) → bits64 total → 1 ≤ count → count ≤ frameLimit → RunsAre N runs lines → FramesAre N runs count ((true, endLine count total) ∷ lines)
   unfolding FramesInRange linesBetween
-  end-front h l r = record { frames = []; total = count; counted = omega arith; rows = tt; within = tt; some = h; few = l; behind = lines; runs-are = r; lines-are = refl }
+  end-front total bits h l r = record {
+    frames = [];
+    total = total;
+    bits = bits;
+    all = count;
+    counted = omega arith;
+    rows = tt;
+    within = tt;
+    some = h;
+    few = l;
+    behind = lines;
+    runs-are = r;
+    lines-are = refl;
+  }
 
   frame-front : (s : Reel) (bytes : List ℕ) (after : Reel) → s .width ≡ N → FrameIs s bytes after → FramesAre N runs (suc count) lines → FramesAre N runs count ((true, bytes) ∷ lines)
   unfolding FramesInRange linesBetween
   frame-front s bytes after w f r = record {
     frames = f .frame ∷ r .frames;
     total = r .total;
+    bits = r .bits;
+    all = r .all;
     counted = omega (arith, r .counted);
     rows = (f .long ∙ w, r .rows);
     within = (f .within, r .within);
@@ -70,15 +87,15 @@ module _ (N runs count : ℕ) (lines : List Line) where
 width-front : (N runs : ℕ) (lines : List Line) → FramesAre N (suc runs) 0 lines → RunsAre N runs ((true, decimal N) ∷ lines)
 unfolding EachRun
 width-front N runs lines r =
-    let t : r .total ≡ length (r .frames) = omega (arith, r .counted) in
+    let t : r .all ≡ length (r .frames) = omega (arith, r .counted) in
     record {
-      more = r .frames ∷ r .runs-are .more;
-      each = (record { rows = r .rows; within = r .within; some = omega (arith, r .some); few = omega (arith, r .few) }, r .runs-are .each);
+      more = (r .frames, r .total) ∷ r .runs-are .more;
+      each = (record { rows = r .rows; within = r .within; some = omega (arith, r .some); few = omega (arith, r .few) }, r .bits, r .runs-are .each);
       few = omega (arith, r .runs-are .few);
       lines-are =
           ap (λ (ls : List Line). (true, decimal N) ∷ ls)
-          (r .lines-are ∙ ap₂ (λ (n : ℕ) (ls : List Line). linesBetween (r .frames) ((true, endLine n) ∷ ls)) t (r .runs-are .lines-are))
-          ∙ sym (texts-lines N (r .frames) (r .runs-are .more));
+          (r .lines-are ∙ ap₂ (λ (n : ℕ) (ls : List Line). linesBetween (r .frames) ((true, endLine n (r .total)) ∷ ls)) t (r .runs-are .lines-are))
+          ∙ sym (texts-lines N (r .frames, r .total) (r .runs-are .more));
     }
 
 -- ---- line by line
@@ -120,8 +137,8 @@ module _ (N runs count frames : ℕ) (sums : List ℤ) (n : N ≤ 128) (h : 1 �
       by-whole s refl line lines (FramesAre N runs count (line ∷ lines)) refl
       (λ w. ⊎-elim
       (λ f. ⊎-elim
-      (λ r. inl (whole-are line lines w (FramesAre N runs count) (f .bytes-are) (end-front N runs count lines (f .some) c r)))
-      (λ r. inr (refused-behind s refl line lines w (toPhase NextRun s) (rw (f .bytes-are) (end-no-feed count)) (f .after-is) refl r))
+      (λ r. inl (whole-are line lines w (FramesAre N runs count) (f .bytes-are) (end-front N runs count lines (f .total) (f .bits) (f .some) c r)))
+      (λ r. inr (refused-behind s refl line lines w (toPhase NextRun s) (rw (f .bytes-are) (end-no-feed count (f .total))) (f .after-is) refl r))
       (next N runs count frames sums n h l))
       (⊎-elim
       (λ f. ⊎-elim
@@ -150,7 +167,7 @@ pub record ReelIs (lines : List Line) : Type 0 where
   pub runs-are : RunsAre width 0 lines
   pub some : 1 ≤ length (runs-are .more)
 
-lines-some : (N : ℕ) (line : Line) (lines : List Line) (more : List (List (List ℤ))) → line ∷ lines ≡ linesOf (textsOf N more) → 1 ≤ length more
+lines-some : (N : ℕ) (line : Line) (lines : List Line) (more : List FramesAndTotal) → line ∷ lines ≡ linesOf (textsOf N more) → 1 ≤ length more
 unfolding textsOf linesOf
 lines-some N line lines [] e = absurd (let z : _≡_ {A = ℕ} 0 1 = cc in omega arith)
 lines-some N line lines (run ∷ more) e = omega arith

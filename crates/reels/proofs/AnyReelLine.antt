@@ -18,14 +18,14 @@ use Rattle.runs.specs.Answers.{firstWhere, firstBeyond}
 use Rattle.runs.specs.Record.{frameLimit}
 use Rattle.text_runs.specs.declared.number.Field.{Field}
 use Rattle.text_runs.specs.declared.number.Field.the-variants as Field
-use Rattle.text_runs.specs.Decimal.{decimal, printed, numberIn}
-use Rattle.text_runs.specs.Lines.{row, endLine, numbersIn, same}
+use Rattle.text_runs.specs.Decimal.{decimal, printed, numberIn, bits64}
+use Rattle.text_runs.specs.Lines.{row, endLine, numbersIn, endTotal}
 use Rattle.text_runs.specs.Line.{lineLimit}
 use Rattle.text_runs.specs.Input.{Line}
 use Rattle.text_runs.specs.EveryInput.{among}
 use Rattle.text_runs.proofs.UpToLaws.{tested}
 use Rattle.text_runs.proofs.Inverse.{printed-read, row-read}
-use Rattle.text_runs.proofs.AnyLine.{same-is}
+use Rattle.text_runs.proofs.EndRead.{end-only}
 use Rattle.feeding.specs.Program.{handed}
 use Rattle.feeding.specs.Lines.{lineHanded}
 use Rattle.reels.specs.declared.verdict.Verdict.{Verdict}
@@ -33,7 +33,7 @@ use Rattle.reels.specs.declared.verdict.Verdict.the-variants.{Taken, Wid
 use Rattle.reels.specs.declared.reel.ReelPhase.the-variants.{NextRun}
 use Rattle.reels.specs.declared.reel.Reel.{Reel}
 use Rattle.reels.specs.Verdicts.{verdictTold}
-use Rattle.reels.specs.Reel.{runLimit, toPhase, reelRefused, takenOr, widthAsked, runBegun, widthLine, rangeAsked, frameAsked, frameAdded, frameLine, endAsked, runLine, reelBroken, reelGiven}
+use Rattle.reels.specs.Reel.{runLimit, toPhase, reelRefused, takenOr, widthAsked, runBegun, widthLine, rangeAsked, frameAsked, frameAdded, frameLine, endAsked, runLineBy, runLine, reelBroken, reelGiven}
 use Rattle.reels.specs.Program.{reelCut, reelProgram}
 use Rattle.reels.proofs.LimitsKept.{first-or-same, frame-passed}
 
@@ -165,7 +165,9 @@ frame-is s bytes = by (numbersIn bytes) refl
 -- ---- the end line
 pub record EndIs (s : Reel) (bytes : List ℕ) (after : Reel) : Type 0 where
   pub some : 1 ≤ s .count
-  pub bytes-are : bytes ≡ endLine (s .count)
+  pub total : ℤ
+  pub bits : bits64 total
+  pub bytes-are : bytes ≡ endLine (s .count) total
   pub after-is : after ≡ toPhase NextRun s
 
 end-passed : (count : ℕ) → verdictTold (endAsked count) .0 ≡ 0 → 1 ≤ count
@@ -181,12 +183,14 @@ unfolding endAsked verdictTold
 end-placed count = ⊎-elim (λ e. rw e (omega arith)) (λ e. rw e (omega arith)) (tested (eqb count 0))
 
 pub run-line-is : (s : Reel) (bytes : List ℕ) → EndIs s bytes (runLine s bytes) ⊎ FrameIs s bytes (runLine s bytes) ⊎ RefusedTo s (runLine s bytes)
-unfolding runLine
-run-line-is s bytes =
-    ⊎-elim
-    (λ e. rw e (⊎-elim
-    (λ t. inl (record { some = end-passed (s .count) (t .taken); bytes-are = same-is bytes (endLine (s .count)) e; after-is = t .after-is }))
-    (λ r. inr (inr r))
-    (by-verdict s (endAsked (s .count)) (toPhase NextRun s) (λ _. end-placed (s .count)))))
-    (λ e. rw e (inr (frame-is s bytes)))
-    (tested (same bytes (endLine (s .count))))
+unfolding runLine runLineBy
+run-line-is s bytes = by (endTotal (s .count) bytes) refl
+  where
+    by : (f : Field) → endTotal (s .count) bytes ≡ f → EndIs s bytes (runLineBy s bytes f) ⊎ FrameIs s bytes (runLineBy s bytes f) ⊎ RefusedTo s (runLineBy s bytes f)
+    by (Field.Number total) e =
+        let only = end-only (s .count) total bytes e in
+        ⊎-elim
+        (λ t. inl (record { some = end-passed (s .count) (t .taken); total = total; bits = only .1; bytes-are = only .0; after-is = t .after-is }))
+        (λ r. inr (inr r))
+        (by-verdict s (endAsked (s .count)) (toPhase NextRun s) (λ _. end-placed (s .count)))
+    by Field.Bad e = inr (frame-is s bytes)

@@ -23,7 +23,7 @@ sums-behind k (frame ∷ a) b =
 pub sums-added : SumsAdded
 unfolding allFrames added sumOfSquares
 sums-added k [] = refl
-sums-added k (run ∷ runs) = sums-behind k run (allFrames runs) ∙ ap (λ (s : ℤ). sumOfSquares k run +ℤ s) (sums-added k runs)
+sums-added k (run ∷ runs) = sums-behind k (run .0) (allFrames runs) ∙ ap (λ (s : ℤ). sumOfSquares k (run .0) +ℤ s) (sums-added k runs)
 
 -- ---- a page is told by its sums and its count
 sums-same : (k n : ℕ) (a b : List (List ℤ)) → ((i : ℕ) → sumOfSquares i a ≡ sumOfSquares i b) → sumsFrom k n a ≡ sumsFrom k n b

@@ -21,14 +21,14 @@ use Rattle.runs.proofs.Searches.{none-within, all-within}
 use Rattle.text_runs.specs.declared.number.Field.{Field}
 use Rattle.text_runs.specs.declared.number.Field.the-variants as Field
 use Rattle.text_runs.specs.Decimal.{numberIn}
-use Rattle.text_runs.specs.Lines.{endLine, numbersIn, same}
+use Rattle.text_runs.specs.Lines.{numbersIn, endTotal}
 use Rattle.text_runs.proofs.UpToLaws.{tested}
 use Rattle.reels.specs.declared.verdict.Verdict.the-variants.{Taken, Width, Full, Length, OtherWidth, RunTooMany}
 use Rattle.reels.specs.declared.reel.ReelPhase.{ReelPhase}
 use Rattle.reels.specs.declared.reel.ReelPhase.the-variants.{FirstRun, Frames, NextRun, Whole, Refused}
 use Rattle.reels.specs.declared.reel.Reel.{Reel}
 use Rattle.reels.specs.Verdicts.{verdictTold}
-use Rattle.reels.specs.Reel.{runLimit, reelBegun, toPhase, reelRefused, takenOr, widthAsked, runBegun, widthLine, rangeAsked, frameAsked, frameAdded, frameLine, runLine, reelTaken, reelBroken, reelEnded}
+use Rattle.reels.specs.Reel.{runLimit, reelBegun, toPhase, reelRefused, takenOr, widthAsked, runBegun, widthLine, rangeAsked, frameAsked, frameAdded, frameLine, runLineBy, runLine, reelTaken, reelBroken, reelEnded}
 use Rattle.reels.specs.Limits.{framesLeft, WithinLimits, LimitsKept, SumsFit}
 use Rattle.reels.proofs.SumLaws.{squares-added, no-sums}
 
@@ -134,16 +134,15 @@ phase-kept : (phase : ReelPhase) (s : Reel) → framesLeft phase (s .count) ≡ 
 unfolding toPhase
 phase-kept phase s e w = record { runs = w .runs; narrow = w .narrow; fours = w .fours; count = w .count; frames = omega (arith, w .frames, e); sums = w .sums }
 
-line-kept : (s : Reel) (bytes : List ℕ) → s .phase ≡ Frames → WithinLimits s → WithinLimits (runLine s bytes)
-unfolding runLine framesLeft
-line-kept s bytes p w =
-    ⊎-elim (λ e. rw e (taken-or s _ (toPhase NextRun s) w (λ _. phase-kept NextRun s refl w))) (λ e. rw e (frame-kept s (numbersIn bytes) p w))
-    (tested (same bytes (endLine (s .count))))
+line-kept : (s : Reel) (bytes : List ℕ) (field : Field) → s .phase ≡ Frames → WithinLimits s → WithinLimits (runLineBy s bytes field)
+unfolding runLineBy framesLeft
+line-kept s bytes (Field.Number total) p w = taken-or s _ (toPhase NextRun s) w (λ _. phase-kept NextRun s refl w)
+line-kept s bytes Field.Bad p w = frame-kept s (numbersIn bytes) p w
 
 taken-kept : (phase : ReelPhase) (s : Reel) (bytes : List ℕ) → s .phase ≡ phase → WithinLimits s → WithinLimits (reelTaken phase s bytes)
-unfolding reelTaken
+unfolding reelTaken runLine
 taken-kept FirstRun s bytes p w = width-kept s (numberIn bytes) w
-taken-kept Frames s bytes p w = line-kept s bytes p w
+taken-kept Frames s bytes p w = line-kept s bytes (endTotal (s .count) bytes) p w
 taken-kept NextRun s bytes p w = width-kept s (numberIn bytes) w
 taken-kept Whole s bytes p w = w
 taken-kept (Refused number line place) s bytes p w = w

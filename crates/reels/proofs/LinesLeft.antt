@@ -12,14 +12,14 @@ use lib.IntN.{ℤ, pos, negsuc}
 use Rattle.text_runs.specs.declared.number.Field.{Field}
 use Rattle.text_runs.specs.declared.number.Field.the-variants as Field
 use Rattle.text_runs.specs.Decimal.{numberIn}
-use Rattle.text_runs.specs.Lines.{endLine, numbersIn, same}
+use Rattle.text_runs.specs.Lines.{numbersIn, endTotal}
 use Rattle.text_runs.proofs.UpToLaws.{tested}
 use Rattle.feeding.specs.Budget.{Bounded}
 use Rattle.feeding.proofs.BudgetLaws.{over-within-budget}
 use Rattle.reels.specs.declared.reel.ReelPhase.{ReelPhase}
 use Rattle.reels.specs.declared.reel.ReelPhase.the-variants.{FirstRun, Frames, NextRun, Whole, Refused}
 use Rattle.reels.specs.declared.reel.Reel.{Reel}
-use Rattle.reels.specs.Reel.{runLimit, reelBegun, reelOver, toPhase, reelRefused, takenOr, runBegun, widthLine, frameAdded, frameLine, runLine, reelTaken, reelGiven}
+use Rattle.reels.specs.Reel.{runLimit, reelBegun, reelOver, toPhase, reelRefused, takenOr, runBegun, widthLine, frameAdded, frameLine, runLineBy, runLine, reelTaken, reelGiven}
 use Rattle.reels.specs.Program.{reelIsOver, reelLine, reelProgram, reelLeftIn, reelLinesLeft}
 use Rattle.reels.specs.EveryReel.{ReelOverWithin}
 use Rattle.reels.proofs.LimitsKept.{width-passed, frame-passed}
@@ -46,18 +46,18 @@ module _ (s : Reel) (left : 0 < reelLinesLeft s) where
     frame-falls none = refused-falls s _ left
     frame-falls (some frame) = taken-falls s _ (frameAdded s frame) left (λ e. rw p (omega (arith, frame-passed (s .width) (s .count) frame e .0)))
 
-    line-falls : (bytes : List ℕ) → reelLinesLeft (runLine s bytes) < reelLinesLeft s
-    unfolding runLine toPhase reelLeftIn
-    line-falls bytes =
-        ⊎-elim (λ e. rw e (taken-falls s _ (toPhase NextRun s) left (λ _. rw p (omega arith)))) (λ e. rw e (frame-falls (numbersIn bytes))) (tested (same bytes (endLine (s .count))))
+    line-falls : (bytes : List ℕ) (field : Field) → reelLinesLeft (runLineBy s bytes field) < reelLinesLeft s
+    unfolding runLineBy toPhase reelLeftIn
+    line-falls bytes (Field.Number total) = taken-falls s _ (toPhase NextRun s) left (λ _. rw p (omega arith))
+    line-falls bytes Field.Bad = frame-falls (numbersIn bytes)
 
 lines-fall : (s : Reel) (bytes : List ℕ) → reelIsOver s ≡ false → reelLinesLeft (reelLine s bytes .0) < reelLinesLeft s
-unfolding reelLine reelGiven reelTaken reelOver reelLeftIn
+unfolding reelLine reelGiven reelTaken runLine reelOver reelLeftIn
 lines-fall s bytes on = by (s .phase) refl on
   where
     by : (phase : ReelPhase) → s .phase ≡ phase → reelOver phase ≡ false → reelLinesLeft (reelTaken phase s bytes) < reelLinesLeft s
     by FirstRun p on = width-falls s (rw p (omega arith)) (λ h. rw p (omega (arith, h))) (numberIn bytes)
-    by Frames p on = line-falls s (rw p (omega arith)) p bytes
+    by Frames p on = line-falls s (rw p (omega arith)) p bytes (endTotal (s .count) bytes)
     by NextRun p on = width-falls s (rw p (omega arith)) (λ h. rw p (omega (arith, h))) (numberIn bytes)
     by Whole p on = absurd (false≢true (sym on))
     by (Refused number line place) p on = absurd (false≢true (sym on))

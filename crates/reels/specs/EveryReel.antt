@@ -12,6 +12,7 @@ use Rattle.integers.specs.Vectors.{AllAbs, Rows}
 use Rattle.steps.specs.Limits.{coefficientLimit}
 use Rattle.distance.specs.Statement.{IsWidth}
 use Rattle.runs.specs.Record.{frameLimit}
+use Rattle.text_runs.specs.Decimal.{bits64}
 use Rattle.text_runs.specs.Lines.{lineFeed}
 use Rattle.text_runs.specs.Return.{textOf}
 use Rattle.text_runs.specs.EveryInput.{refusalLine, among}
@@ -22,7 +23,11 @@ use Rattle.reels.specs.Page.{pageOf}
 use Rattle.reels.specs.Reel.{runLimit, reelBegun}
 use Rattle.reels.specs.Program.{reelIsOver, reelProgram, reelPrinted}
 
--- ---- the runs of a reel: each from 1 to 65,537 frames of N coefficients within ±1,048,576, and 1 to 100 of them
+-- ---- the runs of a reel: each from 1 to 65,537 frames of N coefficients within ±1,048,576, with any total of 64 bits, and 1 to 100 of them.
+-- Frames that do not go back have no total, so its value is not asked.
+abbrev pub FramesAndTotal : Type 0
+FramesAndTotal = List (List ℤ) × ℤ
+
 unfoldable pub FramesInRange : List (List ℤ) → Type 0
 FramesInRange [] = Unit {0}
 FramesInRange (frame ∷ frames) = AllAbs coefficientLimit frame × FramesInRange frames
@@ -33,29 +38,29 @@ pub record RunOf (N : ℕ) (frames : List (List ℤ)) : Type 0 where
   pub some : 1 ≤ length frames
   pub few : length frames ≤ frameLimit
 
-unfoldable pub EachRun : ℕ → List (List (List ℤ)) → Type 0
+unfoldable pub EachRun : ℕ → List FramesAndTotal → Type 0
 EachRun N [] = Unit {0}
-EachRun N (run ∷ runs) = RunOf N run × EachRun N runs
+EachRun N (run ∷ runs) = RunOf N (run .0) × bits64 (run .1) × EachRun N runs
 
-pub record ReelOf (N : ℕ) (runs : List (List (List ℤ))) : Type 0 where
+pub record ReelOf (N : ℕ) (runs : List FramesAndTotal) : Type 0 where
   pub wide : IsWidth N
   pub each : EachRun N runs
   pub some : 1 ≤ length runs
   pub few : length runs ≤ runLimit
 
 -- their texts, one behind the other, and all their frames
-unfoldable pub textsOf : ℕ → List (List (List ℤ)) → List ℕ
+unfoldable pub textsOf : ℕ → List FramesAndTotal → List ℕ
 textsOf N [] = []
-textsOf N (run ∷ runs) = textOf N run ++ textsOf N runs
+textsOf N (run ∷ runs) = textOf N (run .0) (run .1) ++ textsOf N runs
 
-unfoldable pub allFrames : List (List (List ℤ)) → List (List ℤ)
+unfoldable pub allFrames : List FramesAndTotal → List (List ℤ)
 allFrames [] = []
-allFrames (run ∷ runs) = run ++ allFrames runs
+allFrames (run ∷ runs) = run .0 ++ allFrames runs
 
 -- ---- accepted, or refused by one line
 pub record ReelAccepted (input : List ℕ) : Type 0 where
   pub width : ℕ
-  pub runs : List (List (List ℤ))
+  pub runs : List FramesAndTotal
   pub reel : ReelOf width runs
   pub input-is : input ≡ textsOf width runs
   pub printed-is : reelPrinted input ≡ pageOf width (allFrames runs)
@@ -86,7 +91,7 @@ pub record RefusedAlone (input : List ℕ) : Type 0 where
 
 -- 1. The texts of the runs of any reel print the page of all their frames.
 abbrev pub EveryReelPrinted : Type 0
-EveryReelPrinted = (N : ℕ) (runs : List (List (List ℤ))) → ReelOf N runs → reelPrinted (textsOf N runs) ≡ pageOf N (allFrames runs)
+EveryReelPrinted = (N : ℕ) (runs : List FramesAndTotal) → ReelOf N runs → reelPrinted (textsOf N runs) ≡ pageOf N (allFrames runs)
 
 -- 2. Every input is accepted or refused, and what is printed tells which.
 pub record EveryReel (input : List ℕ) : Type 0 where

@@ -5,7 +5,7 @@ use Prim.Native.Nat.{ℕ}
 use lib.IntN.{ℤ, pos, _+ℤ_}
 use Rattle.reels.specs.Page.{sumOfSquares, pageOf}
 use Rattle.reels.specs.Program.{reelPrinted}
-use Rattle.reels.specs.EveryReel.{ReelOf, textsOf, allFrames}
+use Rattle.reels.specs.EveryReel.{FramesAndTotal, ReelOf, textsOf, allFrames}
 
 -- exchanging two frames of a reel does not change the page
 abbrev pub FramesExchanged : Type 0
@@ -15,7 +15,7 @@ FramesExchanged =
 -- nor does exchanging two runs
 abbrev pub RunsExchanged : Type 0
 RunsExchanged =
-    (N : ℕ) (x y : List (List ℤ)) (front between behind : List (List (List ℤ)))
+    (N : ℕ) (x y : FramesAndTotal) (front between behind : List FramesAndTotal)
     → ReelOf N (front ++ x ∷ between ++ y ∷ behind) → reelPrinted (textsOf N (front ++ x ∷ between ++ y ∷ behind)) ≡ reelPrinted (textsOf N (front ++ y ∷ between ++ x ∷ behind))
 
 -- the sums of a reel are the sums of its runs, added
@@ -24,4 +24,4 @@ added [] = pos 0
 added (x ∷ xs) = x +ℤ added xs
 
 abbrev pub SumsAdded : Type 0
-SumsAdded = (k : ℕ) (runs : List (List (List ℤ))) → sumOfSquares k (allFrames runs) ≡ added (map (sumOfSquares k) runs)
+SumsAdded = (k : ℕ) (runs : List FramesAndTotal) → sumOfSquares k (allFrames runs) ≡ added (map (λ run. sumOfSquares k (run .0)) runs)

@@ -15,7 +15,7 @@ use Rattle.runs.specs.Record.{frameLimit, zeros}
 use Rattle.text_runs.specs.declared.number.Field.{Field}
 use Rattle.text_runs.specs.declared.number.Field.the-variants as Field
 use Rattle.text_runs.specs.Decimal.{numberIn}
-use Rattle.text_runs.specs.Lines.{endLine, numbersIn, same}
+use Rattle.text_runs.specs.Lines.{numbersIn, endTotal}
 use Rattle.text_runs.specs.EveryInput.{refusalLine}
 use Rattle.reels.specs.declared.verdict.Verdict.{Verdict}
 use Rattle.reels.specs.declared.verdict.Verdict.the-variants.{Taken, Width, Full, Empty, Length, Range, Form, OtherWidth, RunTooMany}
@@ -103,13 +103,16 @@ unfoldable pub frameLine : Reel → Option (List ℤ) → Reel
 frameLine s none = reelRefused s (verdictTold Form)
 frameLine s (some frame) = takenOr s (verdictTold (frameAsked (s .width) (s .count) frame)) (frameAdded s frame)
 
--- ---- the end line, with its run's count: 5
+-- ---- the end line, with its run's count: 5. Its total is any number of 64 bits.
 unfoldable pub endAsked : ℕ → Verdict
 endAsked count = cond (eqb count 0) Empty Taken
 
+unfoldable pub runLineBy : Reel → List ℕ → Field → Reel
+runLineBy s bytes (Field.Number total) = takenOr s (verdictTold (endAsked (s .count))) (toPhase NextRun s)
+runLineBy s bytes Field.Bad = frameLine s (numbersIn bytes)
+
 unfoldable pub runLine : Reel → List ℕ → Reel
-runLine s bytes =
-    cond (same bytes (endLine (s .count))) (takenOr s (verdictTold (endAsked (s .count))) (toPhase NextRun s)) (frameLine s (numbersIn bytes))
+runLine s bytes = runLineBy s bytes (endTotal (s .count) bytes)
 
 -- ---- a whole line, a broken one, and the end of the input, by what should come
 unfoldable pub reelTaken : ReelPhase → Reel → List ℕ → Reel

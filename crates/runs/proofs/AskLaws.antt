@@ -5,7 +5,7 @@ use mathlib.Core.List.{List, []}
 use Prim.Native.Nat.{ℕ, _≤_}
 use native.Mathlib.Omega.{arith}
 use borrow.Author.Tests.{lt-ltb, le-ltb, leb-true, eq-eqb, ne-eqb}
-use lib.IntN.{ℤ}
+use lib.IntN.{ℤ, pos}
 use lib.ListN.{length}
 use Rattle.tables.specs.Widths.{halfWidth}
 use Rattle.runs.specs.Answers.{told}
@@ -29,11 +29,11 @@ module _ {o : Outcome} {run : Run} {answer : Answer} (e : o ≡ outcomeOf run an
 -- ---- a fresh start
 module _ (N : ℕ) (held : List ℤ) (h : held ≡ zeros 64) where
   abbrev fresh : ℕ → Run
-  fresh n = record { width = n; count = 0; held = held; finished = false }
+  fresh n = record { width = n; count = 0; held = held; finished = false; total = pos 0 }
 
-  fresh-is : (n : ℕ) → fresh n ≡ opened n 0 []
+  fresh-is : (n : ℕ) → fresh n ≡ opened n 0 (pos 0) []
   unfolding opened zeroPadded
-  fresh-is n = ap (λ xs. record { width = n; count = 0; held = xs; finished = false }) h
+  fresh-is n = ap (λ xs. record { width = n; count = 0; held = xs; finished = false; total = pos 0 }) h
 
   pub start-refused : halfWidth N ≡ 0 → (told Width, fresh 0) ≡ started N
   unfolding told started

@@ -2,15 +2,16 @@
 use mathlib.Core.Path.{_≡_, refl, ap, _∙_}
 use mathlib.Core.Bool.{Bool, true, false, cond}
 use mathlib.Core.List.{List, [], _∷_, _++_}
-use Prim.Native.Nat.{ℕ, suc, _≤_, _<_, zero-le}
+use Prim.Native.Nat.{ℕ, suc, _-_, _*_, _≤_, _<_, zero-le}
 use native.Mathlib.Omega.{arith}
 use borrow.Author.Tests.{lt-ltb, eq-eqb}
 use lib.Dec.{eqb·suc-zero}
-use lib.IntN.{ℤ, pos}
+use lib.IntN.{ℤ, pos, natAbs, _+ℤ_}
 use lib.ListN.{length, take, drop, length-append, length-replicate}
 use lib.Seq.{take-at, drop-at}
-use Rattle.integers.specs.Vectors.{AllAbs}
+use Rattle.integers.specs.Vectors.{sumOf, AllAbs}
 use Rattle.integers.proofs.Products.{all-append, all-getD}
+use Rattle.integers.proofs.Sums.{sum-none}
 use Rattle.tables.specs.Widths.{halfWidth}
 use Rattle.steps.specs.Limits.{readingLimit, foldedLimit, coefficientLimit}
 use Rattle.steps.specs.Steps.{lower, held, frame, unstages, unfolded}
@@ -28,40 +29,49 @@ use Rattle.runs.specs.Record.{frameLimit, zeros, opened, closed}
 use Rattle.runs.specs.Forward.{started}
 use Rattle.runs.specs.Gate.{CallResult, ask, allYes, sound, inside, nothing, admitted}
 use Rattle.runs.proofs.Searches.{inside-all}
-use Rattle.runs.proofs.RecordLaws.{length-frame, take-filled, open-sound}
+use Rattle.runs.proofs.RecordLaws.{length-frame, take-filled, blocks-back, added-limit, open-sound}
 use Rattle.runs.proofs.CallLaws.{Decided, granted, asked-each}
 use Rattle.runs.proofs.EveryList.{started-open}
 use Rattle.runs.specs.Back.{framed, blockOn, firstUpper, firstFrame, laterFrame, unfoldedIn, undoneIn, takenBack, firstHeld, endedBack}
 
 -- a fresh start, where nothing is held
-pub started-back : (N : ℕ) → IsWidth N → started N .1 ≡ opened N 0 (zeros (halfWidth N))
-started-back N w = started-open N w ∙ ap (opened N 0) (held-zeros N N)
+pub started-back : (N : ℕ) → IsWidth N → started N .1 ≡ opened N 0 (pos 0) (zeros (halfWidth N))
+started-back N w = started-open N w ∙ ap (opened N 0 (pos 0)) (held-zeros N N)
 
--- ---- the record: `low` is the lower half of the last of b frames, or zeros before the first
-pub record ReachedBack (N b : ℕ) (low : List ℤ) : Type 0 where
+-- ---- the record: `low` is the lower half of the last of b frames, or zeros before the first, and t the total
+pub record ReachedBack (N b : ℕ) (t : ℤ) (low : List ℤ) : Type 0 where
   pub wide : IsWidth N
   pub counted : b ≤ frameLimit
   pub long : length low ≡ halfWidth N
   pub within : AllAbs foldedLimit low
   pub fresh : b ≡ 0 → low ≡ zeros (halfWidth N)
+  pub summed : natAbs t ≤ (b - 1) * N * readingLimit
 
-pub back-first : (N : ℕ) → IsWidth N → ReachedBack N 0 (zeros (halfWidth N))
+one-less : (b : ℕ) → suc b - 1 ≡ b
+one-less b = omega arith
+
+-- behind the first frame
+pub summed-later : {N b : ℕ} {t : ℤ} {low : List ℤ} → ReachedBack N (suc b) t low → natAbs t ≤ b * N * readingLimit
+summed-later {b} r = rw (one-less b) at (r .summed)
+
+pub back-first : (N : ℕ) → IsWidth N → ReachedBack N 0 (pos 0) (zeros (halfWidth N))
 back-first N w = record {
   wide = w;
   counted = zero-le;
   long = length-replicate (halfWidth N) (pos 0);
   within = zero-block (halfWidth N) foldedLimit .within;
   fresh = λ e. refl;
+  summed = zero-le;
 }
 
-module _ (N b : ℕ) (low : List ℤ) (r : ReachedBack N b low) where
-  pub back-next : (after : List ℤ) → b < frameLimit → length after ≡ halfWidth N → AllAbs foldedLimit after → ReachedBack N (suc b) after
-  back-next after h l i = record { wide = r .wide; counted = h; long = l; within = i; fresh = λ e. absurd (omega arith) }
+module _ (N b : ℕ) (t : ℤ) (low : List ℤ) (r : ReachedBack N b t low) where
+  pub back-next : (total : ℤ) (after : List ℤ) → b < frameLimit → length after ≡ halfWidth N → AllAbs foldedLimit after → natAbs total ≤ b * N * readingLimit → ReachedBack N (suc b) total after
+  back-next total after h l i s = record { wide = r .wide; counted = h; long = l; within = i; fresh = λ e. absurd (omega arith); summed = rw (one-less b) s }
 
-  pub back-sound : sound frameLimit (opened N b low) ≡ true
-  back-sound = open-sound frameLimit N b low (r .wide) (r .counted) (r .long) (r .within) (r .fresh)
+  pub back-sound : sound frameLimit (opened N b t low) ≡ true
+  back-sound = open-sound frameLimit N b t low (r .wide) (r .counted) (r .long) (r .within) (r .fresh) (rw (blocks-back b) (r .summed))
 
-  pub taken-undone : (frame out : List ℤ) → length frame ≡ N → length out ≡ N → b < frameLimit → takenBack (opened N b low) frame out ≡ undoneIn (opened N b low) frame out
+  pub taken-undone : (frame out : List ℤ) → length frame ≡ N → length out ≡ N → b < frameLimit → takenBack (opened N b t low) frame out ≡ undoneIn (opened N b t low) frame out
   unfolding takenBack admitted ask opened
   taken-undone frame out l m h = rw (back-sound, lt-ltb b frameLimit h, eq-eqb (length frame) N l, eq-eqb (length out) N m)
 
@@ -92,20 +102,21 @@ laterPasses N low frame =
     ∷ inside (pos readingLimit) (unfolded N low (highHalf N frame))
     ∷ [])
 
-pub first-undone : (N : ℕ) (low frame out : List ℤ)
-    → Decided (firstPasses N frame) (opened N 0 low) out ((0, 0), opened N 1 (lowHalf N frame), out) (undoneIn (opened N 0 low) frame out)
+pub first-undone : (N : ℕ) (t : ℤ) (low frame out : List ℤ)
+    → Decided (firstPasses N frame) (opened N 0 t low) out ((0, 0), opened N 1 (t +ℤ sumOf []) (lowHalf N frame), out) (undoneIn (opened N 0 t low) frame out)
 unfolding undoneIn unfoldedIn firstFrame firstUpper framed opened allYes inside
-first-undone N low frame out = asked-each 8 _ (asked-each 9 _ (asked-each 10 _ (granted _ refl)))
+first-undone N t low frame out = asked-each 8 _ (asked-each 9 _ (asked-each 10 _ (granted _ refl)))
 
-pub later-undone : (N b : ℕ) (low frame out : List ℤ) → length low ≡ halfWidth N
-    → Decided (laterPasses N low frame) (opened N (suc b) low) out ((0, 0), opened N (suc (suc b)) (lowHalf N frame), unfolded N low (highHalf N frame)) (undoneIn (opened N (suc b) low) frame out)
+pub later-undone : (N b : ℕ) (t : ℤ) (low frame out : List ℤ) → length low ≡ halfWidth N
+    → Decided (laterPasses N low frame) (opened N (suc b) t low) out
+    ((0, 0), opened N (suc (suc b)) (t +ℤ sumOf (unfolded N low (highHalf N frame))) (lowHalf N frame), unfolded N low (highHalf N frame)) (undoneIn (opened N (suc b) t low) frame out)
 unfolding undoneIn unfoldedIn laterFrame blockOn framed opened allYes inside
-later-undone N b low frame out l = rw (take-filled (halfWidth N) low l, eqb·suc-zero b) (asked-each 8 _ (asked-each 9 _ (asked-each 11 _ (granted _ refl))))
+later-undone N b t low frame out l = rw (take-filled (halfWidth N) low l, eqb·suc-zero b) (asked-each 8 _ (asked-each 9 _ (asked-each 11 _ (granted _ refl))))
 
-pub ended-decided : (N b : ℕ) (low : List ℤ) → ReachedBack N (suc b) low
-    → Decided (allYes (inside (pos 0) low ∷ [])) (opened N (suc b) low) [] ((0, 0), closed (opened N (suc b) low), []) (endedBack (opened N (suc b) low))
+pub ended-decided : (N b : ℕ) (t : ℤ) (low : List ℤ) → ReachedBack N (suc b) t low
+    → Decided (allYes (inside (pos 0) low ∷ [])) (opened N (suc b) t low) [] ((0, 0), closed (opened N (suc b) t low), []) (endedBack (opened N (suc b) t low))
 unfolding endedBack firstHeld ask opened allYes inside
-ended-decided N b low r = rw (back-sound N (suc b) low r, take-filled (halfWidth N) low (r .long), lt-ltb 0 (suc b) (omega arith)) (asked-each 10 _ (granted _ refl))
+ended-decided N b t low r = rw (back-sound N (suc b) t low r, take-filled (halfWidth N) low (r .long), lt-ltb 0 (suc b) (omega arith)) (asked-each 10 _ (granted _ refl))
 
 -- where a search begins to count does not tell whether it finds anything
 pub nothing-anywhere : (test : ℤ → Bool) (xs : List ℤ) (j k : ℕ) → nothing (firstWhere test xs j) ≡ nothing (firstWhere test xs k)
@@ -146,15 +157,15 @@ module _ (N : ℕ) (w : IsWidth N) (p x : List ℤ) (hp : Block N readingLimit p
   unfolding allYes
   later-passes = rw (frame-inside, folded-inside, high-is, unfolded-fold N (width-half N w) p (hp .long), inside-all readingLimit p (hp .within))
 
-  pub back-block : (b : ℕ) → ReachedBack N b (lower N p) → b < frameLimit → ReachedBack N (suc b) (lower N x)
-  back-block b r h = back-next N b (lower N p) r (lower N x) h (length-lower N x) (lower-gate N x (hx .within))
+  pub back-block : (b : ℕ) (t : ℤ) → ReachedBack N (suc b) t (lower N p) → suc b < frameLimit → ReachedBack N (suc (suc b)) (t +ℤ sumOf p) (lower N x)
+  back-block b t r h = back-next N (suc b) t (lower N p) r (t +ℤ sumOf p) (lower N x) h (length-lower N x) (lower-gate N x (hx .within)) (added-limit b N t p (summed-later r) hp)
 
   -- behind a block, that block is given
-  pub later-taken : (b : ℕ) (out : List ℤ) → ReachedBack N (suc b) (lower N p) → suc b < frameLimit → length out ≡ N
-      → takenBack (opened N (suc b) (lower N p)) of-both out ≡ ((0, 0), opened N (suc (suc b)) (lower N x), p)
-  later-taken b out r h m =
-      taken-undone N (suc b) (lower N p) r of-both out frame-long m h
-      ∙ later-undone N b (lower N p) of-both out (length-lower N p) .when-yes later-passes
+  pub later-taken : (b : ℕ) (t : ℤ) (out : List ℤ) → ReachedBack N (suc b) t (lower N p) → suc b < frameLimit → length out ≡ N
+      → takenBack (opened N (suc b) t (lower N p)) of-both out ≡ ((0, 0), opened N (suc (suc b)) (t +ℤ sumOf p) (lower N x), p)
+  later-taken b t out r h m =
+      taken-undone N (suc b) t (lower N p) r of-both out frame-long m h
+      ∙ later-undone N b t (lower N p) of-both out (length-lower N p) .when-yes later-passes
       ∙ rw (low-is, high-is, unfolded-fold N (width-half N w) p (hp .long))
 
 -- the first frame is the one behind a block of zeros
@@ -172,17 +183,17 @@ module _ (N : ℕ) (w : IsWidth N) (x : List ℤ) (hx : Block N readingLimit x) 
       let z = zero-block N readingLimit in
       rw (frame-inside N w (zeros N) x z hx, folded-inside N w (zeros N) x z hx, high-is N w (zeros N) x z hx, held-zeros N N, upper-zero)
 
-  pub back-one : ReachedBack N 1 (lower N x)
-  back-one = back-next N 0 (zeros (halfWidth N)) (back-first N w) (lower N x) (omega arith) (length-lower N x) (lower-gate N x (hx .within))
+  pub back-one : ReachedBack N 1 (pos 0) (lower N x)
+  back-one = back-next N 0 (pos 0) (zeros (halfWidth N)) (back-first N w) (pos 0) (lower N x) (omega arith) (length-lower N x) (lower-gate N x (hx .within)) zero-le
 
-  pub first-taken : (out : List ℤ) → length out ≡ N → takenBack (opened N 0 (zeros (halfWidth N))) of-first out ≡ ((0, 0), opened N 1 (lower N x), out)
+  pub first-taken : (out : List ℤ) → length out ≡ N → takenBack (opened N 0 (pos 0) (zeros (halfWidth N))) of-first out ≡ ((0, 0), opened N 1 (pos 0) (lower N x), out)
   first-taken out m =
       let z = zero-block N readingLimit in
-      taken-undone N 0 (zeros (halfWidth N)) (back-first N w) of-first out (frame-long N w (zeros N) x z hx) m (omega arith)
-      ∙ first-undone N (zeros (halfWidth N)) of-first out .when-yes first-passes
-      ∙ rw (low-is N w (zeros N) x z hx)
+      taken-undone N 0 (pos 0) (zeros (halfWidth N)) (back-first N w) of-first out (frame-long N w (zeros N) x z hx) m (omega arith)
+      ∙ first-undone N (pos 0) (zeros (halfWidth N)) of-first out .when-yes first-passes
+      ∙ rw (low-is N w (zeros N) x z hx, sum-none (pos 0))
 
 -- and behind the last frame, which a block of zeros makes, the finish works
-pub ended-works : (N b : ℕ) → ReachedBack N (suc b) (lower N (zeros N)) → endedBack (opened N (suc b) (lower N (zeros N))) .0 ≡ (0, 0)
+pub ended-works : (N b : ℕ) (t : ℤ) → ReachedBack N (suc b) t (lower N (zeros N)) → endedBack (opened N (suc b) t (lower N (zeros N))) .0 ≡ (0, 0)
 unfolding allYes
-ended-works N b r = ap (λ (g : CallResult). g .0) (ended-decided N b (lower N (zeros N)) r .when-yes (rw (lower-zeros N N, inside-all 0 (zeros (halfWidth N)) (zero-block (halfWidth N) 0 .within))))
+ended-works N b t r = ap (λ (g : CallResult). g .0) (ended-decided N b t (lower N (zeros N)) r .when-yes (rw (lower-zeros N N, inside-all 0 (zeros (halfWidth N)) (zero-block (halfWidth N) 0 .within))))

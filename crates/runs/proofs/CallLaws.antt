@@ -3,10 +3,11 @@ use mathlib.Core.Path.{_≡_, refl, ap}
 use mathlib.Core.Bool.{Bool, true, false, _&&_, true≢false, false≢true, and-eq-true-iff}
 use mathlib.Core.List.{List, [], _∷_}
 use Prim.Native.Nat.{ℕ, zero, suc, _<_}
-use borrow.Author.Tests.{lt-ltb, ltb-true, eq-eqb, eqb-true}
+use borrow.Author.Tests.{lt-ltb, ltb-true, eq-eqb, eqb-true, eqb-false}
 use lib.Dec.{eqb, ltb, eqb·suc-zero}
-use lib.IntN.{ℤ}
+use lib.IntN.{ℤ, _+ℤ_}
 use lib.ListN.{length, getD}
+use Rattle.integers.specs.Vectors.{sumOf}
 use Rattle.tables.specs.Widths.{halfWidth}
 use Rattle.steps.specs.Limits.{readingLimit}
 use Rattle.steps.specs.Steps.{held, frame}
@@ -32,6 +33,11 @@ pub record Refused (run : Run) (out : List ℤ) (given : CallResult) : Type 0 wh
 pub record Decided (yes : Bool) (run : Run) (out : List ℤ) (good given : CallResult) : Type 0 where
   pub when-yes : yes ≡ true → given ≡ good
   pub when-no : yes ≡ false → Refused run out given
+
+-- what gives an answer 0 was answered yes
+pub answered-yes : {yes : Bool} {run : Run} {out : List ℤ} {good given : CallResult} → Decided yes run out good given → given .0 .0 ≡ 0 → yes ≡ true
+answered-yes {yes = true} d e = refl
+answered-yes {yes = false} {given} d e = absurd (eqb-false (given .0 .0) 0 (d .when-no refl .numbered) e)
 
 -- ---- one question, and those after it
 refused : (n place : ℕ) (run : Run) (out : List ℤ) → Refused run out ((suc n, place), run, out)
@@ -72,34 +78,34 @@ module _ (N b : ℕ) (over : Bool) (xs out : List ℤ) (e : accepted N b over (b
   accepted-block = record { long = eqb-true (length xs) N (every-answer _ e 2); within = all-inside readingLimit xs (every-answer _ e 5) }
 
 -- ---- the calls
-module _ (N b : ℕ) (previous : List ℤ) (r : Reached N b previous) where
+module _ (N b : ℕ) (t : ℤ) (previous : List ℤ) (r : Reached N b t previous) where
   abbrev run : Run
-  run = opened N b (held N previous)
+  run = opened N b t (held N previous)
 
   frame-on : (xs : List ℤ) → frameOn run xs ≡ frame N (held N previous) xs
   unfolding frameOn opened
   frame-on xs = ap (λ h. frame N h xs) (take-filled (halfWidth N) (held N previous) (length-held N previous))
 
   pub taken-decided : (xs out : List ℤ)
-      → Decided (accepted N b false (block xs out)) run out ((0, 0), opened N (suc b) (held N xs), frame N (held N previous) xs) (taken run xs out)
+      → Decided (accepted N b false (block xs out)) run out ((0, 0), opened N (suc b) (t +ℤ sumOf xs) (held N xs), frame N (held N previous) xs) (taken run xs out)
   unfolding accepted allYes taken admitted takenIn ask opened advanced
   taken-decided xs out =
-      rw (opened-sound N b previous r)
+      rw (opened-sound N b t previous r)
       (asked 3 (ltb b blockLimit)
       (asked 5 (eqb (length xs) N)
       (asked 6 (eqb (length out) N)
-      (asked-each 7 (firstDead xs 0) (asked-each 8 (firstOut xs 0) (granted _ (ap (λ f. ((0, 0), opened N (suc b) (held N xs), f)) (frame-on xs))))))))
+      (asked-each 7 (firstDead xs 0) (asked-each 8 (firstOut xs 0) (granted _ (ap (λ f. ((0, 0), opened N (suc b) (t +ℤ sumOf xs) (held N xs), f)) (frame-on xs))))))))
 
   pub ended-decided : (out : List ℤ)
       → Decided (accepted N b false (finish out)) run out ((0, 0), closed run, frame N (held N previous) (zeros N)) (ended run out)
   unfolding accepted allYes ended ask opened
-  ended-decided out = rw (opened-sound N b previous r) (asked 6 (eqb (length out) N) (granted _ (ap (λ f. ((0, 0), closed run, f)) (frame-on (zeros N)))))
+  ended-decided out = rw (opened-sound N b t previous r) (asked 6 (eqb (length out) N) (granted _ (ap (λ f. ((0, 0), closed run, f)) (frame-on (zeros N)))))
 
   pub closed-refused : (c : Call) → Refused (closed run) (outputOf c) (give (closed run) c)
   unfolding give outputOf taken admitted ended ask opened closed
-  closed-refused (block xs out) = rw (closed-sound N b previous r) (refused 2 0 (closed run) out)
-  closed-refused (finish out) = rw (closed-sound N b previous r) (refused 2 0 (closed run) out)
+  closed-refused (block xs out) = rw (closed-sound N b t previous r) (refused 2 0 (closed run) out)
+  closed-refused (finish out) = rw (closed-sound N b t previous r) (refused 2 0 (closed run) out)
 
   pub taken-in : (xs out : List ℤ) → length xs ≡ N → length out ≡ N → b < blockLimit → taken run xs out ≡ takenIn run xs out
   unfolding taken admitted ask opened
-  taken-in xs out l m h = rw (opened-sound N b previous r, lt-ltb b blockLimit h, eq-eqb (length xs) N l, eq-eqb (length out) N m)
+  taken-in xs out l m h = rw (opened-sound N b t previous r, lt-ltb b blockLimit h, eq-eqb (length xs) N l, eq-eqb (length out) N m)

@@ -4,9 +4,9 @@ use mathlib.Core.Bool.{Bool, true, false, cond, _||_}
 use mathlib.Core.List.{List, [], _∷_}
 use Prim.Native.Nat.{ℕ, zero, suc, _+_, _≤_, zero-le}
 use native.Mathlib.Omega.{arith}
-use lib.IntN.{ℤ}
+use lib.IntN.{ℤ, pos, _+ℤ_}
 use lib.ListN.{length}
-use Rattle.integers.specs.Vectors.{Rows}
+use Rattle.integers.specs.Vectors.{sumOf, Rows}
 use Rattle.integers.specs.Places.{tab}
 use Rattle.steps.specs.Steps.{lower}
 use Rattle.distance.specs.Statement.{IsWidth}
@@ -23,7 +23,7 @@ use Rattle.runs.proofs.BackLaws.{started-back, ReachedBack, back-block,
 use Rattle.runs.proofs.MadeFrames.{framesAfter, allFrames, all-frames}
 
 -- ---- no more blocks are taken than a run takes
-few-kept : (N : ℕ) (calls : List Call) (b : ℕ) (over : Bool) → b ≤ blockLimit → b + length (blocksOf (kept (acceptedAll N b over calls) calls)) ≤ blockLimit
+pub few-kept : (N : ℕ) (calls : List Call) (b : ℕ) (over : Bool) → b ≤ blockLimit → b + length (blocksOf (kept (acceptedAll N b over calls) calls)) ≤ blockLimit
 unfolding acceptedAll kept blocksOf countAfter overAfter
 few-kept N [] b over h = omega arith
 few-kept N (block xs out ∷ calls) b over h = by (accepted N b over (block xs out)) refl (few-kept N calls _ over)
@@ -41,37 +41,37 @@ few-kept N (finish out ∷ calls) b over h = by (accepted N b over (finish out))
     by false rest = rest
 
 -- ---- the frames behind the first, and the finish
-record ReturnedFrom (N k : ℕ) (xs outs : List (List ℤ)) : Type 0 where
-  answers : (j : ℕ) → answersBack (opened N (suc k) (lower N (blockAt N xs 0))) (framesAfter N xs) outs ≡ tab (λ i. (0, 0)) (suc (length xs)) j
-  blocks : outputsBack (opened N (suc k) (lower N (blockAt N xs 0))) (framesAfter N xs) outs ≡ xs
+record ReturnedFrom (N k : ℕ) (t : ℤ) (xs outs : List (List ℤ)) : Type 0 where
+  answers : (j : ℕ) → answersBack (opened N (suc k) t (lower N (blockAt N xs 0))) (framesAfter N xs) outs ≡ tab (λ i. (0, 0)) (suc (length xs)) j
+  blocks : outputsBack (opened N (suc k) t (lower N (blockAt N xs 0))) (framesAfter N xs) outs ≡ xs
 
 module _ (N : ℕ) (w : IsWidth N) where
-  returned-from : (xs outs : List (List ℤ)) (k : ℕ) → AllBlocks N xs → Rows N outs → length outs ≡ length xs → suc k + length xs ≤ frameLimit
-      → ReachedBack N (suc k) (lower N (blockAt N xs 0)) → ReturnedFrom N k xs outs
+  returned-from : (xs outs : List (List ℤ)) (k : ℕ) (t : ℤ) → AllBlocks N xs → Rows N outs → length outs ≡ length xs → suc k + length xs ≤ frameLimit
+      → ReachedBack N (suc k) t (lower N (blockAt N xs 0)) → ReturnedFrom N k t xs outs
   unfolding framesAfter answersBack outputsBack blockAt tab
-  returned-from [] outs k hs rows l h r = record {
-    answers = λ j. ap (λ (a : ℕ × ℕ). a ∷ []) (ended-works N k r);
+  returned-from [] outs k t hs rows l h r = record {
+    answers = λ j. ap (λ (a : ℕ × ℕ). a ∷ []) (ended-works N k t r);
     blocks = refl;
   }
-  returned-from (x ∷ xs) [] k hs rows l h r = absurd (omega arith)
-  returned-from (x ∷ xs) (out ∷ outs) k hs rows l h r =
+  returned-from (x ∷ xs) [] k t hs rows l h r = absurd (omega arith)
+  returned-from (x ∷ xs) (out ∷ outs) k t hs rows l h r =
       let y = blockAt N xs 0 in
-      let e = later-taken N w x y (hs 0) (hs 1) k out r (omega arith) (rows .0) in
-      let rest = returned-from xs outs (suc k) (λ i. hs (suc i)) (rows .1) (omega arith) (omega arith) (back-block N w x y (hs 0) (hs 1) (suc k) r (omega arith)) in
+      let e = later-taken N w x y (hs 0) (hs 1) k t out r (omega arith) (rows .0) in
+      let rest = returned-from xs outs (suc k) (t +ℤ sumOf x) (λ i. hs (suc i)) (rows .1) (omega arith) (omega arith) (back-block N w x y (hs 0) (hs 1) k t r (omega arith)) in
       record {
         answers = λ j. rw e (ap (λ (l : List (ℕ × ℕ)). (0, 0) ∷ l) (rest .answers (suc j)));
         blocks = rw e (ap (λ (l : List (List ℤ)). x ∷ l) (rest .blocks));
       }
 
-zeros-taken : (n j : ℕ) → AllTaken (tab (λ i. (0, 0)) n j)
+pub zeros-taken : (n j : ℕ) → AllTaken (tab (λ i. (0, 0)) n j)
 unfolding tab AllTaken
 zeros-taken zero j = tt
 zeros-taken (suc n) j = (refl, zeros-taken n (suc j))
 
 -- and with the first, from a fresh start
 module _ (N : ℕ) (w : IsWidth N) (xs outs : List (List ℤ)) (first : List ℤ) (hs : AllBlocks N xs) (few : length xs ≤ blockLimit) (rows : Rows N (first ∷ outs)) (l : length outs ≡ length xs) where
-  rest : ReturnedFrom N 0 xs outs
-  rest = returned-from N w xs outs 0 hs (rows .1) l (omega arith) (back-one N w (blockAt N xs 0) (hs 0))
+  rest : ReturnedFrom N 0 (pos 0) xs outs
+  rest = returned-from N w xs outs 0 (pos 0) hs (rows .1) l (omega arith) (back-one N w (blockAt N xs 0) (hs 0))
 
   all-answered : answersBack (started N .1) (allFrames N xs) (first ∷ outs) ≡ tab (λ i. (0, 0)) (suc (suc (length xs))) 0
   unfolding answersBack tab

@@ -7,10 +7,11 @@ use native.Mathlib.Nat.{add-zero, zero-add}
 use native.Mathlib.Numerals.{add-one}
 use native.Mathlib.Omega.{arith}
 use borrow.Author.Tests.{ne-eqb}
-use lib.IntN.{ℤ}
+use lib.IntN.{ℤ, pos, _+ℤ_}
 use lib.ListN.{length, getD, drop}
 use lib.Seq.{getD-drop, drop-drop}
 use Rattle.integers.specs.Places.{tab, at}
+use Rattle.integers.specs.Vectors.{sumOf}
 use Rattle.integers.proofs.PlaceLaws.{at-tab}
 use Rattle.tables.specs.Widths.{halfWidth}
 use Rattle.steps.specs.Limits.{readingLimit}
@@ -72,12 +73,12 @@ nothing-kept N b [] = refl
 nothing-kept N b (block xs out ∷ calls) = nothing-kept N b calls
 nothing-kept N b (finish out ∷ calls) = nothing-kept N b calls
 
-closed-told : (N b : ℕ) (previous : List ℤ) → Reached N b previous → (calls : List Call)
-    → Told (made (closed (opened N b (held N previous))) calls) (acceptedAll N b true calls) []
+closed-told : (N b : ℕ) (t : ℤ) (previous : List ℤ) → Reached N b t previous → (calls : List Call)
+    → Told (made (closed (opened N b t (held N previous))) calls) (acceptedAll N b true calls) []
 unfolding acceptedAll accepted allYes countAfter overAfter
-closed-told N b previous r [] = told-none (closed (opened N b (held N previous)))
-closed-told N b previous r (block xs out ∷ calls) = told-no _ _ calls (closed-refused N b previous r (block xs out)) (closed-told N b previous r calls)
-closed-told N b previous r (finish out ∷ calls) = told-no _ _ calls (closed-refused N b previous r (finish out)) (closed-told N b previous r calls)
+closed-told N b t previous r [] = told-none (closed (opened N b t (held N previous)))
+closed-told N b t previous r (block xs out ∷ calls) = told-no _ _ calls (closed-refused N b t previous r (block xs out)) (closed-told N b t previous r calls)
+closed-told N b t previous r (finish out ∷ calls) = told-no _ _ calls (closed-refused N b t previous r (finish out)) (closed-told N b t previous r calls)
 
 -- ---- every list, from any open record
 abbrev Follows : ℕ → List ℤ → List Made → List Bool → List Call → Type 0
@@ -85,32 +86,32 @@ Follows N previous ms ws calls = Told ms ws (framesFrom N previous (blocksOf (ke
 
 abbrev FromOpen : ℕ → List Call → Type 0
 FromOpen N calls =
-    (b : ℕ) (previous : List ℤ) → Reached N b previous → Follows N previous (made (opened N b (held N previous)) calls) (acceptedAll N b false calls) calls
+    (b : ℕ) (t : ℤ) (previous : List ℤ) → Reached N b t previous → Follows N previous (made (opened N b t (held N previous)) calls) (acceptedAll N b false calls) calls
 
 module _ (N : ℕ) (calls : List Call) (rest : FromOpen N calls) where
   block-told : (xs out : List ℤ) → FromOpen N (block xs out ∷ calls)
   unfolding acceptedAll kept blocksOf framesFrom blockAt countAfter overAfter give outputOf
-  block-told xs out b previous r = by (accepted N b false (block xs out)) refl
+  block-told xs out b t previous r = by (accepted N b false (block xs out)) refl
     where
       by : (w : Bool) → accepted N b false (block xs out) ≡ w
-          → Follows N previous (made (opened N b (held N previous)) (block xs out ∷ calls)) (w ∷ acceptedAll N (cond w (suc b) b) false calls) (block xs out ∷ calls)
+          → Follows N previous (made (opened N b t (held N previous)) (block xs out ∷ calls)) (w ∷ acceptedAll N (cond w (suc b) b) false calls) (block xs out ∷ calls)
       by true e =
-          let r′ = reached-next N b previous xs r (accepted-below N b false xs out e) (accepted-block N b false xs out e) in
-          told-yes _ (block xs out) calls (taken-decided N b previous r xs out .when-yes e) (rest (suc b) xs r′)
-      by false e = told-no _ (block xs out) calls (taken-decided N b previous r xs out .when-no e) (rest b previous r)
+          let r′ = reached-next N b t previous xs r (accepted-below N b false xs out e) (accepted-block N b false xs out e) in
+          told-yes _ (block xs out) calls (taken-decided N b t previous r xs out .when-yes e) (rest (suc b) (t +ℤ sumOf xs) xs r′)
+      by false e = told-no _ (block xs out) calls (taken-decided N b t previous r xs out .when-no e) (rest b t previous r)
 
   finish-told : (out : List ℤ) → FromOpen N (finish out ∷ calls)
   unfolding acceptedAll kept blocksOf framesFrom blockAt countAfter overAfter give outputOf
-  finish-told out b previous r = by (accepted N b false (finish out)) refl
+  finish-told out b t previous r = by (accepted N b false (finish out)) refl
     where
       by : (w : Bool) → accepted N b false (finish out) ≡ w
-          → Follows N previous (made (opened N b (held N previous)) (finish out ∷ calls)) (w ∷ acceptedAll N b w calls) (finish out ∷ calls)
-      by true e = rw (nothing-kept N b calls) (told-yes _ (finish out) calls (ended-decided N b previous r out .when-yes e) (closed-told N b previous r calls))
-      by false e = told-no _ (finish out) calls (ended-decided N b previous r out .when-no e) (rest b previous r)
+          → Follows N previous (made (opened N b t (held N previous)) (finish out ∷ calls)) (w ∷ acceptedAll N b w calls) (finish out ∷ calls)
+      by true e = rw (nothing-kept N b calls) (told-yes _ (finish out) calls (ended-decided N b t previous r out .when-yes e) (closed-told N b t previous r calls))
+      by false e = told-no _ (finish out) calls (ended-decided N b t previous r out .when-no e) (rest b t previous r)
 
 opened-told : (N : ℕ) (calls : List Call) → FromOpen N calls
 unfolding acceptedAll kept blocksOf framesFrom
-opened-told N [] = λ b previous r. told-none (opened N b (held N previous))
+opened-told N [] = λ b t previous r. told-none (opened N b t (held N previous))
 opened-told N (block xs out ∷ calls) = block-told N calls (opened-told N calls) xs out
 opened-told N (finish out ∷ calls) = finish-told N calls (opened-told N calls) out
 
@@ -153,14 +154,14 @@ module _ (N : ℕ) (blocks : List (List ℤ)) (readings : AllBlocks N blocks) wh
   frame-near d near i k h = near (blockBefore N blocks i) (blockAt N blocks i) (block-before i) (readings i) k h
 
 -- ---- from a fresh start
-pub started-open : (N : ℕ) → IsWidth N → started N .1 ≡ opened N 0 (held N (zeros N))
+pub started-open : (N : ℕ) → IsWidth N → started N .1 ≡ opened N 0 (pos 0) (held N (zeros N))
 unfolding started
 started-open N w = rw (ne-eqb (halfWidth N) 0 (λ e. omega arith)) (opened-zeros N)
 
 pub fresh-told : (N : ℕ) → IsWidth N → (calls : List Call)
     → Told (madeFrom N calls) (acceptedAll N 0 false calls) (tab (frameAt N (blocksTaken N calls)) (length (working N calls)) 0)
 unfolding madeFrom blocksTaken working blockBefore
-fresh-told N w calls = rw (started-open N w, ← frames-from N (blocksTaken N calls) (length (working N calls)) 0) (opened-told N calls 0 (zeros N) (reached-first N w))
+fresh-told N w calls = rw (started-open N w, ← frames-from N (blocksTaken N calls) (length (working N calls)) 0) (opened-told N calls 0 (pos 0) (zeros N) (reached-first N w))
 
 module _ (N : ℕ) (w : IsWidth N) (calls : List Call) where
   pub list-near : (d : ℕ) → DistanceAt N readingLimit d → (i k : ℕ) → i < length (working N calls) → k < N

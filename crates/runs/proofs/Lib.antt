@@ -24,3 +24,5 @@ pub mod WholeReturn
 pub mod ForwardWorked
 pub mod ExactReturn
 pub mod CallsExact
+pub mod TotalsFit
+pub mod Totals

@@ -75,7 +75,7 @@ module _ (N : ℕ) (w : IsWidth N) (calls : List Call) where
   unfolding working blocksTaken finished
   working-counted = length-ordered (working N calls) (finished N calls) (kept-ordered N calls 0)
 
-  given-counted : length (framesGiven (madeFrom N calls)) ≡ length (working N calls)
+  pub given-counted : length (framesGiven (madeFrom N calls)) ≡ length (working N calls)
   given-counted = rw (fresh-told N w calls .frames-are) (length-tab _ _ 0)
 
 pub every-list : EveryListOfCalls

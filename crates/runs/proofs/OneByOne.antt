@@ -67,7 +67,7 @@ started-count : (N : ℕ) → started N .1 .count ≡ 0
 unfolding started opened
 started-count N = by (eqb (halfWidth N) 0)
   where
-    by : (b : Bool) → (cond {A = (ℕ × ℕ) × Run} b ((1, 0), opened 0 0 []) ((0, 0), opened N 0 [])) .1 .count ≡ 0
+    by : (b : Bool) → (cond {A = (ℕ × ℕ) × Run} b ((1, 0), opened 0 0 (pos 0) []) ((0, 0), opened N 0 (pos 0) [])) .1 .count ≡ 0
     by true = refl
     by false = refl
 

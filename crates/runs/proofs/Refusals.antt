@@ -1,20 +1,23 @@
--- A call that works raises the count, which was below its top; a refused one hands back the same record.
+-- A call that works raises the count, which was below its top, and the total; a refused one hands back the same record.
 use mathlib.Core.Path.{_≡_, refl}
 use mathlib.Core.Bool.{Bool, true, false, cond, not}
-use mathlib.Core.List.{List}
+use mathlib.Core.List.{List, [], _∷_}
 use Prim.Native.Nat.{ℕ, _+_, _<_}
 use native.Mathlib.Omega.{arith}
-use borrow.Author.Tests.{ltb-true, eq-eqb, ne-eqb}
+use borrow.Author.Tests.{ltb-true, eqb-true, eq-eqb, ne-eqb}
 use lib.Dec.{eqb, ltb}
-use lib.IntN.{ℤ}
+use lib.IntN.{ℤ, _+ℤ_}
+use lib.ListN.{length}
+use Rattle.integers.specs.Vectors.{sumOf}
 use Rattle.steps.specs.Steps.{unstages}
 use Rattle.runs.specs.declared.answer.Found.{Found}
 use Rattle.runs.specs.declared.answer.Found.the-variants.{At, Nothing}
 use Rattle.runs.specs.declared.record.Run.{Run}
-use Rattle.runs.specs.Record.{nextCount}
-use Rattle.runs.specs.Gate.{CallResult, ask, askEach, sound, admitted}
+use Rattle.runs.specs.Record.{nextCount, nextTotal}
+use Rattle.runs.specs.Gate.{CallResult, ask, askEach, allYes, sound, admitted}
 use Rattle.runs.specs.Forward.{takenIn, taken}
 use Rattle.runs.specs.Back.{firstFrame, laterFrame, unfoldedIn, undoneIn, takenBack}
+use Rattle.runs.proofs.CallLaws.{Decided, granted, asked, answered-yes, every-answer}
 
 module _ (number count : ℕ) where
   pub count-kept : (number ≡ 0 → ⊥) → count ≡ nextCount number count
@@ -25,15 +28,41 @@ module _ (number count : ℕ) where
   unfolding nextCount
   count-raised e = rw (eq-eqb number 0 e) (omega arith)
 
-pub admitted-few : (top : ℕ) (run : Run) (given out : List ℤ) (next : CallResult) → admitted top run given out next .0 .0 ≡ 0 → run .count < top
-unfolding admitted ask
-admitted-few top run given out next = by (sound top run) (not (run .finished)) (ltb (run .count) top) refl _
-  where
-    by : (s o b : Bool) → ltb (run .count) top ≡ b → (rest : CallResult) → ask 2 s run out (ask 3 o run out (ask 4 b run out rest)) .0 .0 ≡ 0 → run .count < top
-    by true true true h rest e = ltb-true _ _ h
-    by true true false h rest e = absurd (omega (arith, e))
-    by true false b h rest e = absurd (omega (arith, e))
-    by false o b h rest e = absurd (omega (arith, e))
+module _ (number : ℕ) (total : ℤ) (readings : List ℤ) where
+  pub total-kept : (number ≡ 0 → ⊥) → total ≡ nextTotal number total readings
+  unfolding nextTotal
+  total-kept h = rw (ne-eqb number 0 h)
+
+  pub total-raised : number ≡ 0 → total +ℤ sumOf readings ≡ nextTotal number total readings
+  unfolding nextTotal
+  total-raised e = rw (eq-eqb number 0 e)
+
+-- ---- what the gate asked where a block or a frame was taken
+pub record Passed (top : ℕ) (run : Run) (given out : List ℤ) (next : CallResult) : Type 0 where
+  pub sound-is : sound top run ≡ true
+  pub few : run .count < top
+  pub long : length given ≡ run .width
+  pub room : length out ≡ run .width
+  pub follows : admitted top run given out next ≡ next
+
+module _ (top : ℕ) (run : Run) (given out : List ℤ) (next : CallResult) where
+  admitted-asked : Decided (allYes (sound top run ∷ not (run .finished) ∷ ltb (run .count) top ∷ eqb (length given) (run .width) ∷ eqb (length out) (run .width) ∷ [])) run out next (admitted top run given out next)
+  unfolding admitted allYes
+  admitted-asked = asked 1 _ (asked 2 _ (asked 3 _ (asked 5 _ (asked 6 _ (granted _ refl)))))
+
+  pub admitted-passed : admitted top run given out next .0 .0 ≡ 0 → Passed top run given out next
+  admitted-passed e =
+      let yes = answered-yes admitted-asked e in
+      record {
+        sound-is = every-answer _ yes 0;
+        few = ltb-true _ _ (every-answer _ yes 2);
+        long = eqb-true _ _ (every-answer _ yes 3);
+        room = eqb-true _ _ (every-answer _ yes 4);
+        follows = admitted-asked .when-yes yes;
+      }
+
+  pub admitted-few : admitted top run given out next .0 .0 ≡ 0 → run .count < top
+  admitted-few e = admitted-passed e .few
 
 -- ---- the record after a refusal, question by question
 pub record Same (run : Run) (given : CallResult) : Type 0 where

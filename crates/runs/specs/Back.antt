@@ -3,8 +3,9 @@ use mathlib.Core.Bool.{cond, not}
 use mathlib.Core.List.{List, []}
 use Prim.Native.Nat.{suc}
 use lib.Dec.{eqb, ltb}
-use lib.IntN.{ℤ, pos}
+use lib.IntN.{ℤ, pos, _+ℤ_}
 use lib.ListN.{take, drop}
+use Rattle.integers.specs.Vectors.{sumOf}
 use Rattle.tables.specs.Widths.{halfWidth}
 use Rattle.steps.specs.Limits.{foldedLimit, coefficientLimit}
 use Rattle.steps.specs.Steps.{unstages, unfolded}
@@ -14,24 +15,24 @@ use Rattle.runs.specs.declared.record.Run.{Run}
 use Rattle.runs.specs.Record.{frameLimit, opened, closed}
 use Rattle.runs.specs.Gate.{CallResult, ask, askEach, admitted, sound, firstOut}
 
--- a run that has taken one frame more, and holds the lower half of its folded values
-unfoldable pub framed : Run → List ℤ → Run
-framed run folded = opened (run .width) (suc (run .count)) (take (halfWidth (run .width)) folded)
+-- a run that has taken one frame more, which gave these readings: it holds the lower half of the frame's folded values
+unfoldable pub framed : Run → List ℤ → List ℤ → Run
+framed run given folded = opened (run .width) (suc (run .count)) (run .total +ℤ sumOf given) (take (halfWidth (run .width)) folded)
 
 -- the block between the lower half that is held and this frame's upper half
 unfoldable pub blockOn : Run → List ℤ → List ℤ
 blockOn run folded = unfolded (run .width) (take (halfWidth (run .width)) (run .held)) (drop (halfWidth (run .width)) folded)
 
--- A first frame: its upper half must be zero (11), and it writes no block. The place counts through all folded values.
+-- A first frame: its upper half must be zero (11), and it gives no block. The place counts through all folded values.
 unfoldable pub firstUpper : Run → List ℤ → Found
 firstUpper run folded = firstBeyond (pos 0) (drop (halfWidth (run .width)) folded) (halfWidth (run .width))
 
 unfoldable pub firstFrame : Run → List ℤ → List ℤ → CallResult
-firstFrame run folded out = askEach 11 (firstUpper run folded) run out ((0, 0), framed run folded, out)
+firstFrame run folded out = askEach 11 (firstUpper run folded) run out ((0, 0), framed run [] folded, out)
 
 -- A later frame gives the block before it, whose readings must be in range (12).
 unfoldable pub laterFrame : Run → List ℤ → List ℤ → CallResult
-laterFrame run folded out = askEach 12 (firstOut (blockOn run folded) 0) run out ((0, 0), framed run folded, blockOn run folded)
+laterFrame run folded out = askEach 12 (firstOut (blockOn run folded) 0) run out ((0, 0), framed run (blockOn run folded) folded, blockOn run folded)
 
 unfoldable pub unfoldedIn : Run → List ℤ → List ℤ → CallResult
 unfoldedIn run folded out = cond (eqb (run .count) 0) (firstFrame run folded out) (laterFrame run folded out)

@@ -3,7 +3,7 @@ use mathlib.Core.Bool.{cond, not}
 use mathlib.Core.List.{List, []}
 use Prim.Native.Nat.{ℕ}
 use lib.Dec.{eqb}
-use lib.IntN.{ℤ}
+use lib.IntN.{ℤ, pos}
 use lib.ListN.{length, take}
 use Rattle.tables.specs.Widths.{halfWidth}
 use Rattle.steps.specs.Steps.{frame}
@@ -13,7 +13,7 @@ use Rattle.runs.specs.Gate.{CallResult, ask, askEach, admitted, sound, f
 
 -- a fresh start at a width; refused, the record has width 0, so that every later call with it is refused too
 unfoldable pub started : ℕ → (ℕ × ℕ) × Run
-started N = cond (eqb (halfWidth N) 0) ((1, 0), opened 0 0 []) ((0, 0), opened N 0 [])
+started N = cond (eqb (halfWidth N) 0) ((1, 0), opened 0 0 (pos 0) []) ((0, 0), opened N 0 (pos 0) [])
 
 -- the frame that a block makes with what the record holds
 unfoldable pub frameOn : Run → List ℤ → List ℤ

@@ -1,9 +1,9 @@
 -- The gate's questions to a run forward: document 01, "The gate, question by question".
 use mathlib.Core.Bool.{Bool, true, false, cond, not, _&&_, _||_}
 use mathlib.Core.List.{List, [], _∷_}
-use Prim.Native.Nat.{ℕ}
+use Prim.Native.Nat.{ℕ, _+_, _-_, _*_}
 use lib.Dec.{eqb, ltb, leb}
-use lib.IntN.{ℤ, pos, negsuc}
+use lib.IntN.{ℤ, pos, negsuc, natAbs}
 use lib.ListN.{length, drop}
 use Rattle.tables.specs.Widths.{halfWidth}
 use Rattle.steps.specs.Limits.{readingLimit, foldedLimit}
@@ -11,6 +11,7 @@ use Rattle.runs.specs.Answers.{firstWhere, firstBeyond}
 use Rattle.runs.specs.declared.answer.Found.{Found}
 use Rattle.runs.specs.declared.answer.Found.the-variants.{At, Nothing}
 use Rattle.runs.specs.declared.record.Run.{Run}
+use Rattle.runs.specs.Record.{frameLimit}
 
 -- what a call gives: the answer's number and place, the record handed back, the output afterwards
 abbrev pub CallResult : Type 0
@@ -37,8 +38,12 @@ unfoldable pub allYes : List Bool → Bool
 allYes [] = true
 allYes (answer ∷ rest) = answer && allYes rest
 
+-- the blocks behind a count, where `top` is the greatest: forward it counts them; back it counts their frames, of which the first gives none
+unfoldable pub blocksBehind : ℕ → ℕ → ℕ
+blocksBehind top count = count + (frameLimit - top) - 1
+
 -- 2, where `top` is the greatest count: a width, a count that a run can have, held values within ±50,000, zeros at the held places that a
--- width does not use, and zeros alone where nothing was taken yet or the run is finished
+-- width does not use, zeros alone where nothing was taken yet or the run is finished, and a total that so many readings can have
 unfoldable pub sound : ℕ → Run → Bool
 sound top run =
     allYes
@@ -47,6 +52,7 @@ sound top run =
     ∷ inside (pos foldedLimit) (run .held)
     ∷ inside (pos 0) (drop (halfWidth (run .width)) (run .held))
     ∷ (not (eqb (run .count) 0 || run .finished) || inside (pos 0) (run .held))
+    ∷ leb (natAbs (run .total)) (blocksBehind top (run .count) * run .width * readingLimit)
     ∷ [])
 
 -- 8: a dead gauge gives −32,768

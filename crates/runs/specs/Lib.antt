@@ -11,4 +11,5 @@ pub mod Back
 pub mod WholeBack
 pub mod Return
 pub mod CallsReturn
+pub mod Totals
 pub mod Samples

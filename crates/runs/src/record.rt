@@ -5,12 +5,14 @@ ghost use lib.ListN.{replicate};
 ghost use Rattle.runs.specs.Record.{recordOf, outcomeOf};
 use crate::answer::Answer;
 
-// Going forward, held[i] becomes folded value M+i of the next frame; going back, it is folded value i of the last frame.
+// Going forward, held[i] becomes folded value M+i of the next frame; going back, it is folded value i of the last frame. The total is of the
+// readings taken or given.
 pub struct Run {
     pub width: usize,
     pub count: usize,
     pub held: [i64; 64],
     pub finished: bool,
+    pub total: i64,
 }
 
 pub struct Outcome {
@@ -19,14 +21,15 @@ pub struct Outcome {
 }
 
 // Every record is made here, and every outcome below.
-pub fn make(width: usize, count: usize, held: [i64; 64], finished: bool) -> Run
-    ensures { λ r. ⌜ r ≡ recordOf width count held finished ⌝ }
+pub fn make(width: usize, count: usize, held: [i64; 64], finished: bool, total: i64) -> Run
+    ensures { λ r. ⌜ r ≡ recordOf width count held finished total ⌝ }
 {
     Run {
         width: width,
         count: count,
         held: held,
         finished: finished,
+        total: total,
     }
 }
 

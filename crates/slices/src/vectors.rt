@@ -4,6 +4,7 @@ ghost use Prim.Native.Nat.{_+_, _%_, _^_, _≤_, _<_};
 ghost use lib.IntN.{natAbs};
 ghost use lib.ListN.{length};
 ghost use Rattle.integers.specs.Places.{places, at, Within};
+ghost use Rattle.integers.specs.Vectors.{sumOf};
 ghost use Rattle.slices.specs.Own.Fours.{listed, stored};
 ghost use Rattle.slices.specs.Own.Moves.{moved, wovenAt};
 use crate::fours;
@@ -105,4 +106,18 @@ pub fn narrow(x: &[i64], out: &mut [i32])
         put_narrow(out, i, fours::four_at(x, i));
         i += 4;
     }
+}
+
+// The sum of at most 128 numbers.
+pub fn sum(x: &[i32]) -> i64
+    requires { ⌜ length (now x) ≤ 128 ⌝ }
+    ensures { λ r. ⌜ r ≡ sumOf (now (x .entry)) ⌝ }
+{
+    let mut total: i64 = 0;
+    let mut n = 0;
+    while n < x.len() {
+        total += x[n] as i64;
+        n += 1;
+    }
+    total
 }

@@ -29,6 +29,7 @@ fn write_block(file: i32, i: usize)
     io::write_all(file, &text[..m]);
 }
 
+// The total is 96 times the sum of 0 to 999: at each place every number comes twelve times.
 fn write_run(file: i32) {
     io::write_all(file, b"8\n");
     let mut i = 0;
@@ -36,7 +37,7 @@ fn write_run(file: i32) {
         write_block(file, i);
         i += 1;
     }
-    io::write_all(file, b"end,12000\n");
+    io::write_all(file, b"end,12000,47952000\n");
 }
 
 // The run forward into one file and back into another gives its own bytes again.

@@ -15,7 +15,8 @@ use Rattle.runs.specs.Forward.{ended}
 use Rattle.runs.proofs.CallLaws.{every-answer}
 use Rattle.gate.proofs.ReadyLaws.{zeros-part}
 use Rattle.runs.specs.Back.{endedBack}
-use Rattle.text_runs.specs.Lines.{same, endLine, numbersIn}
+use Rattle.text_runs.specs.Lines.{numbersIn, endTotal}
+use Rattle.text_runs.specs.declared.number.Field.the-variants as Field
 use Rattle.text_runs.specs.declared.state.Way.{Way}
 use Rattle.text_runs.specs.declared.state.State.{State}
 use Rattle.text_runs.specs.declared.state.Way.the-variants.{Forward, Back}
@@ -23,7 +24,7 @@ use Rattle.text_runs.specs.declared.state.Phase.the-variants.{Ended}
 use Rattle.text_runs.specs.State.{inPhase}
 use Rattle.text_runs.specs.Way.{lentOutput, endedBy}
 use Rattle.text_state.specs.Own.Closing.{Closing}
-use Rattle.text_runs.specs.Line.{rowTaken, betweenTaken}
+use Rattle.text_runs.specs.Line.{rowTaken, betweenBy, betweenTaken}
 
 -- ---- a finish that works
 module _ (n : ℕ) (run : Run) (out : List ℤ) (next : Gate.CallResult) where
@@ -53,10 +54,10 @@ output-room run n room e l z = ap (take n) z ∙ zeros-part n 128 l ∙ ap zeros
 
 -- ---- a line between
 module _ (s : State) (bytes : List ℕ) where
-  pub end-taken : same bytes (endLine (s .run .count)) ≡ true → (inPhase Ended s, []) ≡ betweenTaken s bytes
-  unfolding betweenTaken
-  end-taken e = rw e
+  pub end-taken : (total : ℤ) → endTotal (s .run .count) bytes ≡ Field.Number total → (inPhase (Ended total) s, []) ≡ betweenTaken s bytes
+  unfolding betweenTaken betweenBy
+  end-taken total e = rw e
 
-  pub row-taken : same bytes (endLine (s .run .count)) ≡ false → rowTaken s (numbersIn bytes) ≡ betweenTaken s bytes
-  unfolding betweenTaken
+  pub row-taken : endTotal (s .run .count) bytes ≡ Field.Bad → rowTaken s (numbersIn bytes) ≡ betweenTaken s bytes
+  unfolding betweenTaken betweenBy
   row-taken e = rw e

@@ -21,7 +21,7 @@ fn take_formed(state: State, line: &[u8]) -> Printed
     match phase {
         Phase::First => width::take_width(state, read::number(line)),
         Phase::Between => row::take_between(state, line),
-        Phase::Ended => refuse::bad_form(state),
+        Phase::Ended(_) => refuse::bad_form(state),
         Phase::Over => refuse::silent(state),
     }
 }
@@ -34,7 +34,7 @@ fn take_not_formed(state: State) -> Printed
     match phase {
         Phase::First => refuse::bad_form(state),
         Phase::Between => refuse::bad_form(state),
-        Phase::Ended => refuse::bad_form(state),
+        Phase::Ended(_) => refuse::bad_form(state),
         Phase::Over => refuse::silent(state),
     }
 }
@@ -62,7 +62,7 @@ pub fn end(state: State) -> Printed
     match phase {
         Phase::First => refuse::bad_form(state),
         Phase::Between => refuse::bad_form(state),
-        Phase::Ended => row::finish(state),
+        Phase::Ended(total) => row::finish(state, total),
         Phase::Over => refuse::silent(state),
     }
 }

@@ -8,9 +8,9 @@ ghost use Rattle.text_runs.specs.State.{resultOf};
 ghost use Rattle.text_runs.specs.Way.{takenBy, endedBy, lentOutput};
 ghost use Rattle.text_runs.specs.Line.{rowGiven, rowTaken, betweenTaken, finishGiven};
 use crate::way;
-use decimal::compare;
 use decimal::read;
 use decimal::read::Fields;
+use text_runs::number::Field;
 use text_runs::state;
 use text_runs::state::Phase;
 use text_runs::state::Printed;
@@ -63,15 +63,16 @@ pub fn take_between(state: State, line: &[u8]) -> Printed
     ensures { λ r. ⌜ r .length ≤ 2048 ⌝ }
 {
     let run = state.run;
-    if compare::is_end(line, run.count) {
-        return refuse::silent(state::with_run(state, Phase::Ended, run));
-    }
-    take_row(state, line)
+    let end = read::end_total(line, run.count);
+    let Field::Number(total) = end else {
+        return take_row(state, line);
+    };
+    refuse::silent(state::with_run(state, Phase::Ended(total), run))
 }
 
-// The finish, once the input has ended.
-pub fn finish(state: State) -> Printed
-    ensures { λ r. ⌜ resultOf r ≡ finishGiven state (endedBy (state .way) (state .run) (lentOutput (state .run))) ⌝ }
+// The finish, once the input has ended, where the end line stated this total.
+pub fn finish(state: State, total: i64) -> Printed
+    ensures { λ r. ⌜ resultOf r ≡ finishGiven state total (endedBy (state .way) (state .run) (lentOutput (state .run))) ⌝ }
     ensures { λ r. ⌜ r .length ≤ 2048 ⌝ }
 {
     let way = state.way;
@@ -79,5 +80,5 @@ pub fn finish(state: State) -> Printed
     let n = output_length(run.width);
     let mut out = room();
     let outcome = way::finish_by(way, run, &mut out[..n]);
-    lines::given_last(state, outcome, &out[..n])
+    lines::given_last(state, total, outcome, &out[..n])
 }

@@ -60,29 +60,30 @@ told-either ms N g h true t u = t
 told-either ms N g h false t u = u
 
 -- ---- where a refusal comes from
-told-source : (way : Way) (ms : List ℕ) (N : ℕ) (run : Run) → 0 < N → among 13 ms ≡ true
+told-source : (way : Way) (ms : List ℕ) (N : ℕ) (run : Run) → 0 < N → among 13 ms ≡ true → among 16 ms ≡ true
     → ((xs : List ℤ) → Told ms N (takenBy way run xs (lentOutput run) .0)) → Told ms N (endedBy way run (lentOutput run) .0)
     → (answer : ℕ × ℕ) → Source way run answer → Told ms N answer
-told-source way ms N run p m t u answer =
-    ⊎-elim (⊎-elim (λ e. rw e (record { numbered = λ _. m; placed = p })) (λ s. rw (s .1) (t (s .0)))) (λ e. rw e u)
+told-source way ms N run p m l t u answer =
+    ⊎-elim (⊎-elim (λ e. rw e (record { numbered = λ _. m; placed = p })) (λ s. rw (s .1) (t (s .0))))
+    (⊎-elim (λ e. rw e u) (λ e. rw e (record { numbered = λ _. l; placed = p })))
 
 -- ---- forward
-module _ (N b : ℕ) (previous : List ℤ) (r : Reached N b previous) where
+module _ (N b : ℕ) (t : ℤ) (previous : List ℤ) (r : Reached N b t previous) where
   abbrev forwardRun : Run
-  forwardRun = opened N b (held N previous)
+  forwardRun = opened N b t (held N previous)
 
   abbrev forwardOut : List ℤ
   forwardOut = lentOutput forwardRun
 
   lent : length forwardOut ≡ N
-  lent = output-long N b (held N previous) (r .wide)
+  lent = output-long N b t (held N previous) (r .wide)
 
   block-told : (xs : List ℤ) → Told (refusalNumbers Forward) N (takenBy Forward forwardRun xs forwardOut .0)
   unfolding takenBy taken admitted takenIn ask opened refusalNumbers among
   block-told xs =
       let p = width-pos N (r .wide) in
       let ms = refusalNumbers Forward in
-      rw (opened-sound N b previous r, eq-eqb (length forwardOut) N lent)
+      rw (opened-sound N b t previous r, eq-eqb (length forwardOut) N lent)
       (told-asked ms N p 4 refl forwardRun forwardOut _ (ltb b blockLimit) (λ _.
       told-asked ms N p 6 refl forwardRun forwardOut _ (eqb (length xs) N) (λ e.
       let l = eqb-true (length xs) N e in
@@ -91,16 +92,16 @@ module _ (N b : ℕ) (previous : List ℤ) (r : Reached N b previous) where
 
   finish-told : Told (refusalNumbers Forward) N (endedBy Forward forwardRun forwardOut .0)
   unfolding endedBy
-  finish-told = rw (ended-decided N b previous r forwardOut .when-yes (finish-accepted N b forwardOut lent)) (told-done (refusalNumbers Forward) N (width-pos N (r .wide)))
+  finish-told = rw (ended-decided N b t previous r forwardOut .when-yes (finish-accepted N b forwardOut lent)) (told-done (refusalNumbers Forward) N (width-pos N (r .wide)))
 
   pub forward-told : (answer : ℕ × ℕ) → Source Forward forwardRun answer → Told (refusalNumbers Forward) N answer
   unfolding refusalNumbers among
-  forward-told = told-source Forward (refusalNumbers Forward) N forwardRun (width-pos N (r .wide)) refl block-told finish-told
+  forward-told = told-source Forward (refusalNumbers Forward) N forwardRun (width-pos N (r .wide)) refl refl block-told finish-told
 
 -- ---- back
-module _ (N b : ℕ) (low : List ℤ) (r : ReachedBack N b low) where
+module _ (N b : ℕ) (t : ℤ) (low : List ℤ) (r : ReachedBack N b t low) where
   abbrev backRun : Run
-  backRun = opened N b low
+  backRun = opened N b t low
 
   abbrev backOut : List ℤ
   backOut = lentOutput backRun
@@ -113,7 +114,7 @@ module _ (N b : ℕ) (low : List ℤ) (r : ReachedBack N b low) where
       let folded = unstages N frame in
       let half = width-half N (r .wide) in
       let long = length-unstages N frame in
-      rw (back-sound N b low r, eq-eqb (length backOut) N (output-long N b low (r .wide)))
+      rw (back-sound N b t low r, eq-eqb (length backOut) N (output-long N b t low (r .wide)))
       (told-asked ms N p 4 refl backRun backOut _ (ltb b frameLimit) (λ _.
       told-asked ms N p 6 refl backRun backOut _ (eqb (length frame) N) (λ e.
       let l = eqb-true (length frame) N e in
@@ -128,10 +129,10 @@ module _ (N b : ℕ) (low : List ℤ) (r : ReachedBack N b low) where
   end-told =
       let p = width-pos N (r .wide) in
       let ms = refusalNumbers Back in
-      rw (back-sound N b low r, take-filled (halfWidth N) low (r .long))
+      rw (back-sound N b t low r, take-filled (halfWidth N) low (r .long))
       (told-asked ms N p 5 refl backRun [] _ (ltb 0 b) (λ _.
       told-each ms N p 11 refl backRun [] _ (beyond (pos 0)) low 0 (omega (arith, r .long, width-half N (r .wide))) (told-done ms N p)))
 
   pub back-told : (answer : ℕ × ℕ) → Source Back backRun answer → Told (refusalNumbers Back) N answer
   unfolding refusalNumbers among
-  back-told = told-source Back (refusalNumbers Back) N backRun (width-pos N (r .wide)) refl frame-told end-told
+  back-told = told-source Back (refusalNumbers Back) N backRun (width-pos N (r .wide)) refl refl frame-told end-told

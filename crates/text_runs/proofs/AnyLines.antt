@@ -10,14 +10,17 @@ use borrow.Author.Tests.{eqb-true, eqb-false}
 use lib.Dec.{eqb, leb}
 use lib.IntN.{ℤ}
 use lib.ListN.{length}
+use Rattle.integers.specs.Vectors.{alike}
+use Rattle.integers.proofs.Sums.{alike-same}
 use Rattle.runs.specs.declared.record.Run.{Run}
 use Rattle.runs.specs.Gate as Gate
 use Rattle.text_runs.specs.Lines.{endLine}
 use Rattle.text_runs.specs.declared.state.Way.{Way}
+use Rattle.text_runs.specs.declared.state.State.{State}
 use Rattle.text_runs.specs.declared.state.Phase.the-variants.{Between, Ended}
 use Rattle.text_runs.specs.State.{LineResult, lineBetween, lineNumber, refused}
 use Rattle.text_runs.specs.Way.{lentOutput, takenBy, endedBy, shownRow}
-use Rattle.text_runs.specs.Line.{lineLimit, badForm, formed, notFormed, lineTaken, finishGiven, endIn, inputEnded}
+use Rattle.text_runs.specs.Line.{lineLimit, badForm, formed, notFormed, lineTaken, totalAsked, finishGiven, endIn, inputEnded}
 use Rattle.text_runs.specs.Input.{Line, printedFrom}
 use Rattle.text_runs.specs.EveryInput.{refusalLine}
 use Rattle.text_runs.proofs.UpToLaws.{tested}
@@ -57,10 +60,11 @@ pub record LinesWhole (way : Way) (run : Run) (lines : List Line) : Type 0 where
   pub rows : List (List ℤ)
   pub taken : AllTaken way run rows
   pub ended : endedBy way (runBehind way run rows) (lentOutput (runBehind way run rows)) .0 .0 ≡ 0
-  pub lines-are : lines ≡ linesBetween rows ((true, endLine (runBehind way run rows .count)) ∷ [])
+  pub lines-are : lines ≡ linesBetween rows ((true, endLine (runBehind way run rows .count) (runBehind way run rows .total)) ∷ [])
 
+-- a refusal is of a line between, of the finish, or of the total
 abbrev pub Source : Way → Run → ℕ × ℕ → Type 0
-Source way run answer = RowSource way run answer ⊎ (answer ≡ endedBy way run (lentOutput run) .0)
+Source way run answer = RowSource way run answer ⊎ (answer ≡ endedBy way run (lentOutput run) .0) ⊎ (answer ≡ (16, 0))
 
 pub record LinesRefused (way : Way) (run : Run) (lines : List Line) : Type 0 where
   pub rows : List (List ℤ)
@@ -91,33 +95,48 @@ module _ (way : Way) (run : Run) where
   line-no line lines r = refused-here (line ∷ lines) (r .answer) (r .numbered) (inl (r .source)) (line-refused (state way Between run) line (r .answer) lines (r .given))
 
   -- ---- behind the end line: the finish, or text left over
-  left-over : (line : Line) (lines : List Line) → printedFrom (state way Ended run) (line ∷ lines) ≡ refusalLine 13 (lineBetween (run .count)) 0
-  unfolding lineTaken formed notFormed badForm lineNumber
-  left-over line lines =
-      line-refused (state way Ended run) line (13, 0) lines (⊎-elim (λ e. rw e) (λ e. rw e) (tested (line .0 && leb (length (line .1)) lineLimit)))
+  module _ (total : ℤ) where
+    abbrev ended-state : State
+    ended-state = state way (Ended total) run
 
-  finish-given : eqb (endedBy way run (lentOutput run) .0 .0) 0 ≡ false → inputEnded (state way Ended run) ≡ refused (state way Ended run) (endedBy way run (lentOutput run) .0)
-  unfolding inputEnded endIn finishGiven
-  finish-given e = rw e
+    left-over : (line : Line) (lines : List Line) → printedFrom ended-state (line ∷ lines) ≡ refusalLine 13 (lineBetween (run .count)) 0
+    unfolding lineTaken formed notFormed badForm lineNumber
+    left-over line lines = line-refused ended-state line (13, 0) lines (⊎-elim (λ e. rw e) (λ e. rw e) (tested (line .0 && leb (length (line .1)) lineLimit)))
 
-  finish-no : eqb (endedBy way run (lentOutput run) .0 .0) 0 ≡ false
-      → printedFrom (state way Ended run) [] ≡ refusalLine (endedBy way run (lentOutput run) .0 .0) (lineBetween (run .count)) (endedBy way run (lentOutput run) .0 .1)
-  unfolding printedFrom refused lineNumber refusalLine
-  finish-no e = ap (λ (g : LineResult). g .1) (finish-given e)
+    end-refused : (answer : ℕ × ℕ) → inputEnded ended-state ≡ refused ended-state answer → printedFrom ended-state [] ≡ refusalLine (answer .0) (lineBetween (run .count)) (answer .1)
+    unfolding printedFrom refused lineNumber refusalLine
+    end-refused answer e = ap (λ (g : LineResult). g .1) e
 
-  end-printed : (line : Line) (lines : List Line) → LineEnds way run line → printedFrom (state way Between run) (line ∷ lines) ≡ printedFrom (state way Ended run) lines
-  unfolding printedFrom
-  end-printed line lines r = rw (r .given)
+    finish-no : eqb (endedBy way run (lentOutput run) .0 .0) 0 ≡ false → inputEnded ended-state ≡ refused ended-state (endedBy way run (lentOutput run) .0)
+    unfolding inputEnded endIn finishGiven
+    finish-no e = rw e
 
-  line-ends : (line : Line) (lines : List Line) → LineEnds way run line → AnyLines way run (line ∷ lines)
-  unfolding AllTaken runBehind linesBetween
-  line-ends line [] r =
-      ⊎-elim (λ e. inl (record { rows = []; taken = tt; ended = eqb-true _ 0 e; lines-are = ap (λ (l : Line). l ∷ []) (r .is) }))
-      (λ e.
-      let z = eqb-false (endedBy way run (lentOutput run) .0 .0) 0 e in
-      inr (refused-here (line ∷ []) (endedBy way run (lentOutput run) .0) (omega (arith, z)) (inr refl) (end-printed line [] r ∙ finish-no e)))
-      (tested (eqb (endedBy way run (lentOutput run) .0 .0) 0))
-  line-ends line (next ∷ lines) r = inr (refused-here (line ∷ next ∷ lines) (13, 0) (omega arith) (inl (inl refl)) (end-printed line (next ∷ lines) r ∙ left-over next lines))
+    total-no : eqb (endedBy way run (lentOutput run) .0 .0) 0 ≡ true → alike total (run .total) ≡ false → inputEnded ended-state ≡ refused ended-state (16, 0)
+    unfolding inputEnded endIn finishGiven totalAsked
+    total-no e f = rw (e, f)
+
+  module _ (line : Line) (r : LineEnds way run line) where
+    end-printed : (lines : List Line) → printedFrom (state way Between run) (line ∷ lines) ≡ printedFrom (state way (Ended (r .total)) run) lines
+    unfolding printedFrom
+    end-printed lines = rw (r .given)
+
+    finish-works : eqb (endedBy way run (lentOutput run) .0 .0) 0 ≡ true → AnyLines way run (line ∷ [])
+    unfolding AllTaken runBehind linesBetween
+    finish-works e =
+        ⊎-elim
+        (λ f.
+        inl (record { rows = []; taken = tt; ended = eqb-true _ 0 e; lines-are = ap (λ (l : Line). l ∷ []) (r .is ∙ ap (λ (t : ℤ). (true, endLine (run .count) t)) (alike-same (r .total) (run .total) f)) }))
+        (λ f. inr (refused-here (line ∷ []) (16, 0) (omega arith) (inr (inr refl)) (end-printed [] ∙ end-refused (r .total) (16, 0) (total-no (r .total) e f))))
+        (tested (alike (r .total) (run .total)))
+
+    finish-refused : eqb (endedBy way run (lentOutput run) .0 .0) 0 ≡ false → LinesRefused way run (line ∷ [])
+    finish-refused e =
+        let z = eqb-false (endedBy way run (lentOutput run) .0 .0) 0 e in
+        refused-here (line ∷ []) (endedBy way run (lentOutput run) .0) (omega (arith, z)) (inr (inl refl)) (end-printed [] ∙ end-refused (r .total) (endedBy way run (lentOutput run) .0) (finish-no (r .total) e))
+
+    line-ends : (lines : List Line) → AnyLines way run (line ∷ lines)
+    line-ends [] = ⊎-elim finish-works (λ e. inr (finish-refused e)) (tested (eqb (endedBy way run (lentOutput run) .0 .0) 0))
+    line-ends (next ∷ lines) = inr (refused-here (line ∷ next ∷ lines) (13, 0) (omega arith) (inl (inl refl)) (end-printed (next ∷ lines) ∙ left-over (r .total) next lines))
 
   -- ---- behind a row
   module _ (line : Line) (lines : List Line) (r : LineRow way run line) where
@@ -150,6 +169,6 @@ pub lines-is : (way : Way) (run : Run) (lines : List Line) → AnyLines way run 
 lines-is way run [] = inr (missing-text-refused way run)
 lines-is way run (line ∷ lines) =
     ⊎-elim (λ r. inr (line-no way run line lines r))
-    (⊎-elim (λ r. line-ends way run line lines r)
+    (⊎-elim (λ r. line-ends way run line r lines)
     (λ r. ⊎-elim (λ w. inl (row-whole way run line lines r w)) (λ w. inr (row-no way run line lines r w)) (lines-is way (takenBy way run (r .xs) (lentOutput run) .1) lines)))
     (line-is way run line)

@@ -78,7 +78,8 @@ pub record TextWhole (way : Way) (input : List ℕ) : Type 0 where
   pub rows : List (List ℤ)
   pub taken : AllTaken way (started width .1) rows
   pub ended : endedBy way (runBehind way (started width .1) rows) (lentOutput (runBehind way (started width .1) rows)) .0 .0 ≡ 0
-  pub lines-are : linesOf input ≡ (true, decimal width) ∷ linesBetween rows ((true, endLine (runBehind way (started width .1) rows .count)) ∷ [])
+  pub lines-are : linesOf input
+      ≡ (true, decimal width) ∷ linesBetween rows ((true, endLine (runBehind way (started width .1) rows .count) (runBehind way (started width .1) rows .total)) ∷ [])
 
 pub record TextRefused (way : Way) (input : List ℕ) : Type 0 where
   pub width : ℕ

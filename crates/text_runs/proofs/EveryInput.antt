@@ -5,10 +5,10 @@ use mathlib.Core.Bool.{true}
 use mathlib.Core.List.{List, [], _∷_, _++_}
 use Prim.Native.Nat.{ℕ, suc, _≤_}
 use native.Mathlib.Omega.{arith}
-use borrow.Author.Tests.{le-leb}
-use lib.IntN.{ℤ}
+use lib.IntN.{ℤ, pos, +ℤ-idl}
 use lib.ListN.{length, take}
 use lib.Seq.{take-length}
+use Rattle.integers.specs.Vectors.{totalOf}
 use Rattle.steps.specs.Steps.{held}
 use Rattle.distance.specs.Statement.{IsWidth}
 use Rattle.runs.specs.declared.record.Run.{Run}
@@ -29,6 +29,7 @@ use Rattle.text_runs.specs.Input.{printedOf}
 use Rattle.text_runs.specs.Return.{rowLines, textOf, framesMade, InRange}
 use Rattle.text_runs.specs.EveryInput.{Blocks, rowsRead, rowsShown, other, Accepted, firstLines, refusalLine, ReadBefore, RefusedBehind, Refused, refusalNumbers, EveryInputTold, AcceptedText, EveryTextAccepted, AcceptedReturned}
 use Rattle.text_runs.proofs.LineLaws.{linesBetween, text-lines}
+use Rattle.text_runs.proofs.OneLine.{line-counted}
 use Rattle.text_runs.proofs.TextReturn.{every-text-run}
 use Rattle.text_runs.proofs.TextLines.{same-lines, width-first}
 use Rattle.text_runs.proofs.TextEnds.{lastLineOf, refusal-last, behind-last, whole-not-refused}
@@ -48,26 +49,23 @@ good-blocks : (N : ℕ) → IsWidth N → (xs : List (List ℤ)) → AllBlocks N
 good-blocks N w xs hs few = record { wide = w; rows = blocks-rows N xs hs; within = blocks-range N xs hs; few = few }
 
 -- ---- an input that is the text of blocks, or of their frames, is accepted
-text-shown : (way : Way) (N : ℕ) (xs : List (List ℤ)) → Blocks N xs → printedOf way (textOf N (rowsRead way N xs)) ≡ textOf N (rowsShown way N xs)
+text-shown : (way : Way) (N : ℕ) (xs : List (List ℤ)) → Blocks N xs → printedOf way (textOf N (rowsRead way N xs) (totalOf xs)) ≡ textOf N (rowsShown way N xs) (totalOf xs)
 unfolding rowsRead rowsShown
 text-shown Forward N xs b = every-text-run N (b .wide) xs (b .rows) (b .within) (b .few) .forward
 text-shown Back N xs b =
     let t = every-text-run N (b .wide) xs (b .rows) (b .within) (b .few) in
     ap (printedOf Back) (sym (t .forward)) ∙ t .back
 
-accepted-of : (way : Way) (input : List ℕ) (N : ℕ) (xs : List (List ℤ)) → Blocks N xs → input ≡ textOf N (rowsRead way N xs) → Accepted way input
+accepted-of : (way : Way) (input : List ℕ) (N : ℕ) (xs : List (List ℤ)) → Blocks N xs → input ≡ textOf N (rowsRead way N xs) (totalOf xs) → Accepted way input
 accepted-of way input N xs b e = record { width = N; blocks = xs; run = b; input-is = e; printed-is = ap (printedOf way) e ∙ text-shown way N xs b }
 
--- ---- from what any input is, where the record behind its rows has counted them
+-- ---- from what any input is, where the record behind its rows has counted them and added their readings
 module _ (way : Way) (input : List ℕ) where
-  text-of : (a : TextWhole way input) → runBehind way (started (a .width) .1) (a .rows) .count ≡ length (a .rows) → input ≡ textOf (a .width) (a .rows)
-  text-of a e =
-      same-lines input (textOf (a .width) (a .rows))
-      (a .lines-are ∙ ap (λ (n : ℕ). (true, decimal (a .width)) ∷ linesBetween (a .rows) ((true, endLine n) ∷ [])) e ∙ sym (text-lines (a .width) (a .rows)))
-
-  line-of : (count rows : ℕ) → count ≡ rows → rows ≤ frameLimit → lineBetween count ≡ suc (suc rows)
-  unfolding lineBetween
-  line-of count rows e h = rw (e, le-leb rows frameLimit h)
+  text-of : (a : TextWhole way input) (total : ℤ) → runBehind way (started (a .width) .1) (a .rows) .count ≡ length (a .rows) → runBehind way (started (a .width) .1) (a .rows) .total ≡ total
+      → input ≡ textOf (a .width) (a .rows) total
+  text-of a total e f =
+      same-lines input (textOf (a .width) (a .rows) total)
+      (a .lines-are ∙ ap₂ (λ (n : ℕ) (t : ℤ). (true, decimal (a .width)) ∷ linesBetween (a .rows) ((true, endLine n t) ∷ [])) e f ∙ sym (text-lines (a .width) (a .rows) total))
 
   refused-of : (a : TextRefused way input) (xs : List (List ℤ)) → Blocks (a .width) xs → ReadBefore way (a .width) (a .rows) xs
       → shownFor way (started (a .width) .1) (a .rows) ≡ rowLines (take (length xs) (rowsShown way (a .width) xs))
@@ -88,21 +86,25 @@ module _ (way : Way) (input : List ℕ) where
     placed = t .placed;
     printed-is =
         a .printed-is
-        ∙ ap₂ (λ (text : List ℕ) (line : ℕ). (decimal (a .width) ++ lineFeed ∷ []) ++ (text ++ refusalLine (a .number) line (a .place))) e (line-of _ _ f h)
+        ∙ ap₂ (λ (text : List ℕ) (line : ℕ). (decimal (a .width) ++ lineFeed ∷ []) ++ (text ++ refusalLine (a .number) line (a .place))) e (ap lineBetween f ∙ line-counted _ h)
         ∙ width-first (a .width) (rowLines (take (length xs) (rowsShown way (a .width) xs))) (refusalLine (a .number) (suc (suc (length (a .rows)))) (a .place));
   }
 
 -- ---- forward
 module _ (N : ℕ) (w : IsWidth N) (rows : List (List ℤ)) (t : AllTaken Forward (started N .1) rows) where
-  from-start : BlocksTaken N 0 (zeros N) rows
-  from-start = blocks-taken N rows 0 (zeros N) (reached-first N w) (subst (λ (run : Run). AllTaken Forward run rows) (started-open N w) t)
+  from-start : BlocksTaken N 0 (pos 0) (zeros N) rows
+  from-start = blocks-taken N rows 0 (pos 0) (zeros N) (reached-first N w) (subst (λ (run : Run). AllTaken Forward run rows) (started-open N w) t)
 
-  blocks-behind : runBehind Forward (started N .1) rows ≡ opened N (from-start .count) (held N (from-start .last))
+  blocks-behind : runBehind Forward (started N .1) rows ≡ opened N (from-start .count) (from-start .total) (held N (from-start .last))
   blocks-behind = ap (λ (run : Run). runBehind Forward run rows) (started-open N w) ∙ from-start .behind
 
   blocks-counted : runBehind Forward (started N .1) rows .count ≡ length rows
   unfolding opened
   blocks-counted = ap (λ (run : Run). run .count) blocks-behind ∙ omega (arith, from-start .counted)
+
+  blocks-summed : runBehind Forward (started N .1) rows .total ≡ totalOf rows
+  unfolding opened
+  blocks-summed = ap (λ (run : Run). run .total) blocks-behind ∙ from-start .total-is ∙ +ℤ-idl (totalOf rows)
 
   blocks-good : Blocks N rows
   blocks-good = good-blocks N w rows (from-start .blocks) (omega (arith, from-start .counted, from-start .reached .counted))
@@ -113,13 +115,13 @@ module _ (N : ℕ) (w : IsWidth N) (rows : List (List ℤ)) (t : AllTaken Forwar
 
   answer-forward : (answer : ℕ × ℕ) → Source Forward (runBehind Forward (started N .1) rows) answer → Told (refusalNumbers Forward) N answer
   answer-forward answer s =
-      forward-told N (from-start .count) (from-start .last) (from-start .reached) answer (subst (λ (run : Run). Source Forward run answer) blocks-behind s)
+      forward-told N (from-start .count) (from-start .total) (from-start .last) (from-start .reached) answer (subst (λ (run : Run). Source Forward run answer) blocks-behind s)
 
 forward-whole : (input : List ℕ) → TextWhole Forward input → Accepted Forward input
 unfolding rowsRead
 forward-whole input a =
     accepted-of Forward input (a .width) (a .rows) (blocks-good (a .width) (a .wide) (a .rows) (a .taken))
-    (text-of Forward input a (blocks-counted (a .width) (a .wide) (a .rows) (a .taken)))
+    (text-of Forward input a (totalOf (a .rows)) (blocks-counted (a .width) (a .wide) (a .rows) (a .taken)) (blocks-summed (a .width) (a .wide) (a .rows) (a .taken)))
 
 forward-refused : (input : List ℕ) → TextRefused Forward input → RefusedBehind Forward input
 unfolding ReadBefore
@@ -137,18 +139,23 @@ module _ (N : ℕ) (w : IsWidth N) (rows : List (List ℤ)) (t : AllTaken Back (
   unfolding opened
   frames-counted = ap (λ (run : Run). run .count) (read-back .behind) ∙ read-back .counted
 
+  frames-summed : runBehind Back (started N .1) rows .total ≡ totalOf (read-back .xs)
+  unfolding opened
+  frames-summed = ap (λ (run : Run). run .total) (read-back .behind) ∙ read-back .total-is
+
   blocks-given : Blocks N (read-back .xs)
   blocks-given = good-blocks N w (read-back .xs) (read-back .blocks) (read-back .few)
 
   answer-back : (answer : ℕ × ℕ) → Source Back (runBehind Back (started N .1) rows) answer → Told (refusalNumbers Back) N answer
-  answer-back answer s = back-told N (read-back .count) (read-back .last) (read-back .reached) answer (subst (λ (run : Run). Source Back run answer) (read-back .behind) s)
+  answer-back answer s = back-told N (read-back .count) (read-back .total) (read-back .last) (read-back .reached) answer (subst (λ (run : Run). Source Back run answer) (read-back .behind) s)
 
 back-whole : (input : List ℕ) → TextWhole Back input → Accepted Back input
 unfolding rowsRead framesMade endedBy
 back-whole input a =
     let f = frames-read (a .width) (a .wide) (a .rows) (a .taken) in
     accepted-of Back input (a .width) (f .xs) (blocks-given (a .width) (a .wide) (a .rows) (a .taken))
-    (text-of Back input a (frames-counted (a .width) (a .wide) (a .rows) (a .taken)) ∙ ap (textOf (a .width)) (f .all-are (a .ended) ∙ sym (all-frames (a .width) (f .xs))))
+    (text-of Back input a (totalOf (f .xs)) (frames-counted (a .width) (a .wide) (a .rows) (a .taken)) (frames-summed (a .width) (a .wide) (a .rows) (a .taken))
+    ∙ ap (λ (frames : List (List ℤ)). textOf (a .width) frames (totalOf (f .xs))) (f .all-are (a .ended) ∙ sym (all-frames (a .width) (f .xs))))
 
 back-refused : (input : List ℕ) → TextRefused Back input → RefusedBehind Back input
 unfolding ReadBefore rowsShown framesMade
@@ -170,8 +177,8 @@ refused-behind Back = back-refused
 
 never-both : (way : Way) (input : List ℕ) → Accepted way input → Refused way input → ⊥
 never-both way input a =
-    ⊎-elim (λ r. whole-not-refused (r .number) 1 0 _ _ _ (a .printed-is) (ap lastLineOf (r .printed-is) ∙ refusal-last (r .number) 1 0))
-    (λ r. whole-not-refused (r .number) _ (r .place) _ _ _ (a .printed-is) (ap lastLineOf (r .printed-is) ∙ behind-last (r .number) _ (r .place) _ _ _))
+    ⊎-elim (λ r. whole-not-refused (r .number) 1 0 _ _ _ _ (a .printed-is) (ap lastLineOf (r .printed-is) ∙ refusal-last (r .number) 1 0))
+    (λ r. whole-not-refused (r .number) _ (r .place) _ _ _ _ (a .printed-is) (ap lastLineOf (r .printed-is) ∙ behind-last (r .number) _ (r .place) _ _ _))
 
 pub every-input : EveryInputTold
 every-input way input = record {
@@ -185,7 +192,7 @@ accepted-text way input h = ⊎-elim (λ a. a) (λ r. absurd (h r)) (every-input
 
 -- ---- 3
 pub every-text-accepted : EveryTextAccepted
-every-text-accepted way N xs b = accepted-of way (textOf N (rowsRead way N xs)) N xs b refl
+every-text-accepted way N xs b = accepted-of way (textOf N (rowsRead way N xs) (totalOf xs)) N xs b refl
 
 -- ---- 4
 read-other : (way : Way) (N : ℕ) (xs : List (List ℤ)) → (rowsShown way N xs ≡ rowsRead (other way) N xs) × (rowsShown (other way) N xs ≡ rowsRead way N xs)
@@ -196,8 +203,9 @@ read-other Back N xs = (refl, refl)
 pub accepted-returned : AcceptedReturned
 accepted-returned way input a =
     let others = read-other way (a .width) (a .blocks) in
-    let e = a .printed-is ∙ ap (textOf (a .width)) (others .0) in
+    let text : List (List ℤ) → List ℕ = λ rows. textOf (a .width) rows (totalOf (a .blocks)) in
+    let e = a .printed-is ∙ ap text (others .0) in
     record {
       accepted = accepted-of (other way) (printedOf way input) (a .width) (a .blocks) (a .run) e;
-      same = ap (printedOf (other way)) e ∙ text-shown (other way) (a .width) (a .blocks) (a .run) ∙ ap (textOf (a .width)) (others .1) ∙ sym (a .input-is);
+      same = ap (printedOf (other way)) e ∙ text-shown (other way) (a .width) (a .blocks) (a .run) ∙ ap text (others .1) ∙ sym (a .input-is);
     }

@@ -1,10 +1,11 @@
 -- The frames that a run back takes from a fresh start: the blocks printed, and which frames they make.
 use mathlib.Core.Path.{_≡_, refl, sym, ap, ap₂, subst, _∙_}
 use mathlib.Core.List.{List, [], _∷_, _++_}
-use Prim.Native.Nat.{ℕ, suc, _+_, _-_, _≤_}
+use Prim.Native.Nat.{ℕ, suc, _-_, _≤_}
 use native.Mathlib.Omega.{arith}
-use lib.IntN.{ℤ}
+use lib.IntN.{ℤ, pos, +ℤ-idl}
 use lib.ListN.{length, take}
+use Rattle.integers.specs.Vectors.{totalOf}
 use Rattle.tables.specs.Widths.{halfWidth}
 use Rattle.steps.proofs.ZeroBlock.{held-zeros}
 use Rattle.distance.specs.Statement.{IsWidth}
@@ -34,24 +35,26 @@ pub record FramesRead (N : ℕ) (run : Run) (rows : List (List ℤ)) : Type 0 wh
   pub many : length xs ≡ length rows - 1
   pub count : ℕ
   pub counted : count ≡ length rows
+  pub total : ℤ
+  pub total-is : total ≡ totalOf xs
   pub last : List ℤ
-  pub behind : runBehind Back run rows ≡ opened N count last
-  pub reached : ReachedBack N count last
+  pub behind : runBehind Back run rows ≡ opened N count total last
+  pub reached : ReachedBack N count total last
   pub shown-are : shownFor Back run rows ≡ rowLines xs
   pub first-are : take (length xs) rows ≡ take (length xs) (allFrames N xs)
   pub all-are : endedBack (runBehind Back run rows) .0 .0 ≡ 0 → rows ≡ allFrames N xs
 
 module _ (N : ℕ) (w : IsWidth N) where
   abbrev run : Run
-  run = opened N 0 (zeros (halfWidth N))
+  run = opened N 0 (pos 0) (zeros (halfWidth N))
 
   -- without a frame no finish works
   none-ended : endedBack run .0 .0 ≡ 0 → ⊥
   unfolding opened told
-  none-ended e = omega (arith, ap (λ (g : CallResult). g .0 .0) (end-empty-refused run (back-sound N 0 (zeros (halfWidth N)) (back-first N w)) refl refl), e)
+  none-ended e = omega (arith, ap (λ (g : CallResult). g .0 .0) (end-empty-refused run (back-sound N 0 (pos 0) (zeros (halfWidth N)) (back-first N w)) refl refl), e)
 
   no-frame : FramesRead N run []
-  unfolding runBehind shownFor rowLines
+  unfolding runBehind shownFor rowLines totalOf
   no-frame = record {
     xs = [];
     blocks = blocks-none N;
@@ -59,6 +62,8 @@ module _ (N : ℕ) (w : IsWidth N) where
     many = refl;
     count = 0;
     counted = refl;
+    total = pos 0;
+    total-is = refl;
     last = zeros (halfWidth N);
     behind = refl;
     reached = back-first N w;
@@ -70,19 +75,19 @@ module _ (N : ℕ) (w : IsWidth N) where
   module _ (c : List ℤ) (works : takenBy Back run c (lentOutput run) .0 .0 ≡ 0) where
     wide : length c ≡ N
     unfolding takenBy
-    wide = frame-wide N 0 (zeros (halfWidth N)) c (lentOutput run) works
+    wide = frame-wide N 0 (pos 0) (zeros (halfWidth N)) c (lentOutput run) works
 
     first : FirstAccepted N c (lentOutput run)
     unfolding takenBy
-    first = first-accepted N w c (lentOutput run) wide (output-long N 0 (zeros (halfWidth N)) w) works
+    first = first-accepted N w c (lentOutput run) wide (output-long N 0 (pos 0) (zeros (halfWidth N)) w) works
 
-    first-given : takenBy Back run c (lentOutput run) ≡ ((0, 0), opened N 1 (lowHalf N c), lentOutput run)
+    first-given : takenBy Back run c (lentOutput run) ≡ ((0, 0), opened N 1 (pos 0) (lowHalf N c), lentOutput run)
     unfolding takenBy
     first-given = first .given
 
-    some-frames : (rows : List (List ℤ)) → AllTaken Back (opened N 1 (lowHalf N c)) rows → FramesRead N run (c ∷ rows)
+    some-frames : (rows : List (List ℤ)) → AllTaken Back (opened N 1 (pos 0) (lowHalf N c)) rows → FramesRead N run (c ∷ rows)
     some-frames rows t =
-        let f = frames-taken N rows 0 (lowHalf N c) c (zeros N) (first .reached) wide (first .upper ∙ sym (held-zeros N N)) refl t in
+        let f = frames-taken N rows 0 (pos 0) (lowHalf N c) c (zeros N) (first .reached) wide (first .upper ∙ sym (held-zeros N N)) refl t in
         let behind = run-next Back run c rows _ _ first-given ∙ f .behind in
         record {
           xs = f .xs;
@@ -91,12 +96,14 @@ module _ (N : ℕ) (w : IsWidth N) where
           many = omega (arith, f .many);
           count = suc (f .count);
           counted = omega (arith, f .counted);
+          total = f .total;
+          total-is = f .total-is ∙ +ℤ-idl (totalOf (f .xs));
           last = f .last;
           behind = behind;
           reached = f .reached;
-          shown-are = shown-next Back run c rows _ _ first-given ∙ ap₂ (λ (a b : List ℕ). a ++ b) (first-shownRow N (zeros (halfWidth N)) (lentOutput run)) (f .shown-are);
+          shown-are = shown-next Back run c rows _ _ first-given ∙ ap₂ (λ (a b : List ℕ). a ++ b) (first-shownRow N (pos 0) (zeros (halfWidth N)) (lentOutput run)) (f .shown-are);
           first-are = f .first-are;
-          all-are = λ e. f .all-are (ended-accepted N (f .count) (f .last) (f .reached) (subst (λ (r : Run). endedBack r .0 .0 ≡ 0) behind e));
+          all-are = λ e. f .all-are (ended-accepted N (f .count) (f .total) (f .last) (f .reached) (subst (λ (r : Run). endedBack r .0 .0 ≡ 0) behind e));
         }
 
   frames-of : (rows : List (List ℤ)) → AllTaken Back run rows → FramesRead N run rows

@@ -5,6 +5,7 @@ pub mod FieldLaws
 pub mod SizeLaws
 pub mod RowLaws
 pub mod Inverse
+pub mod EndRead
 pub mod LineLaws
 pub mod OneLine
 pub mod RunRows

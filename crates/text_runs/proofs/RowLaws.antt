@@ -1,22 +1,41 @@
--- Printed numbers: how long a row of them is, and which bytes it has not.
+-- Printed numbers: which fit a word, how long a row of them is, and which bytes it has not.
 use mathlib.Core.Path.{_≡_}
 use mathlib.Core.Bool.{true}
 use mathlib.Core.List.{List, [], _∷_, _++_}
-use Prim.Native.Nat.{ℕ, suc, _*_, _≤_, _<_}
+use Prim.Native.Nat.{ℕ, suc, _*_, _^_, _≤_, _<_}
 use native.Mathlib.Omega.{arith}
 use lib.IntN.{ℤ, pos, negsuc}
 use lib.ListN.{length, length-append}
-use Rattle.text_runs.specs.Decimal.{decimal, printed, allDigits, bits32, allBits}
+use lib.Signed.{mag}
+use Rattle.text_runs.specs.Decimal.{decimal, printed, allDigits, least32, least64, fits, bits32, bits64, allBits}
 use Rattle.text_runs.specs.Lines.{behindCommas, row}
 use Rattle.text_runs.specs.Own.Lacks.{lacks}
 use Rattle.text_runs.proofs.DecimalLaws.{decimal-length, decimal-digits}
 use Rattle.text_runs.proofs.SizeLaws.{digits-first}
 
+-- ---- a number of so many bits, as a machine word has it
+module _ (limit : ℕ) where
+  pub fits-mag : (x : ℤ) → fits limit x → mag x < limit
+  unfolding fits
+  fits-mag (pos n) h = h
+  fits-mag (negsuc n) h = h
+
+  pub mag-fits : (x : ℤ) → mag x < limit → fits limit x
+  unfolding fits
+  mag-fits (pos n) h = h
+  mag-fits (negsuc n) h = h
+
 -- ---- how long
+signed-length : (limit k : ℕ) → limit < 10 ^ k → 0 < k → (x : ℤ) → fits limit x → length (printed x) ≤ suc k
+unfolding printed fits
+signed-length limit k m p (pos n) h = omega (arith, decimal-length k n (omega arith) p)
+signed-length limit k m p (negsuc n) h = omega (arith, decimal-length k (suc n) (omega arith) p)
+
 pub printed-length : (x : ℤ) → bits32 x → length (printed x) ≤ 11
-unfolding printed bits32
-printed-length (pos n) h = omega (arith, decimal-length 10 n (omega arith) (omega arith))
-printed-length (negsuc n) h = omega (arith, decimal-length 10 (suc n) (omega arith) (omega arith))
+printed-length = signed-length least32 10 (omega arith) (omega arith)
+
+pub total-length : (x : ℤ) → bits64 x → length (printed x) ≤ 20
+total-length = signed-length least64 19 (omega arith) (omega arith)
 
 pub behind-length : (xs : List ℤ) → allBits xs → length (behindCommas xs) ≤ 12 * length xs
 unfolding behindCommas allBits

@@ -7,7 +7,7 @@ use native.Mathlib.Omega.{arith}
 use borrow.Author.Tests.{lt-ltb, eq-eqb, ne-eqb}
 use lib.IntN.{ℤ, pos, negsuc, natAbs}
 use lib.ListN.{length, length-replicate}
-use Rattle.integers.specs.Vectors.{AllAbs, Rows}
+use Rattle.integers.specs.Vectors.{totalOf, AllAbs, Rows}
 use Rattle.integers.proofs.Products.{all-getD}
 use Rattle.steps.specs.Limits.{readingLimit, coefficientLimit}
 use Rattle.steps.specs.Steps.{held, frame}
@@ -16,28 +16,31 @@ use Rattle.distance_theorems.proofs.Theorems.{frame-size}
 use Rattle.runs.specs.Record.{blockLimit, opened}
 use Rattle.runs.specs.Gate.{allYes, nothing, inside, dead}
 use Rattle.runs.specs.Calls.{block, finish, accepted}
+use Rattle.runs.specs.Totals.{totalLimit}
 use Rattle.runs.proofs.Searches.{All, none-found, inside-all}
 use Rattle.runs.proofs.RecordLaws.{width-le}
 use Rattle.runs.proofs.EveryList.{AllBlocks, blocks-none, blocks-one}
 use Rattle.runs.proofs.BackLaws.{frame-long}
-use Rattle.text_runs.specs.Decimal.{bits32, allBits}
+use Rattle.runs.proofs.TotalsFit.{within-limit}
+use Rattle.runs.proofs.Totals.{total-blocks}
+use Rattle.text_runs.specs.Decimal.{least32, least64, fits, bits64, allBits}
 use Rattle.text_runs.specs.Way.{lentOutput}
 use Rattle.text_runs.specs.Return.{InRange}
 
-pub output-long : (N b : ℕ) (xs : List ℤ) → IsWidth N → length (lentOutput (opened N b xs)) ≡ N
+pub output-long : (N b : ℕ) (t : ℤ) (xs : List ℤ) → IsWidth N → length (lentOutput (opened N b t xs)) ≡ N
 unfolding lentOutput opened
-output-long N b xs w = omega (arith, length-replicate (min N 128) (pos 0), width-le N w)
+output-long N b t xs w = omega (arith, length-replicate (min N 128) (pos 0), width-le N w)
 
 -- ---- rows of 32 bits
-size-bits : (x : ℤ) (l : ℕ) → l ≤ 2147483647 → natAbs x ≤ l → bits32 x
-unfolding bits32
-size-bits (pos n) l h k = omega arith
-size-bits (negsuc n) l h k = omega arith
+size-fits : (limit l : ℕ) (x : ℤ) → l < limit → natAbs x ≤ l → fits limit x
+unfolding fits
+size-fits limit l (pos n) h k = omega arith
+size-fits limit l (negsuc n) h k = omega arith
 
-pub within-bits : (l : ℕ) (xs : List ℤ) → l ≤ 2147483647 → AllAbs l xs → allBits xs
+pub within-bits : (l : ℕ) (xs : List ℤ) → l < least32 → AllAbs l xs → allBits xs
 unfolding allBits
 within-bits l [] h k = tt
-within-bits l (x ∷ xs) h k = (size-bits x l h (k .0), within-bits l xs h (k .1))
+within-bits l (x ∷ xs) h k = (size-fits least32 l x h (k .0), within-bits l xs h (k .1))
 
 pub block-bits : (N : ℕ) (x : List ℤ) → Block N readingLimit x → allBits x
 block-bits N x h = within-bits readingLimit x (omega arith) (h .within)
@@ -54,6 +57,11 @@ unfolding InRange
 text-blocks N [] rows within = blocks-none N
 text-blocks N (x ∷ blocks) rows within =
     blocks-one N x blocks (record { long = rows .0; within = within .0 }) (text-blocks N blocks (rows .1) (within .1))
+
+-- their total is a number of 64 bits
+pub total-bits : (N : ℕ) → IsWidth N → (blocks : List (List ℤ)) → AllBlocks N blocks → length blocks ≤ blockLimit → bits64 (totalOf blocks)
+total-bits N w blocks hs few =
+    size-fits least64 totalLimit (totalOf blocks) (omega arith) (within-limit (length blocks) N (totalOf blocks) few (width-le N w) (total-blocks N blocks hs))
 
 -- no reading in range is the dead mark
 no-mark : (xs : List ℤ) → AllAbs readingLimit xs → All (λ x. dead x ≡ false) xs

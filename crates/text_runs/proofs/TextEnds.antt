@@ -59,13 +59,13 @@ module _ (number line place : ℕ) where
       ∙ ap (λ (ls : List Line). (true, decimal N) ∷ ls) (rows-lines shown (refusalLine number line place) ∙ ap (linesBetween shown) refusal-lines) in
       ap (lastOf (false, [])) lines ∙ last-between (true, decimal N) (true, refusal number line place) shown
 
-  not-end : (n : ℕ) → _≡_ {A = Line} (true, endLine n) (true, refusal number line place) → ⊥
+  not-end : (n : ℕ) (total : ℤ) → _≡_ {A = Line} (true, endLine n total) (true, refusal number line place) → ⊥
   unfolding endLine endTag refusal refusedTag
-  not-end n e = let z : _≡_ {A = ℕ} 101 114 = ap (λ (l : Line). getD (l .1) 0 0) e in omega arith
+  not-end n total e = let z : _≡_ {A = ℕ} 101 114 = ap (λ (l : Line). getD (l .1) 0 0) e in omega arith
 
-  text-last : (N : ℕ) (rows : List (List ℤ)) → lastLineOf (textOf N rows) ≡ (true, endLine (length rows))
+  text-last : (N : ℕ) (rows : List (List ℤ)) (total : ℤ) → lastLineOf (textOf N rows total) ≡ (true, endLine (length rows) total)
   unfolding lastLineOf lastOf
-  text-last N rows = ap (lastOf (false, [])) (text-lines N rows) ∙ last-between (true, decimal N) (true, endLine (length rows)) rows
+  text-last N rows total = ap (lastOf (false, [])) (text-lines N rows total) ∙ last-between (true, decimal N) (true, endLine (length rows) total) rows
 
-  pub whole-not-refused : (N : ℕ) (rows : List (List ℤ)) (text : List ℕ) → text ≡ textOf N rows → lastLineOf text ≡ (true, refusal number line place) → ⊥
-  whole-not-refused N rows text e f = not-end (length rows) (sym (text-last N rows) ∙ ap lastLineOf (sym e) ∙ f)
+  pub whole-not-refused : (N : ℕ) (rows : List (List ℤ)) (total : ℤ) (text : List ℕ) → text ≡ textOf N rows total → lastLineOf text ≡ (true, refusal number line place) → ⊥
+  whole-not-refused N rows total text e f = not-end (length rows) total (sym (text-last N rows total) ∙ ap lastLineOf (sym e) ∙ f)

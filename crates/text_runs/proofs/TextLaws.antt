@@ -44,9 +44,9 @@ unfolding behindCommas
 commas-none xs i h = ap (λ (n : ℕ). behindCommas (drop n xs)) h ∙ ap behindCommas (drop-length xs)
 
 -- ---- the tags
-pub end-is : (count : ℕ) → (101 ∷ 110 ∷ 100 ∷ 44 ∷ []) ++ decimal count ≡ endLine count
+pub end-is : (count : ℕ) (total : ℤ) → (101 ∷ 110 ∷ 100 ∷ 44 ∷ []) ++ (decimal count ++ ((44 ∷ []) ++ printed total)) ≡ endLine count total
 unfolding endLine endTag
-end-is count = refl
+end-is count total = refl
 
 pub refusal-is : (number line place : ℕ)
     → (114 ∷ 101 ∷ 102 ∷ 117 ∷ 115 ∷ 101 ∷ 100 ∷ 44 ∷ []) ++ (decimal number ++ ((44 ∷ []) ++ (decimal line ++ ((44 ∷ []) ++ decimal place)))) ≡ refusal number line place

@@ -69,9 +69,10 @@ rows-split (suc count) (xs ∷ rows) =
 
 pub first-lines-begin : FirstLinesBegin
 unfolding textOf firstLines
-first-lines-begin count N rows =
+first-lines-begin count N rows total =
     let first = rowLines (take count rows) in
     let others = rowLines (drop count rows) in
-    ap (λ (text : List ℕ). (decimal N ++ lineFeed ∷ text) ++ lastLine (length rows)) (rows-split count rows)
-    ∙ ap (λ (text : List ℕ). text ++ lastLine (length rows)) (sym (append-assoc (decimal N) (lineFeed ∷ first) others))
-    ∙ append-assoc (decimal N ++ lineFeed ∷ first) others (lastLine (length rows))
+    let last = lastLine (length rows) total in
+    ap (λ (text : List ℕ). (decimal N ++ lineFeed ∷ text) ++ last) (rows-split count rows)
+    ∙ ap (λ (text : List ℕ). text ++ last) (sym (append-assoc (decimal N) (lineFeed ∷ first) others))
+    ∙ append-assoc (decimal N ++ lineFeed ∷ first) others last

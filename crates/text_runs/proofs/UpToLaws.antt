@@ -1,9 +1,9 @@
 -- The part of a text up to a byte: where it ends.
-use mathlib.Core.Path.{_≡_, refl, ap}
+use mathlib.Core.Path.{_≡_, refl, ap, _∙_}
 use mathlib.Core.Logic.{_⊎_, inl, inr, ⊎-elim}
 use mathlib.Core.Bool.{Bool, true, false}
 use mathlib.Core.List.{List, [], _∷_}
-use Prim.Native.Nat.{ℕ, _+_, _≤_, _<_}
+use Prim.Native.Nat.{ℕ, _+_, _-_, _≤_, _<_}
 use native.Mathlib.Numerals.{add-one}
 use native.Mathlib.Omega.{arith}
 use borrow.Author.Tests.{eq-eqb, ne-eqb}
@@ -38,3 +38,9 @@ pub part-is : (b : ℕ) (s : List ℕ) → take (length (upTo b s)) s ≡ upTo b
 unfolding upTo
 part-is b [] = refl
 part-is b (c ∷ bs) = ⊎-elim (λ e. rw e) (λ e. rw e (ap (λ f. c ∷ f) (part-is b bs))) (tested (eqb c b))
+
+-- the part from a place on, as code cuts it
+pub part-cut : (b : ℕ) (s : List ℕ) (from end : ℕ) → end ≡ from + length (upTo b (drop from s)) → take (end - from) (drop from s) ≡ upTo b (drop from s)
+part-cut b s from end h =
+    let e : end - from ≡ length (upTo b (drop from s)) = omega arith in
+    ap (λ (n : ℕ). take n (drop from s)) e ∙ part-is b (drop from s)

@@ -1,7 +1,8 @@
--- A whole number in decimal, 32 bits signed: document 01, "The text run". There is one way to write each number. Bytes are the codes of ASCII.
+-- A whole number in decimal, 32 bits signed: document 01, "The text run"; and 64 bits signed: request 2. There is one way to write each number.
+-- Bytes are the codes of ASCII.
 use mathlib.Core.Bool.{Bool, true, false, cond, not, _&&_}
 use mathlib.Core.List.{List, [], _∷_}
-use Prim.Native.Nat.{ℕ, zero, suc, _+_, _-_, _*_, _/_, _%_, _≤_}
+use Prim.Native.Nat.{ℕ, zero, suc, _+_, _-_, _*_, _/_, _%_, _<_}
 use lib.Dec.{eqb, ltb, leb}
 use lib.IntN.{ℤ, pos, negsuc}
 use Rattle.text_runs.specs.declared.number.Size.{Size}
@@ -69,15 +70,34 @@ unfoldable pub positive : Size → Field
 positive (Size.Of n) = Field.Number (pos n)
 positive Size.Bad = Field.Bad
 
--- 32 bits signed
-unfoldable pub numberIn : List ℕ → Field
-numberIn [] = Field.Bad
-numberIn (b ∷ bs) = cond (eqb b minusSign) (negative (sized 2147483648 bs)) (positive (sized 2147483647 (b ∷ bs)))
+-- signed, where `limit` is the size of the least
+unfoldable pub signedIn : ℕ → List ℕ → Field
+signedIn limit [] = Field.Bad
+signedIn limit (b ∷ bs) = cond (eqb b minusSign) (negative (sized limit bs)) (positive (sized (limit - 1) (b ∷ bs)))
 
--- a number of 32 bits, and a list of such numbers
-unfoldable pub bits32 : ℤ → Type 0
-bits32 (pos n) = n ≤ 2147483647
-bits32 (negsuc n) = suc n ≤ 2147483648
+-- 32 bits, and 64
+abbrev pub least32 : ℕ
+least32 = 2147483648
+
+abbrev pub least64 : ℕ
+least64 = 9223372036854775808
+
+unfoldable pub numberIn : List ℕ → Field
+numberIn bs = signedIn least32 bs
+
+unfoldable pub totalIn : List ℕ → Field
+totalIn bs = signedIn least64 bs
+
+-- a number of so many bits, and a list of numbers of 32 bits
+unfoldable pub fits : ℕ → ℤ → Type 0
+fits limit (pos n) = n < limit
+fits limit (negsuc n) = n < limit
+
+abbrev pub bits32 : ℤ → Type 0
+bits32 = fits least32
+
+abbrev pub bits64 : ℤ → Type 0
+bits64 = fits least64
 
 unfoldable pub allBits : List ℤ → Type 0
 allBits [] = Unit {0}

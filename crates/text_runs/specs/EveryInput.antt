@@ -8,10 +8,10 @@ use Prim.Native.Nat.{ℕ, suc, _-_, _≤_, _<_}
 use lib.Dec.{eqb}
 use lib.IntN.{ℤ}
 use lib.ListN.{length, take, drop}
-use Rattle.integers.specs.Vectors.{Rows}
+use Rattle.integers.specs.Vectors.{totalOf, Rows}
 use Rattle.distance.specs.Statement.{IsWidth}
 use Rattle.runs.specs.Record.{blockLimit}
-use Rattle.text_runs.specs.Decimal.{decimal}
+use Rattle.text_runs.specs.Decimal.{decimal, bits64}
 use Rattle.text_runs.specs.Lines.{lineFeed, refusal}
 use Rattle.text_runs.specs.declared.state.Way.{Way}
 use Rattle.text_runs.specs.declared.state.Way.the-variants.{Forward, Back}
@@ -39,13 +39,14 @@ unfoldable pub other : Way → Way
 other Forward = Back
 other Back = Forward
 
--- ---- accepted: the input is the text of the blocks (of their frames), and what is printed is the text of their frames (of the blocks)
+-- ---- accepted: the input is the text of the blocks (of their frames) with the total of the readings, and what is printed is the text of their
+-- frames (of the blocks) with the same total
 pub record Accepted (way : Way) (input : List ℕ) : Type 0 where
   pub width : ℕ
   pub blocks : List (List ℤ)
   pub run : Blocks width blocks
-  pub input-is : input ≡ textOf width (rowsRead way width blocks)
-  pub printed-is : printedOf way input ≡ textOf width (rowsShown way width blocks)
+  pub input-is : input ≡ textOf width (rowsRead way width blocks) (totalOf blocks)
+  pub printed-is : printedOf way input ≡ textOf width (rowsShown way width blocks) (totalOf blocks)
 
 -- ---- refused
 -- the first lines of a text: the width, and a line for each of the first `count` rows
@@ -54,7 +55,8 @@ firstLines count N rows = decimal N ++ lineFeed ∷ rowLines (take count rows)
 
 -- they are a beginning of it, and what is left are the lines of the other rows and the end line
 abbrev pub FirstLinesBegin : Type 0
-FirstLinesBegin = (count N : ℕ) (rows : List (List ℤ)) → textOf N rows ≡ firstLines count N rows ++ (rowLines (drop count rows) ++ lastLine (length rows))
+FirstLinesBegin =
+    (count N : ℕ) (rows : List (List ℤ)) (total : ℤ) → textOf N rows total ≡ firstLines count N rows ++ (rowLines (drop count rows) ++ lastLine (length rows) total)
 
 -- the line of a refusal, with its line feed
 unfoldable pub refusalLine : ℕ → ℕ → ℕ → List ℕ
@@ -74,8 +76,8 @@ ReadBefore Back N rows blocks = (length blocks ≡ length rows - 1) × (take (le
 
 -- the numbers that a refusal behind the first line can have: 2, 3 and 7 are answers to other callers
 unfoldable pub refusalNumbers : Way → List ℕ
-refusalNumbers Forward = 4 ∷ 6 ∷ 8 ∷ 9 ∷ 13 ∷ []
-refusalNumbers Back = 4 ∷ 5 ∷ 6 ∷ 9 ∷ 10 ∷ 11 ∷ 12 ∷ 13 ∷ []
+refusalNumbers Forward = 4 ∷ 6 ∷ 8 ∷ 9 ∷ 13 ∷ 16 ∷ []
+refusalNumbers Back = 4 ∷ 5 ∷ 6 ∷ 9 ∷ 10 ∷ 11 ∷ 12 ∷ 13 ∷ 16 ∷ []
 
 unfoldable pub among : ℕ → List ℕ → Bool
 among n [] = false
@@ -114,7 +116,7 @@ AcceptedText = (way : Way) (input : List ℕ) → (Refused way input → ⊥) �
 
 -- 3. The text of any blocks (frames) that the run takes is accepted.
 abbrev pub EveryTextAccepted : Type 0
-EveryTextAccepted = (way : Way) (N : ℕ) (blocks : List (List ℤ)) → Blocks N blocks → Accepted way (textOf N (rowsRead way N blocks))
+EveryTextAccepted = (way : Way) (N : ℕ) (blocks : List (List ℤ)) → Blocks N blocks → Accepted way (textOf N (rowsRead way N blocks) (totalOf blocks))
 
 -- 4. What is printed for an accepted text is accepted the other way, and gives that text: back of forward, and forward of back.
 pub record TextReturned (way : Way) (input : List ℕ) : Type 0 where
@@ -123,3 +125,10 @@ pub record TextReturned (way : Way) (input : List ℕ) : Type 0 where
 
 abbrev pub AcceptedReturned : Type 0
 AcceptedReturned = (way : Way) (input : List ℕ) → Accepted way input → TextReturned way input
+
+-- 5. With any other total of 64 bits it is refused by 16 at its end line; forward the last frame is not printed.
+abbrev pub OtherTotalRefused : Type 0
+OtherTotalRefused =
+    (way : Way) (N : ℕ) (blocks : List (List ℤ)) (total : ℤ) → Blocks N blocks → bits64 total → (total ≡ totalOf blocks → ⊥)
+    → printedOf way (textOf N (rowsRead way N blocks) total)
+    ≡ firstLines (length blocks) N (rowsShown way N blocks) ++ refusalLine 16 (suc (suc (length (rowsRead way N blocks)))) 0

@@ -6,12 +6,13 @@ use Prim.Native.Nat.{ℕ}
 use lib.Dec.{eqb, leb}
 use lib.IntN.{ℤ, pos, negsuc}
 use lib.ListN.{length}
+use Rattle.integers.specs.Vectors.{alike}
 use Rattle.runs.specs.Gate as Gate
 use Rattle.runs.specs.Forward.{started}
 use Rattle.text_runs.specs.declared.number.Field.{Field}
 use Rattle.text_runs.specs.declared.number.Field.the-variants as Field
 use Rattle.text_runs.specs.Decimal.{decimal, numberIn}
-use Rattle.text_runs.specs.Lines.{lineFeed, same, endLine, numbersIn}
+use Rattle.text_runs.specs.Lines.{lineFeed, numbersIn, endTotal}
 use Rattle.text_runs.specs.declared.state.Phase.{Phase}
 use Rattle.text_runs.specs.declared.state.State.{State}
 use Rattle.text_runs.specs.declared.state.Phase.the-variants.{First, Between, Ended, Over}
@@ -44,21 +45,25 @@ unfoldable pub rowTaken : State → Option (List ℤ) → LineResult
 rowTaken state none = badForm state
 rowTaken state (some xs) = rowGiven state (takenBy (state .way) (state .run) xs (lentOutput (state .run)))
 
--- such a line, or the end line with the right count
+-- such a line, or the end line with the right count, whose total is kept
+unfoldable pub betweenBy : State → List ℕ → Field → LineResult
+betweenBy state bytes (Field.Number total) = (inPhase (Ended total) state, [])
+betweenBy state bytes Field.Bad = rowTaken state (numbersIn bytes)
+
 unfoldable pub betweenTaken : State → List ℕ → LineResult
-betweenTaken state bytes = cond (same bytes (endLine (state .run .count))) (inPhase Ended state, []) (rowTaken state (numbersIn bytes))
+betweenTaken state bytes = betweenBy state bytes (endTotal (state .run .count) bytes)
 
 -- a line of good form, by what should come; behind the end line nothing should, so the finish is not worked there
 unfoldable pub formed : Phase → State → List ℕ → LineResult
 formed First state bytes = widthTaken state (numberIn bytes)
 formed Between state bytes = betweenTaken state bytes
-formed Ended state bytes = badForm state
+formed (Ended total) state bytes = badForm state
 formed Over state bytes = (state, [])
 
 unfoldable pub notFormed : Phase → State → LineResult
 notFormed First state = badForm state
 notFormed Between state = badForm state
-notFormed Ended state = badForm state
+notFormed (Ended total) state = badForm state
 notFormed Over state = (state, [])
 
 -- a line, and whether it is whole: it ended in a line feed. That, and its length, are asked before anything else.
@@ -66,15 +71,19 @@ unfoldable pub lineTaken : State → Bool → List ℕ → LineResult
 lineTaken state whole bytes = cond (whole && leb (length bytes) lineLimit) (formed (state .phase) state bytes) (notFormed (state .phase) state)
 
 -- ---- the end of the input
-unfoldable pub finishGiven : State → Gate.CallResult → LineResult
-finishGiven state given =
-    cond (eqb (given .0 .0) 0) (withRun Over (given .1) state, shownLast (state .way) (state .run) (given .2)) (refused state (given .0))
+-- 16, behind all others: the total of the end line is the one worked out
+unfoldable pub totalAsked : State → ℤ → LineResult → LineResult
+totalAsked state total next = cond (alike total (state .run .total)) next (refused state (16, 0))
+
+unfoldable pub finishGiven : State → ℤ → Gate.CallResult → LineResult
+finishGiven state total given =
+    cond (eqb (given .0 .0) 0) (totalAsked state total (withRun Over (given .1) state, shownLast (state .way) (state .run) (given .2))) (refused state (given .0))
 
 -- Where the end line has not come, text is missing: that is refused at the line that should come next.
 unfoldable pub endIn : Phase → State → LineResult
 endIn First state = badForm state
 endIn Between state = badForm state
-endIn Ended state = finishGiven state (endedBy (state .way) (state .run) (lentOutput (state .run)))
+endIn (Ended total) state = finishGiven state total (endedBy (state .way) (state .run) (lentOutput (state .run)))
 endIn Over state = (state, [])
 
 unfoldable pub inputEnded : State → LineResult

@@ -4,10 +4,11 @@ use mathlib.Core.List.{List, [], _∷_, _++_}
 use mathlib.Core.Option.{Option, none, some}
 use Prim.Native.Nat.{ℕ}
 use lib.Dec.{eqb}
-use lib.IntN.{ℤ}
+use lib.IntN.{ℤ, pos, negsuc}
+use lib.ListN.{take, drop}
 use Rattle.text_runs.specs.declared.number.Field.{Field}
 use Rattle.text_runs.specs.declared.number.Field.the-variants as Field
-use Rattle.text_runs.specs.Decimal.{decimal, printed, numberIn}
+use Rattle.text_runs.specs.Decimal.{decimal, printed, numberIn, totalIn}
 
 abbrev pub comma : ℕ
 comma = 44
@@ -32,9 +33,9 @@ unfoldable pub row : List ℤ → List ℕ
 row [] = []
 row (x ∷ xs) = printed x ++ behindCommas xs
 
--- the last line of a run, with the count of its blocks or frames
-unfoldable pub endLine : ℕ → List ℕ
-endLine count = endTag ++ decimal count
+-- the last line of a run, with the count of its blocks or frames and the total of its readings
+unfoldable pub endLine : ℕ → ℤ → List ℕ
+endLine count total = endTag ++ (decimal count ++ comma ∷ printed total)
 
 -- what is printed for a refused line
 unfoldable pub refusal : ℕ → ℕ → ℕ → List ℕ
@@ -74,3 +75,19 @@ same [] [] = true
 same [] (y ∷ ys) = false
 same (x ∷ xs) [] = false
 same (x ∷ xs) (y ∷ ys) = eqb x y && same xs ys
+
+-- ---- the end line, read behind this count of lines between: its total. The tag is compared; behind it stand the right count and a number of 64
+-- bits, and nothing else. Any other line has none.
+unfoldable pub isCount : ℕ → Field → Bool
+isCount count (Field.Number (pos n)) = eqb n count
+isCount count (Field.Number (negsuc n)) = false
+isCount count Field.Bad = false
+
+unfoldable pub countAndTotal : ℕ → List (List ℕ) → Field
+countAndTotal count [] = Field.Bad
+countAndTotal count (first ∷ []) = Field.Bad
+countAndTotal count (first ∷ second ∷ []) = cond (isCount count (numberIn first)) (totalIn second) Field.Bad
+countAndTotal count (first ∷ second ∷ third ∷ rest) = Field.Bad
+
+unfoldable pub endTotal : ℕ → List ℕ → Field
+endTotal count bytes = cond (same (take 4 bytes) endTag) (countAndTotal count (fields (drop 4 bytes))) Field.Bad

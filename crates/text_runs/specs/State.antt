@@ -3,6 +3,7 @@ use mathlib.Core.Bool.{Bool, true, false, cond}
 use mathlib.Core.List.{List, [], _∷_, _++_}
 use Prim.Native.Nat.{ℕ, suc}
 use lib.Dec.{leb}
+use lib.IntN.{pos}
 use lib.ListN.{take}
 use Rattle.runs.specs.declared.record.Run.{Run}
 use Rattle.runs.specs.Record.{frameLimit, opened}
@@ -22,7 +23,7 @@ unfoldable pub resultOf : Printed → LineResult
 resultOf r = (r .state, take (r .length) (r .text))
 
 unfoldable pub begun : Way → State
-begun way = record { way = way; phase = First; run = opened 0 0 [] }
+begun way = record { way = way; phase = First; run = opened 0 0 (pos 0) [] }
 
 unfoldable pub inPhase : Phase → State → State
 inPhase phase state = record { way = state .way; phase = phase; run = state .run }
@@ -33,7 +34,7 @@ withRun phase run state = record { way = state .way; phase = phase; run = run }
 unfoldable pub goesOn : Phase → Bool
 goesOn First = true
 goesOn Between = true
-goesOn Ended = true
+goesOn (Ended total) = true
 goesOn Over = false
 
 -- The number of the line that comes: behind the width and a line for each block or frame taken. A count that no run has is refused with its
@@ -44,7 +45,7 @@ lineBetween count = cond (leb count frameLimit) (suc (suc count)) 0
 unfoldable pub lineNumber : Phase → Run → ℕ
 lineNumber First run = 1
 lineNumber Between run = lineBetween (run .count)
-lineNumber Ended run = lineBetween (run .count)
+lineNumber (Ended total) run = lineBetween (run .count)
 lineNumber Over run = lineBetween (run .count)
 
 -- a refused line: its number, which line it is and the place are printed, and the run is over

@@ -31,15 +31,15 @@ endedBy Back run out = (endedBack run .0, endedBack run .1, out)
 unfoldable pub rowLine : List ℤ → List ℕ
 rowLine xs = row xs ++ lineFeed ∷ []
 
-unfoldable pub lastLine : ℕ → List ℕ
-lastLine count = endLine count ++ lineFeed ∷ []
+unfoldable pub lastLine : ℕ → ℤ → List ℕ
+lastLine count total = endLine count total ++ lineFeed ∷ []
 
 -- what is printed for a block or frame that a record takes: nothing for the first frame going back
 unfoldable pub shownRow : Way → Run → List ℤ → List ℕ
 shownRow Forward run out = rowLine out
 shownRow Back run out = cond (eqb (run .count) 0) [] (rowLine out)
 
--- what is printed for the finish: forward one frame more than blocks, back one block less than frames
+-- what is printed for the finish: forward one frame more than blocks, back one block less than frames; and the total
 unfoldable pub shownLast : Way → Run → List ℤ → List ℕ
-shownLast Forward run out = rowLine out ++ lastLine (suc (run .count))
-shownLast Back run out = lastLine (run .count - 1)
+shownLast Forward run out = rowLine out ++ lastLine (suc (run .count)) (run .total)
+shownLast Back run out = lastLine (run .count - 1) (run .total)

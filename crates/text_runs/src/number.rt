@@ -8,6 +8,6 @@ pub enum Size {
 
 // A field of a line.
 pub enum Field {
-    Number(i32),
+    Number(i64),
     Bad,
 }

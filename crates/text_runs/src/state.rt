@@ -11,11 +11,11 @@ pub enum Way {
     Back,
 }
 
-// What the next line is.
+// What the next line is. Behind the end line the total that it states is kept until the input has ended.
 pub enum Phase {
     First,
     Between,
-    Ended,
+    Ended(i64),
     Over,
 }
 
@@ -40,7 +40,7 @@ pub fn begin(way: Way) -> State
     State {
         way: way,
         phase: Phase::First,
-        run: record::make(0, 0, held, false),
+        run: record::make(0, 0, held, false, 0),
     }
 }
 
@@ -64,7 +64,7 @@ pub fn goes_on(state: State) -> bool
     match phase {
         Phase::First => true,
         Phase::Between => true,
-        Phase::Ended => true,
+        Phase::Ended(_) => true,
         Phase::Over => false,
     }
 }
@@ -87,7 +87,7 @@ pub fn line_number(state: State) -> usize
     match phase {
         Phase::First => 1,
         Phase::Between => line_between(run.count),
-        Phase::Ended => line_between(run.count),
+        Phase::Ended(_) => line_between(run.count),
         Phase::Over => line_between(run.count),
     }
 }

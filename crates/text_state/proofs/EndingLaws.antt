@@ -1,9 +1,9 @@
 -- The ending that a last line tells.
-use mathlib.Core.Path.{_≡_, refl, sym, ap, _∙_}
+use mathlib.Core.Path.{_≡_, refl}
 use mathlib.Core.Bool.{true, false, cond}
 use mathlib.Core.List.{List, [], _∷_, _++_}
 use mathlib.Core.Option.{Option, none, some}
-use Prim.Native.Nat.{ℕ, _+_, _-_, _≤_, _<_}
+use Prim.Native.Nat.{ℕ, _≤_, _<_}
 use native.Mathlib.Omega.{arith}
 use borrow.Author.Tests.{ne-eqb}
 use lib.IntN.{ℤ, pos}
@@ -12,7 +12,6 @@ use lib.Seq.{take-all, getD-take, length-take-le}
 use Rattle.text_runs.specs.Lines.{lineFeed, refusedTag, numbersIn, upTo, same}
 use Rattle.text_runs.specs.declared.state.Phase.{Phase}
 use Rattle.text_runs.specs.State.{goesOn}
-use Rattle.text_runs.proofs.UpToLaws.{part-length, part-is}
 use Rattle.decimal.proofs.CompareLaws.{same-length}
 use Rattle.feeding.specs.declared.session.Ending.{Ending}
 use Rattle.feeding.specs.declared.session.Ending.the-variants.{Open, Whole, Refused}
@@ -43,11 +42,6 @@ module _ (bytes : List ℕ) where
   pub said-refused : same (take 8 bytes) refusedTag ≡ true → lastSaid bytes ≡ refusedBy (numbersIn (upTo lineFeed (drop 8 bytes)))
   unfolding lastSaid
   said-refused e = rw e
-
--- the part behind the tag, as the code cuts it
-pub said-part : (bytes : List ℕ) (end : ℕ) → end ≡ 8 + length (upTo lineFeed (drop 8 bytes)) → take (end - 8) (drop 8 bytes) ≡ upTo lineFeed (drop 8 bytes)
-said-part bytes end h =
-    let e : end - 8 ≡ length (upTo lineFeed (drop 8 bytes)) = omega arith in ap (λ (n : ℕ). take n (drop 8 bytes)) e ∙ part-is lineFeed (drop 8 bytes)
 
 pub told-none : (before : Ending) (phase : Phase) (bytes : List ℕ) → length bytes ≡ 0 → endingAfter before phase bytes ≡ before
 unfolding endingAfter

@@ -27,11 +27,11 @@ pub fn row_line(text: &mut [u8], at: usize, out: &[i32]) -> usize
     print::bytes(text, n, b"\n")
 }
 
-fn last_line(text: &mut [u8], at: usize, count: usize) -> usize
-    requires { ⌜ at + 25 ≤ length (now text) ⌝ }
-    ensures { λ r. ⌜ Put at (now (text .entry)) (lastLine count) r (now (text .exit)) × (r ≤ at + 25) ⌝ }
+fn last_line(text: &mut [u8], at: usize, count: usize, total: i64) -> usize
+    requires { ⌜ at + 46 ≤ length (now text) ⌝ }
+    ensures { λ r. ⌜ Put at (now (text .entry)) (lastLine count total) r (now (text .exit)) × (r ≤ at + 46) ⌝ }
 {
-    let n = print::end_line(text, at, count);
+    let n = print::end_line(text, at, count, total);
     print::bytes(text, n, b"\n")
 }
 
@@ -57,18 +57,19 @@ fn shown_row(way: Way, run: Run, out: &[i32], text: &mut [u8]) -> usize
     }
 }
 
-// For the finish.
-fn shown_last(way: Way, run: Run, out: &[i32], text: &mut [u8]) -> usize
-    requires { ⌜ 12 * length (now out) + 26 ≤ length (now text) ⌝ }
+// For the finish, where the total is the run's.
+fn shown_last(way: Way, run: Run, total: i64, out: &[i32], text: &mut [u8]) -> usize
+    requires { ⌜ 12 * length (now out) + 47 ≤ length (now text) ⌝ }
     requires { ⌜ Closing way (run .count) ⌝ }
+    requires { ⌜ total ≡ run .total ⌝ }
     ensures { λ r. ⌜ (take r (now (text .exit)) ≡ shownLast way run (now (out .entry))) × (r ≤ length (now (text .entry))) ⌝ }
 {
     match way {
         Way::Forward => {
             let n = row_line(text, 0, out);
-            last_line(text, n, run.count + 1)
+            last_line(text, n, run.count + 1, total)
         }
-        Way::Back => last_line(text, 0, run.count - 1),
+        Way::Back => last_line(text, 0, run.count - 1, total),
     }
 }
 
@@ -94,22 +95,26 @@ pub fn given_row(state: State, outcome: Outcome, out: &[i32]) -> Printed
     }
 }
 
-// What is printed for a finish that worked, or for its refusal.
-pub fn given_last(state: State, outcome: Outcome, out: &[i32]) -> Printed
+// What is printed for a finish that worked, or for its refusal: by the gate, or behind it by the total that the end line states.
+pub fn given_last(state: State, stated: i64, outcome: Outcome, out: &[i32]) -> Printed
     requires { ⌜ length (now out) ≤ 128 ⌝ }
     requires { ⌜ (told (outcome .answer) .0 ≡ 0 → Closing (state .way) (state .run .count)) ⌝ }
-    ensures { λ r. ⌜ resultOf r ≡ finishGiven state (told (outcome .answer), outcome .run, now (out .entry)) ⌝ }
+    ensures { λ r. ⌜ resultOf r ≡ finishGiven state stated (told (outcome .answer), outcome .run, now (out .entry)) ⌝ }
     ensures { λ r. ⌜ r .length ≤ 2048 ⌝ }
 {
-    let answer = outcome.answer;
-    if runs::answer::number(answer) != 0 {
-        return refuse::by_answer(state, answer);
-    }
     let way = state.way;
     let before = state.run;
+    let total = before.total;
+    let answer = outcome.answer;
+    let by_gate = runs::answer::number(answer);
+    let by_total = refuse::total_number(stated, total);
+    let number = refuse::first(by_gate, by_total);
+    if number != 0 {
+        return refuse::by(state, number, runs::answer::place(answer));
+    }
     let run = outcome.run;
     let mut text = [0u8; 2048];
-    let length = shown_last(way, before, out, &mut text);
+    let length = shown_last(way, before, total, out, &mut text);
     Printed {
         state: state::with_run(state, Phase::Over, run),
         text: text,

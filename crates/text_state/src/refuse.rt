@@ -1,7 +1,10 @@
 // What is printed for a refused line, and where nothing is printed.
 ghost use mathlib.Core.Path.{_≡_};
+ghost use mathlib.Core.Bool.{cond};
 ghost use mathlib.Core.List.{[]};
 ghost use Prim.Native.Nat.{_≤_};
+ghost use lib.Dec.{eqb};
+ghost use Rattle.integers.specs.Vectors.{alike};
 ghost use Rattle.runs.specs.Answers.{told};
 ghost use Rattle.text_runs.specs.State.{resultOf, refused};
 ghost use Rattle.text_runs.specs.Line.{badForm};
@@ -11,6 +14,20 @@ use text_runs::state;
 use text_runs::state::Phase;
 use text_runs::state::Printed;
 use text_runs::state::State;
+
+// 16 where the total that an end line states is not the run's, and 0 where it is.
+pub fn total_number(stated: i64, total: i64) -> usize
+    ensures { λ r. ⌜ r ≡ cond (alike stated total) 0 16 ⌝ }
+{
+    if stated == total { 0 } else { 16 }
+}
+
+// The number of the question asked first, or else of the later one.
+pub fn first(number: usize, later: usize) -> usize
+    ensures { λ r. ⌜ r ≡ cond (eqb number 0) later number ⌝ }
+{
+    if number == 0 { later } else { number }
+}
 
 pub fn silent(state: State) -> Printed
     ensures { λ r. ⌜ resultOf r ≡ (state, []) ⌝ }

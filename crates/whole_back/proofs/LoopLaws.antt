@@ -1,8 +1,8 @@
--- A whole run back as the code counts it: frames that are whole, the calls left behind the first frame, and their outputs in parts of one list.
+-- A whole run back as the code counts it: frames that are whole, and the calls left behind the first frame.
 use mathlib.Core.Path.{_≡_, sym, ap, ap₂, _∙_}
 use mathlib.Core.Bool.{true, _&&_, and-eq-true-iff}
-use mathlib.Core.List.{List, _++_, append-assoc, append-nil}
-use Prim.Native.Nat.{ℕ, suc, _+_, _-_, _*_, _/_, _%_, _≤_, _<_}
+use mathlib.Core.List.{List}
+use Prim.Native.Nat.{ℕ, suc, _+_, _*_, _/_, _%_, _<_}
 use native.Mathlib.Nat.{mul-le-mul-right, add-div-right}
 use native.Mathlib.Numerals.{add-one}
 use native.Mathlib.Omega.{arith}
@@ -10,9 +10,6 @@ use borrow.Author.Tests.{lt-ltb, le-leb, eq-eqb, eqb-true, leb-true, ltb-true}
 use lib.Dec.{eqb, ltb, leb}
 use lib.IntN.{ℤ}
 use lib.ListN.{length, take, drop, length-drop}
-use lib.Seq.{take-all, drop-drop}
-use Rattle.integers.proofs.PlaceLaws.{within-all}
-use Rattle.tables.specs.Widths.{halfWidth}
 use Rattle.runs.specs.Answers.{told}
 use Rattle.runs.specs.declared.answer.Answer.{Answer}
 use Rattle.runs.specs.declared.record.Run.{Run}
@@ -23,14 +20,11 @@ use Rattle.gate.specs.Own.Ready.{WholeBlocks}
 use Rattle.gate.proofs.GateLaws.{same-answer}
 use Rattle.gate.proofs.AskedLaws as Asked
 use Rattle.gate.proofs.AskedLaws.{all-whole, whole-all}
-use Rattle.runs.proofs.RecordLaws.{width-le, width-pos}
+use Rattle.runs.proofs.RecordLaws.{width-pos}
 use Rattle.runs.proofs.WholeLaws.{whole-blocks, some-blocks}
-use Rattle.runs.proofs.AcceptedLaws.{LaterAccepted}
-use Rattle.runs.proofs.OneByOne.{outputs-next, first-behind, outputs-behind}
-use Rattle.gate.proofs.PartLaws.{written, written-front, written-rest}
+use Rattle.runs.proofs.OneByOne.{first-behind, outputs-behind}
 use Rattle.runs.specs.Back.{takenBack}
 use Rattle.runs.specs.WholeBack.{answerFrom, outputsFrom, allOutputs, firstAnswer, wholeBack}
-use Rattle.frames.specs.Own.Unrefused.{Unrefused}
 use Rattle.asking_back.specs.Own.Ready.{WholeFrames}
 
 -- ---- questions 1 and 6: at least one part of the width is at least one number
@@ -76,21 +70,7 @@ module _ (N : ℕ) (frames out : List ℤ) (f : WholeFrames N frames) (r : lengt
     some = omega (arith, rest-count, one-block-less, f .few);
   }
 
--- ---- the outputs of the calls left, behind those that are written
-pub blocks-next : (N place left : ℕ) (run after : Run) (answer : ℕ × ℕ) (frames out ys : List ℤ) → 0 < left → place + N ≤ length out → length ys ≡ N
-    → (answer, after, ys) ≡ takenBack run (take N (drop place frames)) (take N (drop place out))
-    → take place out ++ outputsFrom N run left (drop place frames) (drop place out)
-    ≡ take (place + N) (written place N out ys) ++ outputsFrom N after (left - 1) (drop (place + N) frames) (drop (place + N) (written place N out ys))
-blocks-next N place left run after answer frames out ys h i l e =
-    let d : left ≡ suc (left - 1) = omega arith in
-    ap (λ (zs : List ℤ). take place out ++ zs) (outputs-next N (left - 1) run (drop place frames) (drop place out) d (sym e))
-    ∙ rw (written-front place N out ys i l, written-rest place N out ys i l, drop-drop N place frames, drop-drop N place out, append-assoc)
-
-pub no-blocks : (N place left : ℕ) (run : Run) (frames out : List ℤ) → left ≡ 0 → length out ≤ place → take place out ++ outputsFrom N run left frames (drop place out) ≡ out
-unfolding outputsFrom
-no-blocks N place left run frames out z h = rw (z, append-nil) (take-all place out h)
-
--- ---- and with readings that are one block less, the frames behind the first as the code counts them
+-- ---- with readings that are one block less, the frames behind the first as the code counts them
 module _ (N : ℕ) (frames out : List ℤ) (f : WholeFrames N frames) (r : length out + N ≡ length frames) (after : Run) (e : after ≡ takenBack (started N .1) (take N frames) (zeros N) .1) where
   pub answer-left : takenBack (started N .1) (take N frames) (zeros N) .0 .0 ≡ 0 → answerFrom N N after (length (drop N frames) / N) (drop N frames) out ≡ firstAnswer N frames out
   answer-left z =
@@ -99,7 +79,3 @@ module _ (N : ℕ) (frames out : List ℤ) (f : WholeFrames N frames) (r : lengt
 
   pub outputs-left : outputsFrom N after (length (drop N frames) / N) (drop N frames) out ≡ drop N (allOutputs N frames out)
   outputs-left = ap (λ (n : ℕ). outputsFrom N after n (drop N frames) out) (rest-count N frames out f r) ∙ sym (outputs-behind N _ frames out (one-block-less N frames out f r) after e)
-
--- ---- a frame that a call accepts is refused by no question
-pub accepted-unrefused : {N b : ℕ} {low frame out : List ℤ} → LaterAccepted N b low frame out → Unrefused N low frame
-accepted-unrefused a = record { coefficients = within-all _ _ (a .coefficients); values = within-all _ _ (a .values); readings = within-all _ _ (a .readings .within) }

@@ -1,6 +1,7 @@
 // A whole run back over lent slices, for any caller.
 ghost use mathlib.Core.Path.{_≡_};
 ghost use Prim.Native.Nat.{_+_, _/_};
+ghost use lib.IntN.{pos};
 ghost use lib.ListN.{length, drop};
 ghost use Rattle.integers.specs.Places.{Within};
 ghost use Rattle.tables.specs.Widths.{halfWidth};
@@ -38,8 +39,8 @@ fn blocks_before(
     requires { ⌜ (length (now held) ≡ halfWidth width) × (length (now readings) ≡ length (now frames)) ⌝ }
     requires { ⌜ WideRoom width (now top) (now bottom) (now y) (now z) ⌝ }
     requires { ⌜ Within foldedLimit (now held) ⌝ }
-    requires { ⌜ answerFrom width width (opened width 1 (now held)) (length (now frames) / width) (now frames) (now readings) .0 ≡ 0 ⌝ }
-    ensures { λ _. ⌜ now (readings .exit) ≡ outputsFrom width (opened width 1 (now (held .entry))) (length (now (frames .entry)) / width) (now (frames .entry)) (now (readings .entry)) ⌝ }
+    requires { ⌜ answerFrom width width (opened width 1 (pos 0) (now held)) (length (now frames) / width) (now frames) (now readings) .0 ≡ 0 ⌝ }
+    ensures { λ _. ⌜ now (readings .exit) ≡ outputsFrom width (opened width 1 (pos 0) (now (held .entry))) (length (now (frames .entry)) / width) (now (frames .entry)) (now (readings .entry)) ⌝ }
 {
     let mut at = 0;
     let mut blocks = frames.len() / width;

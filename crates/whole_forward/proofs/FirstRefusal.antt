@@ -6,9 +6,10 @@ use Prim.Native.Nat.{ℕ, zero, suc, _+_, _*_, _/_, _%_, _≤_, _<_, zero-le}
 use native.Mathlib.Omega.{arith}
 use borrow.Author.Tests.{lt-ltb, le-leb, eq-eqb}
 use lib.Dec.{eqb, leb, eqb·suc-zero}
-use lib.IntN.{ℤ}
+use lib.IntN.{ℤ, pos, _+ℤ_}
 use lib.ListN.{length, take, drop, length-drop}
 use lib.Seq.{length-take-le}
+use Rattle.integers.specs.Vectors.{sumOf}
 use Rattle.tables.specs.Widths.{halfWidth}
 use Rattle.steps.specs.Steps.{held}
 use Rattle.distance.specs.Statement.{IsWidth}
@@ -53,9 +54,9 @@ module _ (N before : ℕ) (run : Run) (c : Call) (calls : List Call) where
   refusal-later after out e = rw e
 
 -- the first call takes a block of N readings, behind b blocks
-module _ (N b : ℕ) (previous : List ℤ) (r : Reached N b previous) (xs out : List ℤ) (l : length xs ≡ N) (m : length out ≡ N) (h : b < blockLimit) where
+module _ (N b : ℕ) (t : ℤ) (previous : List ℤ) (r : Reached N b t previous) (xs out : List ℤ) (l : length xs ≡ N) (m : length out ≡ N) (h : b < blockLimit) where
   abbrev run : Run
-  run = opened N b (held N previous)
+  run = opened N b t (held N previous)
 
   clear : firstDead xs 0 ≡ Nothing → firstOut xs 0 ≡ Nothing → accepted N b false (block xs out) ≡ true
   unfolding accepted allYes nothing
@@ -65,37 +66,37 @@ module _ (N b : ℕ) (previous : List ℤ) (r : Reached N b previous) (xs out : 
   clear-accepted e = clear (clear-both xs e .0) (clear-both xs e .1)
 
   block-refusal : (before : ℕ) (calls : List Call) (rest : Fault)
-      → (Reached N (suc b) xs → firstRefusal N (before + N) (made (opened N (suc b) (held N xs)) calls) ≡ toldFault rest)
+      → (Reached N (suc b) (t +ℤ sumOf xs) xs → firstRefusal N (before + N) (made (opened N (suc b) (t +ℤ sumOf xs) (held N xs)) calls) ≡ toldFault rest)
       → firstRefusal N before (made run (block xs out ∷ calls)) ≡ toldFault (faultFrom before (faultOf xs) rest)
   unfolding toldFault faultFrom faultOf faultBy give takenIn askEach placed
   block-refusal before calls rest later = by (firstDead xs 0) (firstOut xs 0) refl refl
     where
       by : (f g : Found) → firstDead xs 0 ≡ f → firstOut xs 0 ≡ g → firstRefusal N before (made run (block xs out ∷ calls)) ≡ toldFault (faultFrom before (faultBy f g) rest)
-      by (At place) g d e = refusal-here N before run (block xs out) calls 7 place run out (taken-in N b previous r xs out l m h ∙ rw d)
-      by Nothing (At place) d e = refusal-here N before run (block xs out) calls 8 place run out (taken-in N b previous r xs out l m h ∙ rw (d, e))
+      by (At place) g d e = refusal-here N before run (block xs out) calls 7 place run out (taken-in N b t previous r xs out l m h ∙ rw d)
+      by Nothing (At place) d e = refusal-here N before run (block xs out) calls 8 place run out (taken-in N b t previous r xs out l m h ∙ rw (d, e))
       by Nothing Nothing d e =
           let a = clear d e in
-          refusal-later N before run (block xs out) calls _ _ (taken-decided N b previous r xs out .when-yes a)
-          ∙ later (reached-next N b previous xs r h (accepted-block N b false xs out a))
+          refusal-later N before run (block xs out) calls _ _ (taken-decided N b t previous r xs out .when-yes a)
+          ∙ later (reached-next N b t previous xs r h (accepted-block N b false xs out a))
 
-finish-refusal : (N b before : ℕ) (previous out : List ℤ) → Reached N b previous → length out ≡ N → firstRefusal N before (made (opened N b (held N previous)) (finish out ∷ [])) ≡ (0, 0)
+finish-refusal : (N b before : ℕ) (t : ℤ) (previous out : List ℤ) → Reached N b t previous → length out ≡ N → firstRefusal N before (made (opened N b t (held N previous)) (finish out ∷ [])) ≡ (0, 0)
 unfolding accepted allYes give made firstRefusal
-finish-refusal N b before previous out r m = refusal-later N before (opened N b (held N previous)) (finish out) [] _ _ (ended-decided N b previous r out .when-yes (rw (eq-eqb (length out) N m)))
+finish-refusal N b before t previous out r m = refusal-later N before (opened N b t (held N previous)) (finish out) [] _ _ (ended-decided N b t previous r out .when-yes (rw (eq-eqb (length out) N m)))
 
-pub first-refusal : (N b count before : ℕ) (previous readings out : List ℤ) → Reached N count previous → count + b ≤ blockLimit
+pub first-refusal : (N b count before : ℕ) (t : ℤ) (previous readings out : List ℤ) → Reached N count t previous → count + b ≤ blockLimit
     → length readings ≡ b * N → length out ≡ b * N + N
-    → firstRefusal N before (made (opened N count (held N previous)) (callsOf N b readings out)) ≡ toldFault (firstFault N before b readings)
+    → firstRefusal N before (made (opened N count t (held N previous)) (callsOf N b readings out)) ≡ toldFault (firstFault N before b readings)
 unfolding callsOf firstFault toldFault
-first-refusal N zero count before previous readings out r h l m = finish-refusal N count before previous out r (omega arith)
-first-refusal N (suc b) count before previous readings out r h l m =
-    block-refusal N count previous r (take N readings) (take N out) (length-take-le N readings (omega arith)) (length-take-le N out (omega arith)) (omega arith) before _ _
-    (λ s. first-refusal N b (suc count) (before + N) (take N readings) (drop N readings) (drop N out) s (omega arith) (simp length-drop (omega arith)) (simp length-drop (omega arith)))
+first-refusal N zero count before t previous readings out r h l m = finish-refusal N count before t previous out r (omega arith)
+first-refusal N (suc b) count before t previous readings out r h l m =
+    block-refusal N count t previous r (take N readings) (take N out) (length-take-le N readings (omega arith)) (length-take-le N out (omega arith)) (omega arith) before _ _
+    (λ s. first-refusal N b (suc count) (before + N) _ (take N readings) (drop N readings) (drop N out) s (omega arith) (simp length-drop (omega arith)) (simp length-drop (omega arith)))
 
 -- ---- a whole run, by its first fault
 module _ (N : ℕ) (w : IsWidth N) (readings out : List ℤ) (whole : length readings ≡ length readings / N * N) (few : length readings / N ≤ blockLimit)
     (room : length out ≡ length readings + N) where
   refusal-is : firstRefusal N 0 (Whole.callsMade N readings out) ≡ toldFault (firstFault N 0 (length readings / N) readings)
-  refusal-is = rw (started-open N w) (first-refusal N (length readings / N) 0 0 (zeros N) readings out (reached-first N w) (omega arith) whole (omega arith))
+  refusal-is = rw (started-open N w) (first-refusal N (length readings / N) 0 0 (pos 0) (zeros N) readings out (reached-first N w) (omega arith) whole (omega arith))
 
   pub whole-run : firstFault N 0 (length readings / N) readings ≡ Clear → WholeRun N readings (outputs (Whole.callsMade N readings out))
   unfolding toldFault

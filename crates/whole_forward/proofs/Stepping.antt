@@ -6,9 +6,10 @@ use Prim.Native.Nat.{ℕ, suc, _+_, _-_, _*_, _/_, _≤_, _<_}
 use native.Mathlib.Omega.{arith}
 use borrow.Author.Tests.{eq-eqb}
 use borrow.Rule.Slice.PartMut.{putMid}
-use lib.IntN.{ℤ}
+use lib.IntN.{ℤ, pos, _+ℤ_}
 use lib.ListN.{length, take, drop, length-drop}
 use Rattle.integers.specs.Places.{Within}
+use Rattle.integers.specs.Vectors.{sumOf}
 use Rattle.integers.proofs.PlaceLaws.{within-all}
 use Rattle.tables.specs.Widths.{halfWidth}
 use Rattle.steps.specs.Limits.{readingLimit, foldedLimit}
@@ -36,17 +37,19 @@ use Rattle.runs.proofs.EveryList.{started-open}
 -- `kept` has what the last of `count` blocks holds, the blocks left have no fault, and what is written is what all calls give up to there
 pub record Stepping (N half place left : ℕ) (readings out frames kept : List ℤ) : Type 0 where
   pub count : ℕ
+  pub total : ℤ
   pub previous : List ℤ
-  pub reached : Reached N count previous
+  pub reached : Reached N count total previous
   pub kept-is : take half kept ≡ held N previous
   pub few : count + left ≤ blockLimit
   pub clear : firstFault N place left (drop place readings) ≡ Clear
-  pub so-far : outputs (made (started N .1) (callsOf N (length readings / N) readings out)) ≡ take place frames ++ outputs (made (opened N count (held N previous)) (callsOf N left (drop place readings) (drop place frames)))
+  pub so-far : outputs (made (started N .1) (callsOf N (length readings / N) readings out)) ≡ take place frames ++ outputs (made (opened N count total (held N previous)) (callsOf N left (drop place readings) (drop place frames)))
 
 pub stepping-first : (N half : ℕ) (readings out kept : List ℤ) → half ≡ halfWidth N → WholeBlocks N readings → firstFault N 0 (length readings / N) readings ≡ Clear → kept ≡ zeros 64
     → Stepping N half 0 (length readings / N) readings out out kept
 stepping-first N half readings out kept h b c k = record {
   count = 0;
+  total = pos 0;
   previous = zeros N;
   reached = reached-first N (b .wide);
   kept-is = none-held N half kept h k ∙ sym (held-zeros N N);
@@ -57,7 +60,7 @@ stepping-first N half readings out kept h b c k = record {
 
 module _ (N half place left : ℕ) (readings out frames kept : List ℤ) (g : Stepping N half place left readings out frames kept) where
   abbrev run : Run
-  run = opened N (g .count) (held N (g .previous))
+  run = opened N (g .count) (g .total) (held N (g .previous))
 
   pub kept-within : Within foldedLimit (take half kept)
   kept-within = subst (Within foldedLimit) (sym (g .kept-is)) (within-all foldedLimit _ (held-gate N (g .previous) (g .reached .readings .within)))
@@ -84,18 +87,19 @@ module _ (N half place left : ℕ) (readings out frames kept : List ℤ) (g : St
 
     next-accepted : accepted N (g .count) false (block next (take N (drop place frames))) ≡ true
     next-accepted =
-        clear-accepted N (g .count) (g .previous) (g .reached) next (take N (drop place frames)) (block-long place N readings in-readings) (block-long place N frames in-frames) (omega (arith, g .few)) next-clear
+        clear-accepted N (g .count) (g .total) (g .previous) (g .reached) next (take N (drop place frames)) (block-long place N readings in-readings) (block-long place N frames in-frames) (omega (arith, g .few)) next-clear
 
-    next-taken : (ys : List ℤ) → ys ≡ frame N (take half kept) next → _≡_ {A = CallResult} ((0, 0), opened N (suc (g .count)) (held N next), ys) (taken run next (take N (drop place frames)))
+    next-taken : (ys : List ℤ) → ys ≡ frame N (take half kept) next → _≡_ {A = CallResult} ((0, 0), opened N (suc (g .count)) (g .total +ℤ sumOf next) (held N next), ys) (taken run next (take N (drop place frames)))
     next-taken ys e =
-        ap (λ (f : List ℤ). ((0, 0), opened N (suc (g .count)) (held N next), f)) (frame-same next ys e)
-        ∙ sym (taken-decided N (g .count) (g .previous) (g .reached) next (take N (drop place frames)) .when-yes next-accepted)
+        ap (λ (f : List ℤ). ((0, 0), opened N (suc (g .count)) (g .total +ℤ sumOf next) (held N next), f)) (frame-same next ys e)
+        ∙ sym (taken-decided N (g .count) (g .total) (g .previous) (g .reached) next (take N (drop place frames)) .when-yes next-accepted)
 
     pub stepping-next : (ys after : List ℤ) → ys ≡ frame N (take half kept) next → take half after ≡ held N next → Stepping N half (place + N) (left - 1) readings out (written place N frames ys) after
     stepping-next ys after e k = record {
       count = suc (g .count);
+      total = g .total +ℤ sumOf next;
       previous = next;
-      reached = reached-next N (g .count) (g .previous) next (g .reached) (omega (arith, g .few)) (accepted-block N (g .count) false next (take N (drop place frames)) next-accepted);
+      reached = reached-next N (g .count) (g .total) (g .previous) next (g .reached) (omega (arith, g .few)) (accepted-block N (g .count) false next (take N (drop place frames)) next-accepted);
       kept-is = k;
       few = omega (arith, g .few);
       clear = both-clear N place left readings h (g .clear) .1;
@@ -117,5 +121,5 @@ module _ (N half place left : ℕ) (readings out frames kept : List ℤ) (g : St
         → putMid place (length frames - place) frames ys ≡ outputs (made (started N .1) (callsOf N (length readings / N) readings out))
     stepping-end ys e =
         frames-end N place left run _ (0, 0) readings frames ys z (omega (arith, no-block place left N (length readings) whole z, room))
-        (ap (λ (f : List ℤ). ((0, 0), closed run, f)) (frame-same (zeros N) ys e) ∙ sym (ended-decided N (g .count) (g .previous) (g .reached) (drop place frames) .when-yes end-accepted))
+        (ap (λ (f : List ℤ). ((0, 0), closed run, f)) (frame-same (zeros N) ys e) ∙ sym (ended-decided N (g .count) (g .total) (g .previous) (g .reached) (drop place frames) .when-yes end-accepted))
         ∙ sym (g .so-far)

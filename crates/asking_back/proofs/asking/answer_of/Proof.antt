@@ -1,27 +1,22 @@
 -- `asking_back::asking::answer_of` meets its contract: the answer of all calls is that of the calls left.
 use native.Mathlib.Omega.{arith}
-use mathlib.Core.Path.{_≡_, refl, sym, ap, ap₂, subst, _∙_}
+use mathlib.Core.Path.{_≡_, refl, sym, ap, subst, _∙_}
 use mathlib.Core.List.{List, _++_}
-use Prim.Native.Nat.{ℕ, suc, _+_, _-_, _*_, _/_, _≤_, _<_}
+use Prim.Native.Nat.{ℕ, _+_, _-_, _*_, _/_, _≤_, _<_}
 use lib.IntN.{ℤ, pos}
-use lib.ListN.{length, take, drop, length-append, length-replicate}
-use lib.Seq.{drop-drop}
+use lib.ListN.{length, length-append, length-replicate}
 use Rattle.tables.specs.Widths.{halfWidth}
 use Rattle.tables.proofs.ByWidth.{half-width-le}
-use Rattle.runs.specs.Answers.{told}
 use Rattle.runs.specs.declared.record.Run.{Run}
-use Rattle.runs.specs.Record.{frameLimit, zeros, nextCount, opened}
-use Rattle.runs.specs.Gate.{CallResult}
+use Rattle.runs.specs.Record.{frameLimit, zeros, opened}
 use Rattle.runs.proofs.RecordLaws.{width-pos}
 use Rattle.gate.proofs.FaultLaws.{block-next, block-in, no-block, block-long, part-is}
-use Rattle.runs.specs.Back.{undoneIn, takenBack}
+use Rattle.runs.specs.Back.{undoneIn}
 use Rattle.runs.specs.WholeBack.{answerFrom, firstAnswer}
-use Rattle.runs.proofs.AnswerLaws.{taken-place}
 use Rattle.runs.proofs.BackLaws.{started-back, ReachedBack, back-first}
 use Rattle.asking_back.proofs.FrameCounts.{few-numbers, one-frame}
-use Rattle.runs.proofs.OneByOne.{answer-here, answer-next, answer-end}
 use Rattle.asking_back.proofs.RoomLaws.{SameRoom, still-room}
-use Rattle.asking_back.proofs.Undoing.{low-within, frame-taken, run-after, reached-after, end-told}
+use Rattle.asking_back.proofs.Undoing.{low-within, AnswerLeft, FrameAnswer, next-answer, end-answer}
 use Rattle.asking_back.proofs.asking.answer_of.Statement.{statement}
 use Rattle.asking_back.proofs.asking.answer_of.Tie as tie
 
@@ -33,10 +28,9 @@ abbrev Inv-loop : tie.InvT-loop
 Inv-loop width t frames held₀ block₀ top₀ bottom₀ y₀ z₀ at₀ count₀ left₀ held block top bottom y z at count left =
     (at + left * width ≡ length frames)
     × (count + left ≡ length frames / width)
-    × ReachedBack width count held
+    × AnswerLeft (firstAnswer width frames (zeros (length frames - width))) width at count left frames (outs width frames) held
     × (length block ≡ length block₀)
     × SameRoom top₀ bottom₀ y₀ z₀ top bottom y z
-    × (firstAnswer width frames (zeros (length frames - width)) ≡ answerFrom width at (opened width count held) left (drop at frames) (drop at (outs width frames)))
 
 abbrev μ-loop : tie.MeasureT-loop
 μ-loop width t frames held₀ block₀ top₀ bottom₀ y₀ z₀ at₀ count₀ left₀ held block top bottom y z at count left =
@@ -48,6 +42,9 @@ module _ (s : tie.Start Inv-loop μ-loop) where
 
   abbrev frames : List ℤ
   frames = s .args .frames .now
+
+  abbrev whole : ℕ × ℕ
+  whole = firstAnswer N frames (zeros (length frames - N))
 
   outs-long : length (outs N frames) ≡ length frames
   outs-long = omega (arith, length-append (zeros N) (zeros (length frames - N)), length-replicate N (pos 0), length-replicate (length frames - N) (pos 0), one-frame N frames (s .pre .1 .1 .0))
@@ -66,7 +63,7 @@ module _ (k : tie.At-loop Inv-loop μ-loop) where
   low = k .loop .held
 
   abbrev run : Run
-  run = opened (N from) (k .loop .count) low
+  run = opened (N from) (k .loop .count) (k .loop .inv .2 .total) low
 
   abbrev others : List ℤ
   others = outs (N from) (frames from)
@@ -82,7 +79,7 @@ module _ (i : tie.In-loop Inv-loop μ-loop) where
   counted : at .loop .count < frameLimit
   counted = omega (arith, at .loop .inv .1, i .loop-test .taken, from at .pre .1 .1 .0 .few)
 
--- the frame step on the part lent: its answer and its record, whatever its output
+-- the frame step on the part lent
 module _ (a : tie.After-z Inv-loop μ-loop) where
   abbrev step : tie.After-undo Inv-loop μ-loop
   step = a .before .before .before .before .before .before
@@ -93,35 +90,20 @@ module _ (a : tie.After-z Inv-loop μ-loop) where
   abbrev here : tie.At-loop Inv-loop μ-loop
   here = inside .before
 
-  abbrev part : List ℤ
-  part = take (N (from here)) (drop (place here) (frames (from here)))
-
-  abbrev other : List ℤ
-  other = take (N (from here)) (drop (place here) (others here))
-
   abbrev kept : List ℤ
   kept = step .undo .last .1 .1 .1 .1 .0
 
-  abbrev after : Run
-  after = opened (N (from here)) (nextCount (told (step .undo .result) .0) (here .loop .count)) kept
-
   kept-long : length kept ≡ halfWidth (N (from here))
-  kept-long = let at-held = a .before .before .before .before .before in at-held .held .given ∙ here .loop .inv .2 .long
+  kept-long = let at-held = a .before .before .before .before .before in at-held .held .given ∙ here .loop .inv .2 .reached .long
 
-  undone : _≡_ {A = CallResult} (told (step .undo .result), after, step .undo .last .1 .1 .1 .1 .1 .0) (undoneIn (run here) part (here .loop .block))
-  undone = step .undo .ensures ∙ ap (λ (f : List ℤ). undoneIn (run here) f (here .loop .block)) (part-is (place here) (N (from here)) (frames (from here)))
-
-  given : _≡_ {A = CallResult} (takenBack (run here) part other) (told (step .undo .result), after, takenBack (run here) part other .2)
-  given =
-      frame-taken (N (from here)) (here .loop .count) (low here) kept part (here .loop .block) _ (step .undo .result) (here .loop .inv .2) (counted inside) kept-long undone other
-      (block-long (place here) (N (from here)) (frames (from here)) (inner inside))
-      (block-long (place here) (N (from here)) (others here) (omega (arith, outs-long (from here), inner inside)))
+  -- what it tells of the whole run
+  known : FrameAnswer (whole (from here)) (N (from here)) (place here) (here .loop .count) (here .loop .left) (frames (from here)) (others here) kept (step .undo .result)
+  known =
+      next-answer (here .loop .inv .2) kept (here .loop .block) _ (step .undo .result) (inside .loop-test .taken) (counted inside) (inner inside) (omega (arith, outs-long (from here), inner inside)) kept-long
+      (step .undo .ensures (here .loop .inv .2 .total) ∙ ap (λ (f : List ℤ). undoneIn (run here) f (here .loop .block)) (part-is (place here) (N (from here)) (frames (from here))))
 
   abbrev at-block : tie.After-block Inv-loop μ-loop
   at-block = a .before .before .before .before
-
-  more : here .loop .left ≡ suc (here .loop .left - 1)
-  more = omega (arith, inside .loop-test .taken)
 
 -- no frame is left
 module _ (e : tie.After-loop Inv-loop μ-loop) where
@@ -139,10 +121,15 @@ unfolding firstAnswer
 loop-holds c = (
   omega (arith, c .pre .1 .1 .0 .whole),
   omega arith,
-  subst (ReachedBack (N c) 0) (sym (c .pre .1 .0)) (back-first (N c) (c .pre .1 .1 .0 .wide)),
+  record {
+    total = pos 0;
+    reached = subst (ReachedBack (N c) 0 (pos 0)) (sym (c .pre .1 .0)) (back-first (N c) (c .pre .1 .1 .0 .wide));
+    same =
+        ap (λ (r : Run). answerFrom (N c) 0 r (length (frames c) / N c) (frames c) (outs (N c) (frames c)))
+        (started-back (N c) (c .pre .1 .1 .0 .wide) ∙ ap (opened (N c) 0 (pos 0)) (sym (c .pre .1 .0)));
+  },
   refl,
   record { top-same = refl; bottom-same = refl; y-same = refl; z-same = refl },
-  ap (λ (r : Run). answerFrom (N c) 0 r (length (frames c) / N c) (frames c) (outs (N c) (frames c))) (started-back (N c) (c .pre .1 .1 .0 .wide) ∙ ap (opened (N c) 0) (sym (c .pre .1 .0))),
 )
 
 undo-requires : tie.Need-undo-requires Inv-loop μ-loop
@@ -152,22 +139,18 @@ undo-requires c κs =
     let s = from k in
     let frame-long = ap length (part-is (place k) (N s) (frames s)) ∙ block-long (place k) (N s) (frames s) (inner i) in
     let room = still-room (k .loop .inv .4) (N s) (s .pre .1 .1 .1 .1) in
-    (s .pre .1 .1 .0 .wide, (s .pre .0, ((frame-long, k .loop .inv .2 .long, k .loop .inv .3 ∙ s .pre .1 .1 .1 .0), (room, low-within (k .loop .inv .2)))))
+    (s .pre .1 .1 .0 .wide, (s .pre .0, ((frame-long, k .loop .inv .2 .reached .long, k .loop .inv .3 ∙ s .pre .1 .1 .1 .0), (room, low-within (k .loop .inv .2 .reached)))))
 
 placed-requires : tie.Need-placed-requires Inv-loop μ-loop
 placed-requires c κs =
     let a = c .before .before in
-    (omega (arith, inner (inside a), few (from (here a))), omega (arith, ap (λ (g : CallResult). g .0 .1) (given a), taken-place (run (here a)) (part a) (other a)))
+    (omega (arith, inner (inside a), few (from (here a))), known a .small)
 
 returns : tie.Need-returns Inv-loop μ-loop
 returns c =
     let n = c .before .before in
     let a = n .before in
-    let k = here a in
-    let s = from k in
-    c .placed .ensures
-    ∙ answer-here (N s) _ (run k) (drop (place k) (frames s)) (drop (place k) (others k)) (more a) (given a) (place k) (λ e. c .before .if1 .taken (n .number .ensures ∙ e))
-    ∙ sym (k .loop .inv .5)
+    c .placed .ensures ∙ known a .refused (λ e. c .before .if1 .taken (n .number .ensures ∙ e))
 
 loop-again : tie.Need-loop-again Inv-loop μ-loop
 loop-again c =
@@ -175,11 +158,10 @@ loop-again c =
     let a = n .before in
     let i = inside a in
     let k = here a in
-    let s = from k in
-    let zero = sym (n .number .ensures) ∙ c .if1 .left in (
+    let s = from k in (
       block-next (place k) (k .loop .left) (N s) _ (k .loop .inv .0) (i .loop-test .taken),
       omega (arith, k .loop .inv .1, i .loop-test .taken),
-      reached-after (N s) (k .loop .count) (low k) (kept a) (part a) (k .loop .block) _ (step a .undo .result) (k .loop .inv .2) (counted i) (kept-long a) (undone a) zero,
+      known a .passed (sym (n .number .ensures) ∙ c .if1 .left),
       at-block a .block .given ∙ k .loop .inv .3,
       record {
         top-same = a .before .before .before .top .given ∙ k .loop .inv .4 .top-same;
@@ -187,11 +169,6 @@ loop-again c =
         y-same = a .before .y .given ∙ k .loop .inv .4 .y-same;
         z-same = a .z .given ∙ k .loop .inv .4 .z-same;
       },
-      k .loop .inv .5
-          ∙ answer-next (N s) _ (run k) (drop (place k) (frames s)) (drop (place k) (others k)) (more a) (given a) (place k) zero
-          ∙ ap₂ (answerFrom (N s) (place k + N s) (after a) (k .loop .left - 1)) (drop-drop (N s) (place k) (frames s)) (drop-drop (N s) (place k) (others k))
-          ∙ ap (λ (r : Run). answerFrom (N s) (place k + N s) r (k .loop .left - 1) (drop (place k + N s) (frames s)) (drop (place k + N s) (others k)))
-          (run-after (N s) (k .loop .count) (low k) (kept a) (part a) (k .loop .block) _ (step a .undo .result) (k .loop .inv .2) (counted i) (kept-long a) (undone a) zero),
     )
 
 returns-2 : tie.Need-returns-2 Inv-loop μ-loop
@@ -199,10 +176,7 @@ returns-2 c =
     let e = c .before .before in
     let k = over e in
     let s = from k in
-    c .finish-answer .ensures
-    ∙ end-told (N s) (k .loop .count) (low k) (k .loop .inv .2) (λ z. omega (arith, z, k .loop .inv .1, none e, s .pre .1 .1 .0 .some)) (place k - N s)
-    ∙ answer-end (N s) (place k) (k .loop .left) (run k) (drop (place k) (frames s)) (drop (place k) (others k)) (none e)
-    ∙ sym (k .loop .inv .5)
+    c .finish-answer .ensures ∙ end-answer (k .loop .inv .2) (λ z. omega (arith, z, k .loop .inv .1, none e, s .pre .1 .1 .0 .some)) (none e)
 
 pub answer-of-spec : {M : Type 1} → statement M
 answer-of-spec =
@@ -232,8 +206,8 @@ answer-of-spec =
     (λ c. omega arith)
     loop-again
     (λ c. let k = over c in omega (arith, no-block (place k) (k .loop .left) (N (from k)) _ (k .loop .inv .0) (none c), one-frame (N (from k)) (frames (from k)) (from k .pre .1 .1 .0)))
-    (λ c κs. let k = over (c .before) in (omega (arith, k .loop .inv .0, few (from k)), omega (arith, k .loop .inv .2 .long, half-width-le (N (from k)))))
-    (λ c. let k = c .before .before .before in k .loop .inv .2 .long ∙ sym (held-long (from k)))
+    (λ c κs. let k = over (c .before) in (omega (arith, k .loop .inv .0, few (from k)), omega (arith, k .loop .inv .2 .reached .long, half-width-le (N (from k)))))
+    (λ c. let k = c .before .before .before in k .loop .inv .2 .reached .long ∙ sym (held-long (from k)))
     (λ c. c .before .before .before .loop .inv .3)
     (λ c. c .before .before .before .loop .inv .4 .top-same)
     (λ c. c .before .before .before .loop .inv .4 .bottom-same)

@@ -42,12 +42,19 @@ cast-t7 c =
 shared-slice-copy-out-t9 : tie.Need-shared-slice-copy-out-t9
 shared-slice-copy-out-t9 c = omega (arith, long (c .before .before))
 
+shared-slice-copy-out-t12 : tie.Need-shared-slice-copy-out-t12
+shared-slice-copy-out-t12 c = let s = c .before .before .before in omega (arith, has-room (numbers s) (s .pre))
+
 returns : tie.Need-returns
 returns c =
-    let s = c .before .before .before in
+    let flag = c .before in
+    let s = flag .before .before .before in
     let l = numbers s in
-    let count = held-ok w64 (at l 1) (c .before .t6 .given) .is in
-    (some-record l _ _ (held-ok w64 (at l 0) (c .before .before .t3 .given) .is) count (s .pre), rw count (natural (at l 1) (has-count l (s .pre))))
+    let count = held-ok w64 (at l 1) (flag .before .t6 .given) .is in
+    let total = held-ok w64 (at l 67) (c .t12 .given) .is in (
+      some-record l _ _ _ (held-ok w64 (at l 0) (flag .before .before .t3 .given) .is) count total (s .pre),
+      (rw count (natural (at l 1) (has-count l (s .pre))), sym total),
+    )
 
 pub front-spec : {M : Type 1} → statement M
 front-spec =
@@ -58,4 +65,5 @@ front-spec =
     shared-slice-copy-out-t6
     cast-t7
     shared-slice-copy-out-t9
+    shared-slice-copy-out-t12
     returns)

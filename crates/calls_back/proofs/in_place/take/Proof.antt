@@ -2,10 +2,12 @@
 use borrow.Author.Needs.{needs}
 use native.Mathlib.Omega.{arith}
 use mathlib.Core.Path.{_≡_, refl, sym, ap, _∙_}
-use mathlib.Core.Bool.{true, false}
+use mathlib.Core.Bool.{Bool, true, false}
 use mathlib.Core.List.{List, _++_}
 use Prim.Native.Nat.{ℕ, _/_, _≤_, _<_}
 use lib.IntN.{ℤ}
+use mir.Syntax.{w64}
+use Rattle.integers.proofs.Held.{held}
 use lib.ListN.{length, take, drop}
 use Rattle.tables.specs.Widths.{halfWidth}
 use Rattle.tables.proofs.Reading.{half-is}
@@ -14,11 +16,12 @@ use Rattle.runs.specs.Answers.{told}
 use Rattle.slices.proofs.Parts.{part-long}
 use Rattle.frames.proofs.FrameLaws.{take-within}
 use Rattle.runs.specs.declared.record.Run.{Run}
-use Rattle.runs.specs.Record.{frameLimit, recordOf, nextCount}
+use Rattle.runs.specs.Record.{frameLimit, recordOf, nextCount, nextTotal, readingsGiven}
 use Rattle.runs.specs.Gate.{CallResult, sound}
 use Rattle.gate.specs.Own.Ready.{Ready}
 use Rattle.gate.proofs.FaultLaws.{half-room}
 use Rattle.gate.proofs.ReadyLaws.{passed, stored-opened, rest-zero, run-is}
+use Rattle.gate.specs.Own.Asked.{Admitted}
 use Rattle.gate.proofs.AskedLaws.{admitted-refused, admitted-passed, admitted-sound, admitted-open, admitted-given, admitted-room}
 use Rattle.runs.specs.Back.{undoneIn, takenBack}
 use Rattle.runs.proofs.AnswerLaws.{sound-wide}
@@ -30,7 +33,7 @@ module _ (s : tie.Start) where
   kept = s .args .held .now
 
   abbrev run : Run
-  run = recordOf (s .args .width) (s .args .count) kept (s .args .finished)
+  run = recordOf (s .args .width) (s .args .count) kept (s .args .finished) (s .args .total)
 
   abbrev frame : List ℤ
   frame = s .args .frame .now
@@ -40,6 +43,10 @@ module _ (s : tie.Start) where
 
   abbrev next : CallResult
   next = undoneIn run frame out
+
+-- the total is lent by its bits
+admitted-by : (a : tie.After-admitted) → let s = a .before .before in Admitted frameLimit (run s) (length (frame s)) (length (out s)) (a .admitted .result)
+admitted-by a = let s = a .before .before in rw (held w64 _ (s .fits .total) .is) at (a .admitted .ensures)
 
 -- questions 2 to 7 are passed
 module _ (l : tie.Else1) where
@@ -53,10 +60,10 @@ module _ (l : tie.Else1) where
   none = sym (l .before .number .ensures) ∙ l .if1 .left
 
   is-sound : sound frameLimit (run from) ≡ true
-  is-sound = admitted-sound (asked .admitted .ensures) none
+  is-sound = admitted-sound (admitted-by asked) none
 
   unfinished : from .args .finished ≡ false
-  unfinished = admitted-open (asked .admitted .ensures) none
+  unfinished = admitted-open (admitted-by asked) none
 
   abbrev half : ℕ
   half = from .args .width / 2
@@ -82,7 +89,7 @@ returns c =
     let n = c .before in
     let a = n .before in
     let s = a .before .before in
-    admitted-refused (a .admitted .ensures) (frame s) (out s) (next s) refl refl (λ z. c .if1 .taken (n .number .ensures ∙ z))
+    admitted-refused (admitted-by a) (frame s) (out s) (next s) refl refl (readingsGiven (s .args .count) (out s)) (λ z. c .if1 .taken (n .number .ensures ∙ z))
 
 slice-relend-prefix-undo-in : tie.Need-slice-relend-prefix-undo-in
 slice-relend-prefix-undo-in c = half-le c
@@ -93,7 +100,11 @@ slice-aggregate-undo-in c = part-long _ (kept (from (c .before))) (half-le (c .b
 undo-in-requires : tie.Need-undo-in-requires
 undo-in-requires c κs =
     let l = c .before .before in
-    (wide l, ((admitted-given (asked l .admitted .ensures) (none l), front-long l, admitted-room (asked l .admitted .ensures) (none l)), take-within (from l .args .width) foldedLimit (kept (from l)) (ready l .within) (half l)))
+    (wide l, ((admitted-given (admitted-by (asked l)) (none l), front-long l, admitted-room (admitted-by (asked l)) (none l)), take-within (from l .args .width) foldedLimit (kept (from l)) (ready l .within) (half l)))
+
+-- what the total comes to
+abbrev total-then : tie.After-undo-in → tie.Start → ℤ
+total-then u s = nextTotal (told (u .undo-in .result) .0) (s .args .total) (readingsGiven (s .args .count) (u .undo-in .last .1 .1 .1 .1 .0))
 
 returns-2 : tie.Need-returns-2
 unfolding takenBack
@@ -106,11 +117,11 @@ returns-2 c =
     let low-long : length low ≡ length (take (half l) (kept s)) = c .before .held .given .0 in
     let after = low ++ drop (half l) (kept s) in
     ap (λ (r : Run). (told (u .undo-in .result), r, u .undo-in .last .1 .1 .1 .1 .0))
-    (ap (recordOf N (nextCount (told (u .undo-in .result) .0) (s .args .count)) after) (unfinished l)
-    ∙ stored-opened N (half l) _ (kept s) low (rest-zero (run s) (half l) (ready l)) (low-long ∙ front-long l) _ refl)
-    ∙ u .undo-in .ensures
+    (ap (λ (f : Bool). recordOf N (nextCount (told (u .undo-in .result) .0) (s .args .count)) after f (total-then u s)) (unfinished l)
+    ∙ stored-opened N (half l) _ (total-then u s) (kept s) low (rest-zero (run s) (half l) (ready l)) (low-long ∙ front-long l) _ refl)
+    ∙ u .undo-in .ensures (s .args .total)
     ∙ ap (λ (r : Run). undoneIn r (frame s) (out s)) (sym (run-is (run s) (half l) (ready l) (unfinished l) (half-le l)))
-    ∙ admitted-passed (asked l .admitted .ensures) (frame s) (out s) (next s) refl refl (none l)
+    ∙ admitted-passed (admitted-by (asked l)) (frame s) (out s) (next s) refl refl (none l)
 
 pub take-spec : {M : Type 1} → statement M
 take-spec =

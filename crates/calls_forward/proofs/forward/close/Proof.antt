@@ -1,10 +1,12 @@
 -- `calls_forward::forward::close` meets its contract.
 use borrow.Author.Needs.{needs}
-use mathlib.Core.Path.{_≡_, sym, ap, subst, _∙_}
+use mathlib.Core.Path.{_≡_, sym, ap, ap₂, subst, _∙_}
 use mathlib.Core.Bool.{true}
 use mathlib.Core.List.{List}
 use Prim.Native.Nat.{ℕ, _≤_}
 use lib.IntN.{ℤ, pos}
+use mir.Syntax.{w64}
+use Rattle.integers.proofs.Held.{held-ok}
 use lib.ListN.{length, take, length-replicate}
 use Rattle.integers.specs.Places.{Within}
 use Rattle.steps.specs.Limits.{readingLimit, foldedLimit}
@@ -33,7 +35,7 @@ module _ (s : tie.Start) where
 -- a block of zeros, as long as the width
 module _ (z : tie.After-zero-block) where
   abbrev from : tie.Start
-  from = z .before
+  from = z .before .before
 
   zeros-le : N from ≤ length (z .zero-block .result)
   zeros-le = width-room (N from) (z .zero-block .result) (from .pre .0 .wide) (sym (ap length (z .zero-block .ensures) ∙ length-replicate 128 (pos 0)))
@@ -71,7 +73,7 @@ returns c =
     let t = c .before .before .before .before in
     let z = t .before .before .before .before .before in
     let s = from z in (
-      c .make .ensures ∙ ap (λ (h : List ℤ). record { width = N s; count = s .args .run .count; held = h; finished = true }) (c .before .nothing-held .ensures),
+      c .make .ensures ∙ ap₂ (λ (h : List ℤ) (t : ℤ). record { width = N s; count = s .args .run .count; held = h; finished = true; total = t }) (c .before .nothing-held .ensures) (held-ok w64 _ (z .before .struct-told .given .1 .1 .1 .1 .0 .1) .is),
       t .step-in .ensures .1 ∙ ap (frame (N s) (take (s .args .half) (before s))) (block-is z) ∙ frame-on (s .args .run) (s .args .half) (s .pre .0) (zeros (N s)),
     )
 

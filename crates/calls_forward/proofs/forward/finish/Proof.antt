@@ -6,12 +6,15 @@ use mathlib.Core.Bool.{true, false}
 use mathlib.Core.List.{List}
 use lib.IntN.{ℤ}
 use lib.ListN.{length}
+use mir.Syntax.{w64}
+use Rattle.integers.proofs.Held.{held-ok}
 use Rattle.runs.specs.Answers.{told}
 use Rattle.runs.specs.declared.answer.Answer.the-variants.{Done}
 use Rattle.runs.specs.declared.record.Run.{Run}
 use Rattle.runs.specs.Record.{blockLimit}
 use Rattle.runs.specs.Gate.{sound}
 use Rattle.runs.specs.Forward.{ended}
+use Rattle.gate.specs.Own.Asked.{StillOpen}
 use Rattle.gate.proofs.ReadyLaws.{passed}
 use Rattle.gate.proofs.AskedLaws.{refused, open-sound, open-unfinished}
 use Rattle.runs.proofs.AskLaws.{handed-with, end-output-refused, ended-done}
@@ -28,30 +31,34 @@ module _ (s : tie.Start) where
   held-long : length (run .held) ≡ 64
   held-long = search needs
 
+-- the total is lent by its bits
+open-by : (a : tie.After-still-open) → StillOpen blockLimit (run (a .before .before .before .before)) (a .still-open .result)
+open-by a = rw (held-ok w64 _ (a .before .struct-told .given .1 .1 .1 .1 .0 .1) .is) at (a .still-open .ensures)
+
 -- questions 2 and 3 are passed
 module _ (e : tie.Else1) where
   abbrev asked : tie.After-still-open
   asked = e .before .before
 
   abbrev from : tie.Start
-  from = asked .before .before .before
+  from = asked .before .before .before .before
 
   none : told (asked .still-open .result) .0 ≡ 0
   none = sym (e .before .number .ensures) ∙ e .if1 .left
 
   is-sound : sound blockLimit (run from) ≡ true
-  is-sound = open-sound (asked .still-open .ensures) none
+  is-sound = open-sound (open-by asked) none
 
   unfinished : run from .finished ≡ false
-  unfinished = open-unfinished (asked .still-open .ensures) none
+  unfinished = open-unfinished (open-by asked) none
 
 returns : tie.Need-returns
 unfolding ended
 returns c =
     let n = c .before .before in
     let a = n .before in
-    let s = a .before .before .before in
-    handed-with (c .hand-back .ensures) (out s) _ (refused (a .still-open .result) (run s) (out s) _ (λ z. c .before .if1 .taken (n .number .ensures ∙ z)) ∙ a .still-open .ensures .asked (out s) _)
+    let s = a .before .before .before .before in
+    handed-with (c .hand-back .ensures) (out s) _ (refused (a .still-open .result) (run s) (out s) _ (λ z. c .before .if1 .taken (n .number .ensures ∙ z)) ∙ open-by a .asked (out s) _)
 
 returns-2 : tie.Need-returns-2
 returns-2 c =

@@ -6,6 +6,8 @@ use mathlib.Core.Bool.{false}
 use mathlib.Core.List.{List, _++_}
 use Prim.Native.Nat.{ℕ, _/_, _≤_, _<_}
 use lib.IntN.{ℤ}
+use mir.Syntax.{w64}
+use Rattle.integers.proofs.Held.{held}
 use lib.ListN.{length, drop}
 use Rattle.tables.specs.Widths.{halfWidth}
 use Rattle.tables.proofs.Reading.{half-is}
@@ -16,7 +18,7 @@ use Rattle.slices.proofs.Parts.{part-long}
 use Rattle.frames.proofs.FrameLaws.{width-in-fours, take-within}
 use Rattle.runs.specs.declared.record.Run.{Run}
 use Rattle.gate.specs.declared.questions.Fault.the-variants.{Clear}
-use Rattle.runs.specs.Record.{blockLimit, recordOf, nextCount}
+use Rattle.runs.specs.Record.{blockLimit, recordOf, nextCount, nextTotal}
 use Rattle.runs.specs.Gate.{CallResult}
 use Rattle.gate.specs.Own.Faults.{faultOf}
 use Rattle.runs.specs.Forward.{takenIn, taken}
@@ -24,6 +26,7 @@ use Rattle.gate.specs.Own.Ready.{Ready}
 use Rattle.runs.proofs.RecordLaws.{width-le}
 use Rattle.gate.proofs.FaultLaws.{half-room}
 use Rattle.gate.proofs.ReadyLaws.{passed, advanced-is, frame-on}
+use Rattle.gate.specs.Own.Asked.{Admitted}
 use Rattle.gate.proofs.AskedLaws.{admitted-refused, admitted-passed, admitted-sound, admitted-open, admitted-given, admitted-room}
 use Rattle.gate.proofs.BlockLaws.{dead-refused, range-refused, taken-done, clear-within}
 use Rattle.calls_forward.proofs.in_place.take.Statement.{statement}
@@ -31,7 +34,7 @@ use Rattle.calls_forward.proofs.in_place.take.Tie as tie
 
 module _ (s : tie.Start) where
   abbrev run : Run
-  run = recordOf (s .args .width) (s .args .count) (s .args .held .now) (s .args .finished)
+  run = recordOf (s .args .width) (s .args .count) (s .args .held .now) (s .args .finished) (s .args .total)
 
   abbrev block : List ℤ
   block = s .args .block .now
@@ -41,6 +44,10 @@ module _ (s : tie.Start) where
 
   abbrev next : CallResult
   next = takenIn run block out
+
+-- the total is lent by its bits
+admitted-by : (a : tie.After-admitted) → let s = a .before .before in Admitted blockLimit (run s) (length (block s)) (length (out s)) (a .admitted .result)
+admitted-by a = let s = a .before .before in rw (held w64 _ (s .fits .total) .is) at (a .admitted .ensures)
 
 -- questions 2 to 7 are passed
 module _ (l : tie.Else1) where
@@ -54,20 +61,20 @@ module _ (l : tie.Else1) where
   none = sym (l .before .number .ensures) ∙ l .if1 .left
 
   unfinished : from .args .finished ≡ false
-  unfinished = admitted-open (asked .admitted .ensures) none
+  unfinished = admitted-open (admitted-by asked) none
 
   block-long : length (block from) ≡ from .args .width
-  block-long = admitted-given (asked .admitted .ensures) none
+  block-long = admitted-given (admitted-by asked) none
 
   frame-long : length (out from) ≡ from .args .width
-  frame-long = admitted-room (asked .admitted .ensures) none
+  frame-long = admitted-room (admitted-by asked) none
 
   ready : (half : ℕ) → half ≡ halfWidth (from .args .width) → Ready (run from) half
-  ready half h = passed blockLimit (omega arith) (run from) half (admitted-sound (asked .admitted .ensures) none) h (from .pre)
+  ready half h = passed blockLimit (omega arith) (run from) half (admitted-sound (admitted-by asked) none) h (from .pre)
 
   taken-is : next from ≡ taken (run from) (block from) (out from)
   unfolding taken
-  taken-is = admitted-passed (asked .admitted .ensures) (block from) (out from) (next from) refl refl none
+  taken-is = admitted-passed (admitted-by asked) (block from) (out from) (next from) refl refl none
 
 -- and 8 and 9
 module _ (n : tie.After-enum-told) where
@@ -95,7 +102,7 @@ returns c =
     let n = c .before in
     let a = n .before in
     let s = a .before .before in
-    admitted-refused (a .admitted .ensures) (block s) (out s) (next s) refl refl (λ z. c .if1 .taken (n .number .ensures ∙ z))
+    admitted-refused (admitted-by a) (block s) (out s) (next s) refl refl (block s) (λ z. c .if1 .taken (n .number .ensures ∙ z))
 
 fault-of-requires : tie.Need-fault-of-requires
 fault-of-requires c κs =
@@ -124,15 +131,15 @@ step-in-requires c κs =
     )
 
 returns-2 : tie.Need-returns-2
-unfolding told nextCount
+unfolding told nextCount nextTotal
 returns-2 c = let f = c .before .before .before in let s = from (f .before) in dead-refused (run s) (block s) (out s) _ (sym (f .fault-of .ensures) ∙ c .before .fault .given .1) ∙ taken-is (f .before)
 
 returns-3 : tie.Need-returns-3
-unfolding told nextCount
+unfolding told nextCount nextTotal
 returns-3 c = let f = c .before .before .before in let s = from (f .before) in range-refused (run s) (block s) (out s) _ (sym (f .fault-of .ensures) ∙ c .before .fault2 .given .1) ∙ taken-is (f .before)
 
 returns-4 : tie.Need-returns-4
-unfolding told nextCount
+unfolding told nextCount nextTotal
 returns-4 c =
     let t = c .before .before in
     let n = t .before .before .before in

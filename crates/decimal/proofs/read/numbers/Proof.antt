@@ -6,14 +6,12 @@ use mathlib.Core.List.{List}
 use Prim.Native.Nat.{ℕ, _+_, _-_, _≤_, _<_}
 use lib.IntN.{ℤ}
 use lib.ListN.{length, take, drop, length-drop, length-set}
-use mir.Syntax.{w32}
-use Rattle.integers.proofs.Held.{held-ok}
 use Rattle.text_runs.specs.Decimal.{numberIn}
 use Rattle.text_runs.specs.Lines.{allNumbers, numbersIn, upTo, comma}
 use Rattle.decimal.specs.Own.Reading.{shownAs, countWithin}
 use Rattle.text_runs.specs.declared.number.Field.the-variants as Field
-use Rattle.text_runs.proofs.UpToLaws.{part-length, part-is}
-use Rattle.decimal.proofs.FieldsRead.{fieldsFrom, ahead, from-start, number-long, read-bad, read-number, read-all}
+use Rattle.text_runs.proofs.UpToLaws.{part-length, part-cut}
+use Rattle.decimal.proofs.FieldsRead.{fieldsFrom, ahead, from-start, number-long, asks-narrow, narrow-is, read-bad, read-number, read-all}
 use Rattle.decimal.proofs.read.numbers.Statement.{statement}
 use Rattle.decimal.proofs.read.numbers.Tie as tie
 
@@ -41,9 +39,7 @@ module _ (m : tie.After-number Inv-loop μ-loop) where
 
   -- the number of the field
   seen : numberIn (upTo comma (drop (at from) (line from))) ≡ m .number .result
-  seen =
-      let e : from .end-of .result - at from ≡ length (upTo comma (drop (at from) (line from))) = omega (arith, from .end-of .ensures) in
-      sym (m .number .ensures ∙ ap numberIn (ap (λ k. take k (drop (at from) (line from))) e ∙ part-is comma (drop (at from) (line from))))
+  seen = sym (m .number .ensures ∙ ap numberIn (part-cut comma (line from) (at from) (from .end-of .result) (from .end-of .ensures)))
 
 module _ (c : tie.After-known-told Inv-loop μ-loop) where
   abbrev found : tie.After-number Inv-loop μ-loop
@@ -98,11 +94,14 @@ returns c =
     let k = m .before .before .before .before in
     (sym (k .loop .inv .3 ∙ read-bad _ _ (k .loop .out) (k .loop .n) (m .before .before .before .loop-test .taken) (seen m ∙ c .enum-told .given .1)), tt)
 
-mul-x : tie.Need-mul-x Inv-loop μ-loop
-mul-x c = search needs
+cast-out : tie.Need-cast-out Inv-loop μ-loop
+cast-out c = asks-narrow _ (x c) (c .known-told .given .0 .1) (is-number c)
 
-slice-set-from-x : tie.Need-slice-set-from-x Inv-loop μ-loop
-slice-set-from-x c = room c
+mul-t8 : tie.Need-mul-t8 Inv-loop μ-loop
+mul-t8 c = search needs
+
+slice-set-from-out : tie.Need-slice-set-from-out Inv-loop μ-loop
+slice-set-from-out c = room c
 
 add-n : tie.Need-add-n Inv-loop μ-loop
 add-n c = record { fits = omega (arith, room c) }
@@ -120,7 +119,7 @@ loop-again c =
       omega (arith, past c, k .loop .inv),
       omega (arith, ends f),
       length-set (k .loop .out) (k .loop .n) _ ∙ k .loop .inv .2,
-      k .loop .inv .3 ∙ read-number _ _ _ _ (f .before .loop-test .taken) (f .end-of .ensures) (room c) (held-ok w32 (x c) (c .known-told .given .0 .1) .is) (is-number c),
+      k .loop .inv .3 ∙ read-number _ _ _ _ (f .before .loop-test .taken) (f .end-of .ensures) (room c) (narrow-is _ (x c) (c .known-told .given .0 .1) (is-number c)) (is-number c),
     )
 
 same-length-2 : tie.Need-same-length-2 Inv-loop μ-loop
@@ -146,8 +145,9 @@ numbers-spec =
     enum-told
     same-length
     returns
-    mul-x
-    slice-set-from-x
+    cast-out
+    mul-t8
+    slice-set-from-out
     add-n
     add-at
     loop-less

@@ -2,16 +2,17 @@
 use borrow.Author.Needs.{needs}
 use native.Mathlib.Omega.{arith}
 use mathlib.Core.Path.{ap, _∙_}
-use Prim.Native.Nat.{_≤_}
+use Prim.Native.Nat.{_-_, _≤_}
 use lib.IntN.{pos}
-use mir.Syntax.{w32}
+use mir.Syntax.{w64}
 use Rattle.integers.proofs.Num.{num}
+use Rattle.text_runs.specs.Decimal.{least64}
 use Rattle.text_runs.specs.declared.number.Field.the-variants as Field
 use Rattle.decimal.proofs.ReadLaws.{size-within, plus-of, plus-bad}
 use Rattle.decimal.proofs.read.positive.Statement.{statement}
 use Rattle.decimal.proofs.read.positive.Tie as tie
 
-small : (c : tie.After-known-told) → c .before .size .given .0 .0 ≤ 2147483647
+small : (c : tie.After-known-told) → c .before .size .given .0 .0 ≤ least64 - 1
 small c = size-within (c .before .before .before .pre) (c .before .size .given .1)
 
 enum-known-size : tie.Need-enum-known-size
@@ -24,7 +25,7 @@ enum-told : tie.Need-enum-told
 enum-told c = search needs
 
 returns : tie.Need-returns
-returns c = ap Field.Number (num w32 (pos _) (small c) tt .holds .is) ∙ plus-of (c .before .size .given .1)
+returns c = ap Field.Number (num w64 (pos _) (small c) tt .holds .is) ∙ plus-of (c .before .size .given .1)
 
 returns-2 : tie.Need-returns-2
 returns-2 c = plus-bad (c .enum-told .given .1)

@@ -10,10 +10,10 @@ use Rattle.decimal.proofs.read.value_of.Statement.{statement}
 use Rattle.decimal.proofs.read.value_of.Tie as tie
 
 abbrev Inv-loop : tie.InvT-loop
-Inv-loop digits limit size₀ i₀ size i = (i ≤ length digits) × (size ≤ limit) × (valued limit 0 digits ≡ valued limit size (drop i digits))
+Inv-loop digits limit tenth size₀ i₀ size i = (i ≤ length digits) × (size ≤ limit) × (valued limit 0 digits ≡ valued limit size (drop i digits))
 
 abbrev μ-loop : tie.MeasureT-loop
-μ-loop digits limit size₀ i₀ size i = length digits - i
+μ-loop digits limit tenth size₀ i₀ size i = length digits - i
 
 -- the loop's turn, with its byte
 module _ (i : tie.In-loop Inv-loop μ-loop) where
@@ -51,6 +51,12 @@ returns-2 c =
     let i = c .before .before .before in
     sym (i .before .loop .inv .2 ∙ byte-high _ _ _ _ (i .loop-test .taken) (c .if2 .taken))
 
+-- a tenth of the limit is passed: with another digit the limit is too
+returns-3 : tie.Need-returns-3 Inv-loop μ-loop
+returns-3 c =
+    let i = c .before .before .before .before in
+    sym (taken i (c .before .before .if1 .left) (c .before .if2 .left) ∙ valued-beyond _ _ _ (omega arith))
+
 mul-size : tie.Need-mul-size Inv-loop μ-loop
 mul-size c = omega arith
 
@@ -60,10 +66,10 @@ cast-size c = record { fits = omega arith }
 add-size : tie.Need-add-size Inv-loop μ-loop
 add-size c = record { fits = omega arith }
 
-returns-3 : tie.Need-returns-3 Inv-loop μ-loop
-returns-3 c =
-    let i = c .before .before .before .before in
-    sym (taken i (c .before .before .if1 .left) (c .before .if2 .left) ∙ valued-beyond _ _ _ (c .if3 .taken))
+returns-4 : tie.Need-returns-4 Inv-loop μ-loop
+returns-4 c =
+    let at-if2 = c .before .before in
+    sym (taken (at-if2 .before .before .before) (at-if2 .before .if1 .left) (at-if2 .if2 .left) ∙ valued-beyond _ _ _ (c .if4 .taken))
 
 add-i : tie.Need-add-i Inv-loop μ-loop
 add-i c = omega arith
@@ -73,11 +79,11 @@ loop-less c = omega arith
 
 loop-again : tie.Need-loop-again Inv-loop μ-loop
 loop-again c =
-    let i = c .before .before .before .before in
-    (omega arith, omega arith, taken i (c .before .before .if1 .left) (c .before .if2 .left))
+    let at-if2 = c .before .before in
+    (omega arith, omega arith, taken (at-if2 .before .before .before) (at-if2 .before .if1 .left) (at-if2 .if2 .left))
 
-returns-4 : tie.Need-returns-4 Inv-loop μ-loop
-returns-4 c =
+returns-5 : tie.Need-returns-5 Inv-loop μ-loop
+returns-5 c =
     let k = c .before in
     let e : k .loop .i ≡ length (k .before .args .digits .now) = omega arith in
     sym (k .loop .inv .2 ∙ value-whole _ _ _ _ e (k .loop .inv .1))
@@ -92,11 +98,12 @@ value-of-spec =
     shared-slice-read-byte
     returns
     returns-2
+    returns-3
     mul-size
     cast-size
     add-size
-    returns-3
+    returns-4
     add-i
     loop-less
     loop-again
-    returns-4)
+    returns-5)

@@ -79,7 +79,7 @@ returns : tie.Need-returns
 returns c =
     let u = c .before .before in
     let s = from u in
-    undo-refused (N s) (s .args .count) (low s) (frame s) (out s) (values u) (step u .unstaged .result) (asked u) (λ z. c .if1 .taken (c .before .number .ensures ∙ z))
+    λ total. undo-refused (N s) (s .args .count) total (low s) (frame s) (out s) (values u) (step u .unstaged .result) (asked u) (λ z. c .if1 .taken (c .before .number .ensures ∙ z))
 
 unfolded-in-requires : tie.Need-unfolded-in-requires
 unfolded-in-requires c κs =
@@ -109,9 +109,9 @@ returns-2 : tie.Need-returns-2
 returns-2 c =
     let u = lent c in
     let s = from u in
-    called c .unfolded-in .ensures
-    ∙ ap (λ (l : List ℤ). unfoldedIn (opened (N s) (s .args .count) (low s)) l (out s)) (made (passed c))
-    ∙ undo-passed (N s) (s .args .count) (low s) (frame s) (out s) (values u) (step u .unstaged .result) (asked u) (zero (passed c))
+    λ total. called c .unfolded-in .ensures total
+    ∙ ap (λ (l : List ℤ). unfoldedIn (opened (N s) (s .args .count) total (low s)) l (out s)) (made (passed c))
+    ∙ undo-passed (N s) (s .args .count) total (low s) (frame s) (out s) (values u) (step u .unstaged .result) (asked u) (zero (passed c))
 
 pub undo-spec : {M : Type 1} → statement M
 undo-spec =

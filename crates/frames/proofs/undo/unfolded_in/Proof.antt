@@ -75,11 +75,11 @@ module _ (u : tie.After-block-between) where
   abbrev later : tie.Start
   later = u .before .before .before .before
 
-  made : u .block-between .last .1 .1 .1 .1 .0 ≡ blockOn (opened (N later) (later .args .count) (low later)) (folded later)
-  made = u .block-between .ensures ∙ block-is (N later) (later .args .count) (low later) (folded later) (out later) (halfWidth (N later)) refl (later .pre .1 .1 .0 .1)
+  made : (total : ℤ) → u .block-between .last .1 .1 .1 .1 .0 ≡ blockOn (opened (N later) (later .args .count) total (low later)) (folded later)
+  made total = u .block-between .ensures ∙ block-is (N later) (later .args .count) total (low later) (folded later) (out later) (halfWidth (N later)) refl (later .pre .1 .1 .0 .1)
 
   made-long : length (u .block-between .last .1 .1 .1 .1 .0) ≡ N later
-  made-long = ap length made ∙ block-long (N later) (later .args .count) (low later) (folded later) (out later)
+  made-long = ap length (made (pos 0)) ∙ block-long (N later) (later .args .count) (pos 0) (low later) (folded later) (out later)
 
 module _ (f : tie.After-first-beyond2) where
   abbrev block-made : tie.After-block-between
@@ -88,11 +88,11 @@ module _ (f : tie.After-first-beyond2) where
   abbrev from : tie.Start
   from = later block-made
 
-  seen : firstOut (blockOn (opened (N from) (from .args .count) (low from)) (folded from)) 0 ≡ f .first-beyond2 .result
-  seen = sym (f .first-beyond2 .ensures ∙ ap (λ (l : List ℤ). firstBeyond (pos readingLimit) l 0) (made block-made))
+  seen : (total : ℤ) → firstOut (blockOn (opened (N from) (from .args .count) total (low from)) (folded from)) 0 ≡ f .first-beyond2 .result
+  seen total = sym (f .first-beyond2 .ensures ∙ ap (λ (l : List ℤ). firstBeyond (pos readingLimit) l 0) (made block-made total))
 
-none : (c : tie.After-enum-told2) → let s = from (c .before .before) in firstOut (blockOn (opened (N s) (s .args .count) (low s)) (folded s)) 0 ≡ Nothing
-none c = seen (c .before .before) ∙ c .enum-told2 .given .1
+none : (c : tie.After-enum-told2) (total : ℤ) → let s = from (c .before .before) in firstOut (blockOn (opened (N s) (s .args .count) total (low s)) (folded s)) 0 ≡ Nothing
+none c total = seen (c .before .before) total ∙ c .enum-told2 .given .1
 
 add-t19 : tie.Need-add-t19
 add-t19 c =
@@ -104,7 +104,7 @@ returns : tie.Need-returns
 returns c =
     let f = c .before .before .before in
     let s = first f in
-    upper-refused (N s) (s .args .count) (low s) (folded s) (out s) (f .before .before .if1 .taken) (half s) _ (half-wide s) (upper-seen f ∙ c .before .upper .given .1)
+    λ total. upper-refused (N s) (s .args .count) total (low s) (folded s) (out s) (f .before .before .if1 .taken) (half s) _ (half-wide s) (upper-seen f ∙ c .before .upper .given .1)
 
 enum-told : tie.Need-enum-told
 enum-told c = search needs
@@ -120,7 +120,7 @@ returns-2 c =
     let n = c .before .before .before .before in
     let f = n .before .before in
     let s = first f in
-    first-done (N s) (s .args .count) (low s) (folded s) (out s) (f .before .before .if1 .taken) _ (c .before .copy .ensures ∙ front-is s) (upper-seen f ∙ n .enum-told .given .1)
+    λ total. first-done (N s) (s .args .count) total (low s) (folded s) (out s) (f .before .before .if1 .taken) _ (c .before .copy .ensures ∙ front-is s) (upper-seen f ∙ n .enum-told .given .1)
 
 block-between-requires : tie.Need-block-between-requires
 block-between-requires c κs =
@@ -132,7 +132,7 @@ returns-3 : tie.Need-returns-3
 returns-3 c =
     let f = c .before .before .before in
     let s = from f in
-    later-refused (N s) (s .args .count) (low s) (folded s) (out s) (block-made f .before .before .before .if1 .left) _ (seen f ∙ c .before .beyond .given .1)
+    λ total. later-refused (N s) (s .args .count) total (low s) (folded s) (out s) (block-made f .before .before .before .if1 .left) _ (seen f total ∙ c .before .beyond .given .1)
 
 write-requires : tie.Need-write-requires
 write-requires c κs =
@@ -140,7 +140,7 @@ write-requires c κs =
     let u = block-made (n .before .before) in
     let s = later u in (
       (made-long u ∙ sym (s .pre .1 .1 .0 .3), ap (λ n. n % 4) (made-long u) ∙ width-in-fours (N s) (s .pre .0), omega (arith, half-wide s, half-le s, s .pre .1 .1 .0 .1)),
-      subst (Within (2 ^ 30)) (sym (made u)) (within-up (none-within readingLimit _ (none n)) (omega arith)),
+      subst (Within (2 ^ 30)) (sym (made u (pos 0))) (within-up (none-within readingLimit _ (none n (pos 0))) (omega arith)),
     )
 
 returns-4 : tie.Need-returns-4
@@ -149,7 +149,7 @@ returns-4 c =
     let n = w .before .before .before .before in
     let u = block-made (n .before .before) in
     let s = later u in
-    later-done (N s) (s .args .count) (low s) (folded s) (out s) (u .before .before .before .if1 .left) _ _ (w .write .ensures .0 ∙ ap (λ (n : ℕ). take n (folded s)) (s .pre .1 .1 .0 .1)) (w .write .ensures .1 ∙ made u) (none n)
+    λ total. later-done (N s) (s .args .count) total (low s) (folded s) (out s) (u .before .before .before .if1 .left) _ _ (w .write .ensures .0 ∙ ap (λ (n : ℕ). take n (folded s)) (s .pre .1 .1 .0 .1)) (w .write .ensures .1 ∙ made u total) (none n total)
 
 pub unfolded-in-spec : {M : Type 1} → statement M
 unfolded-in-spec =

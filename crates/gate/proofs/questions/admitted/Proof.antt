@@ -2,18 +2,24 @@
 use borrow.Author.Needs.{needs}
 use mathlib.Core.Path.{_≡_, sym, _∙_}
 use mathlib.Core.Bool.{true, false}
+use mir.Syntax.{w64}
+use Rattle.integers.proofs.Held.{held}
 use Rattle.runs.specs.Answers.{told}
 use Rattle.runs.specs.declared.record.Run.{Run}
 use Rattle.runs.specs.Record.{recordOf}
 use Rattle.runs.specs.Gate.{sound}
 use Rattle.runs.proofs.AskLaws.{full-refused, input-refused, output-refused, lengths-passed}
-use Rattle.gate.specs.Own.Asked.{answered}
+use Rattle.gate.specs.Own.Asked.{answered, StillOpen}
 use Rattle.gate.proofs.AskedLaws.{open-sound, open-unfinished, open-refused}
 use Rattle.gate.proofs.questions.admitted.Statement.{statement}
 use Rattle.gate.proofs.questions.admitted.Tie as tie
 
 abbrev run : tie.Start → Run
-run s = recordOf (s .args .width) (s .args .count) (s .args .held .now) (s .args .finished)
+run s = recordOf (s .args .width) (s .args .count) (s .args .held .now) (s .args .finished) (s .args .total)
+
+-- the total is lent by its bits
+open-by : (c : tie.After-still-open) → StillOpen (c .before .args .top) (run (c .before)) (c .still-open .result)
+open-by c = let s = c .before in rw (held w64 _ (s .fits .total) .is) at (c .still-open .ensures)
 
 -- questions 2 and 3 are passed
 module _ (e : tie.Else1) where
@@ -27,13 +33,13 @@ module _ (e : tie.Else1) where
   none = sym (e .before .number .ensures) ∙ e .if1 .left
 
   is-sound : sound (from .args .top) (run from) ≡ true
-  is-sound = open-sound (asked .still-open .ensures) none
+  is-sound = open-sound (open-by asked) none
 
   is-open : run from .finished ≡ false
-  is-open = open-unfinished (asked .still-open .ensures) none
+  is-open = open-unfinished (open-by asked) none
 
 returns : tie.Need-returns
-returns c = let n = c .before in open-refused (n .before .still-open .ensures) _ _ (λ z. c .if1 .taken (n .number .ensures ∙ z))
+returns c = let n = c .before in open-refused (open-by (n .before)) _ _ (λ z. c .if1 .taken (n .number .ensures ∙ z))
 
 returns-2 : tie.Need-returns-2
 unfolding answered told

@@ -3,6 +3,8 @@ use borrow.Author.Needs.{needs}
 use borrow.Author.Tests.{not-true, not-false}
 use mathlib.Core.Path.{_≡_, sym, _∙_}
 use mathlib.Core.Bool.{true}
+use mir.Syntax.{w64}
+use Rattle.integers.proofs.Held.{held}
 use Rattle.runs.specs.Answers.{told}
 use Rattle.runs.specs.declared.record.Run.{Run}
 use Rattle.runs.specs.Record.{recordOf}
@@ -13,14 +15,18 @@ use Rattle.gate.proofs.questions.still_open.Statement.{statement}
 use Rattle.gate.proofs.questions.still_open.Tie as tie
 
 abbrev run : tie.Start → Run
-run s = recordOf (s .args .width) (s .args .count) (s .args .held .now) (s .args .finished)
+run s = recordOf (s .args .width) (s .args .count) (s .args .held .now) (s .args .finished) (s .args .total)
+
+-- the total is lent by its bits
+answered-by : (c : tie.After-sound) → c .sound .result ≡ sound (c .before .args .top) (run (c .before))
+answered-by c = let s = c .before in rw (held w64 _ (s .fits .total) .is) at (c .sound .ensures)
 
 is-sound : (e : tie.Else1) → sound (e .before .before .args .top) (run (e .before .before)) ≡ true
-is-sound e = sym (e .before .sound .ensures) ∙ not-false _ (e .if1 .left)
+is-sound e = sym (answered-by (e .before)) ∙ not-false _ (e .if1 .left)
 
 returns : tie.Need-returns
 unfolding answered told
-returns c = let s = c .before .before in record { asked = λ out next. record-refused (s .args .top) (run s) out _ (sym (c .before .sound .ensures) ∙ not-true _ (c .if1 .taken)) }
+returns c = let s = c .before .before in record { asked = λ out next. record-refused (s .args .top) (run s) out _ (sym (answered-by (c .before)) ∙ not-true _ (c .if1 .taken)) }
 
 returns-2 : tie.Need-returns-2
 unfolding answered told

@@ -1,8 +1,10 @@
 -- `text_lines::row::finish` meets its contract.
 use borrow.Author.Needs.{needs}
 use native.Mathlib.Omega.{arith}
-use mathlib.Core.Path.{_≡_, sym, ap, _∙_}
+use mathlib.Core.Path.{_≡_, sym, ap, ap₂, _∙_}
 use mathlib.Core.List.{_++_}
+use mir.Syntax.{w64}
+use Rattle.integers.proofs.Held.{held}
 use lib.ListN.{length, take, drop, length-append}
 use lib.Seq.{length-take-le, take-at}
 use Rattle.runs.specs.Answers.{told}
@@ -56,10 +58,11 @@ returns c =
     let a = c .before .before in
     let at-output-length = a .before .before .before .before in
     let s = at-output-length .before .before .args in
+    let total = held w64 (s .total) (at-output-length .before .before .fits .total) .is in
     let room = output-room (s .state .run) (at-output-length .output-length .result) (a .before .before .before .room .result) (at-output-length .output-length .ensures .0) (at-output-length .output-length .ensures .1) (a .before .before .before .room .ensures) in (
       c .given-last .ensures .0
-          ∙ ap (λ xs. finishGiven (s .state) (told (a .before .finish-by .result .answer), a .before .finish-by .result .run, xs)) (outputs a)
-          ∙ ap (finishGiven (s .state)) (a .before .finish-by .ensures ∙ ap (endedBy (s .state .way) (s .state .run)) room),
+          ∙ ap₂ (λ t xs. finishGiven (s .state) t (told (a .before .finish-by .result .answer), a .before .finish-by .result .run, xs)) total (outputs a)
+          ∙ ap (finishGiven (s .state) (s .total)) (a .before .finish-by .ensures ∙ ap (endedBy (s .state .way) (s .state .run)) room),
       c .given-last .ensures .1,
     )
 

@@ -2,6 +2,7 @@
 use borrow.Author.Needs.{needs}
 use mathlib.Core.Path.{ap, _∙_}
 use mathlib.Core.Bool.{false}
+use lib.IntN.{pos}
 use Rattle.runs.specs.declared.record.Run.{Run}
 use Rattle.runs.specs.Record.{recordOf, zeroPadded, opened}
 use Rattle.text_runs.specs.declared.state.Way.{Way}
@@ -21,7 +22,7 @@ returns : tie.Need-returns
 unfolding begun opened zeroPadded
 returns c =
     let way = c .before .before .args .way in
-    ap (before-line-1 way) (c .make .ensures) ∙ ap (λ held. before-line-1 way (recordOf 0 0 held false)) (c .before .nothing-held .ensures)
+    ap (before-line-1 way) (c .make .ensures) ∙ ap (λ held. before-line-1 way (recordOf 0 0 held false (pos 0))) (c .before .nothing-held .ensures)
 
 pub begin-spec : {M : Type 1} → statement M
 begin-spec = tie.close (tie.spec nothing-held-requires (λ c κs. search needs) returns)

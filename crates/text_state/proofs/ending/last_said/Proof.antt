@@ -7,9 +7,9 @@ use Prim.Native.Nat.{_-_, _≤_}
 use lib.ListN.{length, drop, length-drop, length-take}
 use lib.Seq.{length-take-le}
 use Rattle.text_runs.specs.Lines.{refusedTag, numbersIn}
-use Rattle.text_runs.proofs.UpToLaws.{part-length}
+use Rattle.text_runs.proofs.UpToLaws.{part-length, part-cut}
 use Rattle.feeding.specs.Ending.{refusedBy}
-use Rattle.text_state.proofs.EndingLaws.{said-short, said-other, said-refused, said-part}
+use Rattle.text_state.proofs.EndingLaws.{said-short, said-other, said-refused}
 use Rattle.text_state.proofs.ending.last_said.Statement.{statement}
 use Rattle.text_state.proofs.ending.last_said.Tie as tie
 
@@ -60,7 +60,7 @@ returns-3 c =
     let start = t .before .before .before .before .before in
     let bytes = start .args .text .now in
     c .refused-by .ensures
-    ∙ ap (λ bs. refusedBy (numbersIn bs)) (said-part bytes _ (c .before .before .end-of .ensures))
+    ∙ ap (λ bs. refusedBy (numbersIn bs)) (part-cut 10 bytes 8 _ (c .before .before .end-of .ensures))
     ∙ sym (said-refused bytes (sym (t .same .ensures) ∙ not-false _ (c .before .before .before .if2 .left)))
 
 pub last-said-spec : {M : Type 1} → statement M

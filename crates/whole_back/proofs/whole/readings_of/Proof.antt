@@ -118,7 +118,7 @@ module _ (c : tie.After-z2) where
   stored : take (half start) (kept ++ drop (half start) (held made)) ≡ kept
   stored = front (half start) kept (drop (half start) (held made)) held-long
 
-  after : opened (N start) 1 kept ≡ takenBack (started (N start) .1) (take (N start) (frames start)) (zeros (N start)) .1
+  after : opened (N start) 1 (pos 0) kept ≡ takenBack (started (N start) .1) (take (N start) (frames start)) (zeros (N start)) .1
   after = step .first-frame .ensures (taken start) .0
 
 first-frame-requires : tie.Need-first-frame-requires
@@ -150,8 +150,8 @@ blocks-before-requires c κs =
             lent-wide (fits (made a)) (left a),
             (
               subst (Within foldedLimit) (sym (stored a)) (step a .first-frame .ensures (taken s) .1),
-              subst₂ (λ (k l : List ℤ). answerFrom (N s) (N s) (opened (N s) 1 k) (length l / N s) l (out s) .0 ≡ 0) (sym (stored a)) (sym (rest s))
-                  (ap (λ (x : ℕ × ℕ). x .0) (answer-left (N s) (frames s) (out s) (s .pre .1 .0) (s .pre .1 .1 .0) (opened (N s) 1 (kept a)) (after a) (taken s)) ∙ s .pre .1 .1 .1),
+              subst₂ (λ (k l : List ℤ). answerFrom (N s) (N s) (opened (N s) 1 (pos 0) k) (length l / N s) l (out s) .0 ≡ 0) (sym (stored a)) (sym (rest s))
+                  (ap (λ (x : ℕ × ℕ). x .0) (answer-left (N s) (frames s) (out s) (s .pre .1 .0) (s .pre .1 .1 .0) (opened (N s) 1 (pos 0) (kept a)) (after a) (taken s)) ∙ s .pre .1 .1 .1),
             ),
           ),
         ),
@@ -164,8 +164,8 @@ returns c =
     let a = behind-first (b .before) in
     let s = start a in
     b .blocks-before .ensures
-    ∙ ap₂ (λ (k l : List ℤ). outputsFrom (N s) (opened (N s) 1 k) (length l / N s) l (out s)) (stored a) (rest s)
-    ∙ outputs-left (N s) (frames s) (out s) (s .pre .1 .0) (s .pre .1 .1 .0) (opened (N s) 1 (kept a)) (after a)
+    ∙ ap₂ (λ (k l : List ℤ). outputsFrom (N s) (opened (N s) 1 (pos 0) k) (length l / N s) l (out s)) (stored a) (rest s)
+    ∙ outputs-left (N s) (frames s) (out s) (s .pre .1 .0) (s .pre .1 .1 .0) (opened (N s) 1 (pos 0) (kept a)) (after a)
 
 pub readings-of-spec : {M : Type 1} → statement M
 readings-of-spec =

@@ -1,0 +1,2 @@
+-- Serves the code; no promise cites it.
+pub mod Totals
