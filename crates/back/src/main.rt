@@ -1,4 +1,6 @@
 // Frames on standard input to readings on standard output.
+#![tactic(auto)]
+
 use stream::run;
 use text_runs::state::Way;
 

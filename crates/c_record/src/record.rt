@@ -11,7 +11,7 @@ use runs::record;
 use runs::record::Run;
 use slices::vectors;
 
-#[derive(Drop)]
+#[derive(Clone, Copy)]
 pub struct Head {
     pub width: usize,
     pub count: usize,

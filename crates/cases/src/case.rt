@@ -8,7 +8,7 @@ use runs::{answer, record};
 use slices::vectors;
 
 // The totals of the record before the call and of the one after it.
-#[derive(Drop)]
+#[derive(Clone, Copy)]
 pub struct Totals {
     pub before: i64,
     pub after: i64,

@@ -3,6 +3,8 @@
 //     total before, total after, kind, times, answer, place, length of the input, record before, record after, input, output
 // and a record is its width, its count, 1 if it is finished and else 0, and 64 held values; its total has 64 bits, and stands in front. Every place of
 // an output is 7 before the call. The kinds are in `call`. The lines of records.txt, calls.txt and valve.txt are told in `sound`, `series`, `valve`.
+#![tactic(auto)]
+
 mod call;
 mod case;
 mod line;
@@ -19,7 +21,7 @@ use series::Given;
 use text_runs::number::Field;
 
 // What the lines of a file are.
-#[derive(Drop)]
+#[derive(Clone, Copy)]
 enum Table {
     Cases,
     Records,
@@ -105,7 +107,7 @@ fn total(cases: usize, differ: usize) {
 }
 
 // The record after a line, and what the line adds to the counts.
-#[derive(Drop)]
+#[derive(Clone, Copy)]
 struct Added {
     run: Run,
     cases: usize,

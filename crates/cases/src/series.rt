@@ -8,7 +8,7 @@ use runs::record::{Outcome, Run};
 use text_runs::number::Field;
 
 // The record after a line, and whether the call gave what is told.
-#[derive(Drop)]
+#[derive(Clone, Copy)]
 pub struct Given {
     pub run: Run,
     pub same: bool,

@@ -12,13 +12,13 @@ use valves::record::Valve;
 use valves::{answer, record};
 
 // Two numbers of 32 bits, one behind the other: a record, or a ticket.
-#[derive(Drop)]
+#[derive(Clone, Copy)]
 enum Pair {
     Of(i32, i32),
     Bad,
 }
 
-#[derive(Drop)]
+#[derive(Clone, Copy)]
 enum Number {
     Of(i32),
     Bad,

@@ -3,7 +3,7 @@ ghost use Rattle.std.specs.Prelude.{◌≡◌, ◌%◌, ◌<◌, ◌≤◌, ◌^
 ghost use Rattle.tables.specs.Angles.{half_turn, reflected, below_zero, signed};
 
 // An angle of the first quadrant, and whether the cosine is below zero.
-#[derive(Drop)]
+#[derive(Clone, Copy)]
 pub struct QuadrantAngle {
     pub angle: u16,
     pub minus: bool,

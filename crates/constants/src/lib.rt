@@ -1,4 +1,6 @@
 // The constant tables and the angle reduction, and lists filled from them.
+#![tactic(auto)]
+
 pub mod angles;
 pub mod secants;
 pub mod sines;

@@ -1,4 +1,6 @@
 // A line of text: whole numbers in decimal, parted by commas, printed and read.
+#![tactic(auto)]
+
 pub mod compare;
 pub mod print;
 pub mod read;

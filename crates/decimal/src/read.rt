@@ -8,7 +8,7 @@ use crate::{compare, search};
 use text_runs::number::{Field, Size};
 
 // The fields of a line: how many numbers, if each is one.
-#[derive(Drop)]
+#[derive(Clone, Copy)]
 pub enum Fields {
     Numbers(usize),
     Bad,

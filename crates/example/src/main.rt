@@ -1,4 +1,6 @@
 // The paper's sample, by three calls of the library: README.md quotes `sample`.
+#![tactic(auto)]
+
 ghost use Rattle.std.specs.Prelude.{◌≡◌, length};
 
 use calls_forward::forward;

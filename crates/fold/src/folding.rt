@@ -11,7 +11,7 @@ ghost use Rattle.width_tables.specs.Own.Parts.{Tangents, Sines, TwoHalves};
 
 use slices::vectors;
 
-#[derive(Drop)]
+#[derive(Clone, Copy)]
 struct Pair {
     a: i64,
     b: i64,

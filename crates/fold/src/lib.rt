@@ -1,2 +1,4 @@
 // The fold of a block, and the fold undone.
+#![tactic(auto)]
+
 pub mod folding;

@@ -1,4 +1,6 @@
 // Readings on standard input to frames on standard output.
+#![tactic(auto)]
+
 use stream::run;
 use text_runs::state::Way;
 

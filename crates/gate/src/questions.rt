@@ -16,7 +16,7 @@ use runs::{limits, record};
 use slices::{room, vectors};
 
 // The first reading that questions 8 and 9 refuse.
-#[derive(Drop)]
+#[derive(Clone, Copy)]
 pub enum Fault {
     Dead(usize),
     Beyond(usize),

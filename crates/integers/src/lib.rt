@@ -1,4 +1,6 @@
 // Whole numbers: division that floors below zero too, and rounding to the nearest with halves up.
+#![tactic(auto)]
+
 ghost use Rattle.std.specs.Prelude.{◌≡◌, ◌^◌, ◌≤◌, ◌<◌, nat_abs};
 ghost use Rattle.integers.specs.Floor.{above, floor_div, round};
 

@@ -1,2 +1,4 @@
 // The lifts of the stages, each with its way back, at four places a turn.
+#![tactic(auto)]
+
 pub mod lifts;

@@ -4,7 +4,7 @@ ghost use Rattle.pieces.specs.Own.Gathers.{Gathers};
 
 // How many bytes a line has now, where the rest of the piece begins, whether the line has ended, and whether a line feed ended it. A line also
 // ends at a byte that it has no room for.
-#[derive(Drop)]
+#[derive(Clone, Copy)]
 pub struct Gathered {
     pub length: usize,
     pub next: usize,

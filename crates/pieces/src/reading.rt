@@ -6,7 +6,7 @@ ghost use Rattle.pieces.specs.Own.Refills.{filled_by, Refills};
 const MOST_TRIES: usize = 1000;
 
 // A piece in the first `count` bytes of a buffer, and where to go on in it. With no byte in it the input has ended, or a read has failed.
-#[derive(Drop)]
+#[derive(Clone, Copy)]
 pub struct PieceRead {
     pub count: usize,
     pub at: usize,

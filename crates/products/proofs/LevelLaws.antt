@@ -118,7 +118,7 @@ wide_at zero t = ap (λ n. 4 * 2 ^ n) (omega arith)
 wide_at (suc l) t =
     let e : suc l + t ≡ l + suc t = omega arith in
     let d : 4 * 2 ^ suc t / 2 ≡ 4 * 2 ^ t = omega (arith, pow-suc 2 t) in
-    rw (e, wide_at l (suc t)) d
+    ap (λ n. wide (4 * 2 ^ n) (suc l)) e ∙ ap (λ w. w / 2) (wide_at l (suc t)) ∙ d
 
 module _ {m : ℕ} (p : Power m) where
   -- level l, with t more to go

@@ -8,7 +8,7 @@ ghost use Rattle.products.specs.Own.Leaf.{listed_nine, Fit, Leaf, Leaves};
 use slices::fours;
 use slices::fours::Four;
 
-#[derive(Drop)]
+#[derive(Clone, Copy)]
 pub struct Nine {
     pub a: i64,
     pub b: i64,
@@ -21,7 +21,7 @@ pub struct Nine {
     pub i: i64,
 }
 
-#[derive(Drop)]
+#[derive(Clone, Copy)]
 struct Pair {
     p: i64,
     q: i64,

@@ -14,7 +14,7 @@ use reels::{limits, reel};
 
 // How many bytes the line buffer has of a line that no line feed has ended, how many bytes wait in the output buffer, and where to go on in
 // the piece.
-#[derive(Drop)]
+#[derive(Clone, Copy)]
 pub struct Progress {
     pub reel: Reel,
     pub had: usize,

@@ -5,7 +5,7 @@ ghost use Rattle.reels.specs.Reel.{run_limit, reel_begun, reel_over, reel_line_n
 
 // What the next line is: the width of the first run, a frame or its end line, the width of another run. Or the reel is over, whole or refused
 // with a number, a line and a place.
-#[derive(Drop)]
+#[derive(Clone, Copy)]
 pub enum ReelPhase {
     FirstRun,
     Frames,
@@ -15,7 +15,7 @@ pub enum ReelPhase {
 }
 
 // The width of its runs; how many were begun; the frames of this run, and of all runs; and for each coefficient number the sum of the squares.
-#[derive(Drop)]
+#[derive(Clone, Copy)]
 pub struct Reel {
     pub phase: ReelPhase,
     pub width: usize,

@@ -3,7 +3,7 @@ ghost use Rattle.std.specs.Prelude.{◌≡◌};
 ghost use Rattle.reels.specs.Verdicts.{verdict_told};
 
 // The number of each refusal, and its place, are in the definition `verdict_told`.
-#[derive(Drop)]
+#[derive(Clone, Copy)]
 pub enum Verdict {
     Taken,
     Width,
@@ -17,7 +17,7 @@ pub enum Verdict {
 }
 
 // A verdict's number and its place.
-#[derive(Drop)]
+#[derive(Clone, Copy)]
 pub struct VerdictTold(pub usize, pub usize);
 
 pub fn told_by(verdict: Verdict) -> VerdictTold

@@ -21,10 +21,10 @@ use Rattle.runs.proofs.EveryList.{nothing-kept, fresh-told, list-near}
 
 -- ---- the calls that work are blocks and, last, the finish if one worked
 over-stays : (N b : ℕ) (calls : List Call) → over_all N b true calls ≡ true
-unfolding over_all over_after
+unfolding over_all over_after count_after
 over-stays N b [] = refl
-over-stays N b (block xs out ∷ calls) = over-stays N _ calls
-over-stays N b (finish out ∷ calls) = over-stays N _ calls
+over-stays N b (block xs out ∷ calls) = over-stays N (count_after N b true (block xs out)) calls
+over-stays N b (finish out ∷ calls) = over-stays N b calls
 
 abbrev Ordered : List Call → Bool → Type 0
 Ordered calls over = map is_finish calls ≡ replicate (length (blocks_of calls)) false ++ cond over (true ∷ []) []

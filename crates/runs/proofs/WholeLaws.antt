@@ -21,7 +21,7 @@ use Rattle.distance_theorems.proofs.Theorems.{promised-distance}
 use Rattle.runs.specs.declared.record.Run.{Run}
 use Rattle.runs.specs.Record.{block_limit}
 use Rattle.runs.specs.Forward.{started}
-use Rattle.runs.specs.Calls.{Call, Made, made, works, workings, frames_given, kept, working, blocks_of, frame_at}
+use Rattle.runs.specs.Calls.{Call, Made, made, give, works, workings, frames_given, kept, working, blocks_of, frame_at}
 use Rattle.runs.specs.Whole.{calls_of, first_refusal, outputs, forward_one_by_one, whole_forward, parts_of, blocks_in, joined, WholeRun}
 use Rattle.runs.specs.Lists.{made_from, blocks_taken}
 use Rattle.runs.proofs.RecordLaws.{length-frame}
@@ -50,7 +50,7 @@ outputs-joined (m ∷ ms) h = rw h.0 (ap (λ l. m.given.2 ++ l) (outputs-joined 
 all-kept : (run : Run) (calls : List Call) → AllWork (made run calls) → kept (workings (made run calls)) calls ≡ calls
 unfolding made workings kept
 all-kept run [] h = refl
-all-kept run (c ∷ calls) h = rw h.0 (ap (λ l. c ∷ l) (all-kept _ calls h.1))
+all-kept run (c ∷ calls) h = rw h.0 (ap (λ l. c ∷ l) (all-kept (give run c).1 calls h.1))
 
 -- ---- the calls of a whole run: one for each block, and the finish
 blocks-of : (N b : ℕ) (readings out : List ℤ) → blocks_of (calls_of N b readings out) ≡ parts_of N b readings

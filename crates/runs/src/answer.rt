@@ -3,7 +3,7 @@ ghost use Rattle.std.specs.Prelude.{◌≡◌};
 ghost use Rattle.runs.specs.Answers.{told};
 
 // A call's answer. The number of each refusal, and its place, are in the definition `told`.
-#[derive(Drop)]
+#[derive(Clone, Copy)]
 pub enum Answer {
     Done,
     Width,
@@ -20,14 +20,14 @@ pub enum Answer {
     Unfolded(usize),
 }
 
-#[derive(Drop)]
+#[derive(Clone, Copy)]
 pub enum Found {
     At(usize),
     Nothing,
 }
 
 // An answer's number and its place.
-#[derive(Drop)]
+#[derive(Clone, Copy)]
 struct Told(usize, usize);
 
 fn told_of(answer: Answer) -> Told

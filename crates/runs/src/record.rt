@@ -6,7 +6,7 @@ use crate::answer::Answer;
 
 // Going forward, held[i] becomes folded value M+i of the next frame; going back, it is folded value i of the last frame. The total is of the
 // readings taken or given.
-#[derive(Drop)]
+#[derive(Clone, Copy)]
 pub struct Run {
     pub width: usize,
     pub count: usize,
@@ -15,7 +15,7 @@ pub struct Run {
     pub total: i64,
 }
 
-#[derive(Drop)]
+#[derive(Clone, Copy)]
 pub struct Outcome {
     pub run: Run,
     pub answer: Answer,

@@ -4,7 +4,7 @@ ghost use Rattle.integers.specs.Places.{places, at, Within};
 ghost use Rattle.slices.specs.Own.Fours.{listed, stored};
 ghost use Rattle.slices.specs.Own.Moves.{moved};
 
-#[derive(Drop)]
+#[derive(Clone, Copy)]
 pub struct Four {
     pub a: i64,
     pub b: i64,

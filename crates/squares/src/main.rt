@@ -1,4 +1,6 @@
 // Runs of frames on standard input to the page of their squares on standard output.
+#![tactic(auto)]
+
 use reel_stream::run;
 
 fn main() {

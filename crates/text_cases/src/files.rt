@@ -26,7 +26,7 @@ pub fn empty(file: i32) {
 }
 
 // The programs that are tried.
-#[derive(Drop)]
+#[derive(Clone, Copy)]
 pub enum Tried {
     Forward,
     Back,

@@ -1,4 +1,6 @@
 // The sample runs as text: each run's name, and then all that is printed for it; the same in pieces of other lengths; and a long run both ways.
+#![tactic(auto)]
+
 mod files;
 mod long;
 mod samples;

@@ -1,4 +1,6 @@
 // The text run: one line in, what is printed for it out.
+#![tactic(auto)]
+
 pub mod input;
 mod row;
 mod way;

@@ -15,7 +15,7 @@ use text_state::ending;
 
 // How many bytes the line buffer has of a line that no line feed has ended, how many bytes wait in the output buffer, and where to go on in
 // the piece.
-#[derive(Drop)]
+#[derive(Clone, Copy)]
 pub struct Progress {
     pub session: Session,
     pub had: usize,

@@ -1,14 +1,14 @@
 // A number as it is read.
 
 // What digits spell, up to a limit.
-#[derive(Drop)]
+#[derive(Clone, Copy)]
 pub enum Size {
     Of(u64),
     Bad,
 }
 
 // A field of a line.
-#[derive(Drop)]
+#[derive(Clone, Copy)]
 pub enum Field {
     Number(i64),
     Bad,

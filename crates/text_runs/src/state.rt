@@ -6,14 +6,14 @@ use runs::record::Run;
 use runs::{limits, record};
 
 // The way a run goes: readings to frames, or frames to readings.
-#[derive(Drop)]
+#[derive(Clone, Copy)]
 pub enum Way {
     Forward,
     Back,
 }
 
 // What the next line is. Behind the end line the total that it states is kept until the input has ended.
-#[derive(Drop)]
+#[derive(Clone, Copy)]
 pub enum Phase {
     First,
     Between,
@@ -21,7 +21,7 @@ pub enum Phase {
     Over,
 }
 
-#[derive(Drop)]
+#[derive(Clone, Copy)]
 pub struct State {
     pub way: Way,
     pub phase: Phase,
@@ -29,7 +29,7 @@ pub struct State {
 }
 
 // The state after a line, and the bytes to print: the first `length` of `text`.
-#[derive(Drop)]
+#[derive(Clone, Copy)]
 pub struct Printed {
     pub state: State,
     pub text: [u8; 2048],

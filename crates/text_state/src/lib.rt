@@ -1,4 +1,6 @@
 // What a text run prints, and how it ended.
+#![tactic(auto)]
+
 pub mod ending;
 pub mod lines;
 pub mod refuse;

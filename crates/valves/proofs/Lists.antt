@@ -91,6 +91,7 @@ among-either x (y ∷ xs) ys (inr m) = elim (among-either x xs ys m) [ inl h ↦
 pub on-given : (a : Asked) (ticket : Ticket) → Among ticket (ticket_on a) → a ≡ Given ticket
 unfolding ticket_on
 on-given (Given other) ticket (inl e) = ap Given (sym e)
+on-given (Given other) ticket (inr m) = absurd m
 on-given (Refused answer) ticket m = absurd m
 
 given-count : (valve : Valve) (c : Call) (ticket : Ticket) → Among ticket (ticket_given valve c) → ticket.count ≡ valve.count

@@ -5,7 +5,7 @@ ghost use Rattle.valves.specs.Answers.{told};
 use crate::record::{Ticket, Valve};
 
 // The number of each refusal, and its place, are in the definition `told`.
-#[derive(Drop)]
+#[derive(Clone, Copy)]
 pub enum Answer {
     Done,
     Width,
@@ -18,20 +18,20 @@ pub enum Answer {
 }
 
 // An ask's ticket, which a refused ask has none of.
-#[derive(Drop)]
+#[derive(Clone, Copy)]
 pub enum Asked {
     Given(Ticket),
     Refused(Answer),
 }
 
 // What a make hands back.
-#[derive(Drop)]
+#[derive(Clone, Copy)]
 pub struct Made {
     pub valve: Valve,
     pub answer: Answer,
 }
 
-#[derive(Drop)]
+#[derive(Clone, Copy)]
 struct Told(usize, usize);
 
 fn told_of(answer: Answer) -> Told

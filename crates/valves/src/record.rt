@@ -3,14 +3,14 @@ ghost use Rattle.std.specs.Prelude.{◌≡◌};
 ghost use Rattle.valves.specs.Record.{valve_of, ticket_of};
 
 // The position in steps, and the count of moves made. Any numbers can be handed in.
-#[derive(Drop)]
+#[derive(Clone, Copy)]
 pub struct Valve {
     pub position: i32,
     pub count: i32,
 }
 
 // A move in steps, and the count of the record that it was asked for.
-#[derive(Drop)]
+#[derive(Clone, Copy)]
 pub struct Ticket {
     pub steps: i32,
     pub count: i32,

@@ -1,4 +1,6 @@
 // What the steps of a width take, filled from the tables.
+#![tactic(auto)]
+
 pub mod fill;
 mod matrices;
 mod order;

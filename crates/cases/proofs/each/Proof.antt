@@ -5,10 +5,10 @@ use lib.ListN.{length}
 use Rattle.cases.proofs.each.Statement.{statement}
 use Rattle.cases.proofs.each.Tie as tie
 
-abbrev invariant-loop : tie.invariant-loop
+abbrev invariant-loop : tie.invariant-loop-at
 invariant-loop table text run₀ lines₀ cases₀ differ₀ at₀ run lines cases differ at = (differ ≤ cases) × (cases ≤ lines) × (lines ≤ at)
 
-abbrev decreases-loop : tie.decreases-loop
+abbrev decreases-loop : tie.decreases-loop-at
 decreases-loop table text run₀ lines₀ cases₀ differ₀ at₀ run lines cases differ at = length text - at
 
 pub each_spec : {M : Type 1} → statement M

@@ -8,5 +8,5 @@ use Rattle.cases.proofs.number_room.Tie as tie
 returns : tie.Need-returns
 returns c = sym (length-replicate 525000 (pos 0))
 
-pub number-room-spec : {M : Type 1} → statement M
-number-room-spec = tie.close (tie.spec returns)
+pub number_room_spec : {M : Type 1} → statement M
+number_room_spec = tie.close (tie.spec returns)

@@ -8,5 +8,5 @@ use Rattle.cases.proofs.text_room.Tie as tie
 returns : tie.Need-returns
 returns c = sym (length-replicate {A = ℕ} 131072 0)
 
-pub text-room-spec : {M : Type 1} → statement M
-text-room-spec = tie.close (tie.spec returns)
+pub text_room_spec : {M : Type 1} → statement M
+text_room_spec = tie.close (tie.spec returns)

@@ -24,45 +24,45 @@ v s = held w64 _ s.ranges.v
 p : (s : tie.Start) → Held w64 (of_z w64 s.args.p) s.args.p
 p s = held w64 _ s.ranges.p
 
-divisor : (c : tie.Else1) → pos 0 <ℤ c.before.args.p
-divisor c = le_left (h_le (p c.before) zero c.if1.false)
+divisor : (c : tie.Else-p-le0) → pos 0 <ℤ c.args.p
+divisor c = le_left (h_le (p c.before) zero c.if-p-le0.false)
 
 -- v is below zero
-module _ (c : tie.Then2) where
+module _ (c : tie.Then-v-lt0) where
   abbrev s : tie.Start
   s = c.before.before
 
   below : lt_z s.args.v (pos 0) ≡ true
-  below = h-lt (v s) zero c.if2.true
+  below = h-lt (v s) zero c.if-v-lt0.true
 
   turned : Held w64 (of_z w64 (negsuc 0 -ℤ to_z w64 (of_z w64 s.args.v))) (negsuc 0 -ℤ s.args.v)
-  turned = h-sub last (v s) (turned-fits w64 s.args.v s.fits.v below)
+  turned = h-sub last (v s) (turned-fits w64 s.args.v s.ranges.v below)
 
   quotient : Held w64 (of_z w64 (quot_z (to_z w64 (of_z w64 (negsuc 0 -ℤ to_z w64 (of_z w64 s.args.v)))) (to_z w64 (of_z w64 s.args.p)))) (quot_z (negsuc 0 -ℤ s.args.v) s.args.p)
   quotient = h-quot turned (p s) (quot_fits w64 _ _ turned.fits (divisor c.before))
 
-returns : tie.Need-returns
-returns c = floor-none c.before.args.v c.before.args.p (le-taken (h_le (p c.before) zero c.if1.true))
+returns : tie.Need-returns-then-p-le0
+returns c = floor-none c.args.v c.args.p (le-taken (h_le (p c.before) zero c.if-p-le0.true))
 
-sub-result : tie.Need-overflow-sub-result
-sub-result c = asks-sub last (v (s c)) (turned c).ranges
+sub-result : tie.Need-overflow_sub-result
+sub-result c = asks-sub last (v (s c)) (turned c).fits
 
-div-result : tie.Need-nonzero-div-result
-div-result c = (bits_pos w64 _ (divisor c.before), asks-quot (turned c) (p (s c)) (quotient c).ranges)
+div-result : tie.Need-nonzero_div-result
+div-result c = (bits_pos w64 _ (divisor c.before), asks-quot (turned c) (p (s c)) (quotient c).fits)
 
-sub-result-2 : tie.Need-overflow-sub-result-2
+sub-result-2 : tie.Need-overflow_sub-result-then-v-lt0
 sub-result-2 c = asks-sub last (quotient c) (below-fits w64 _ _ (s c).ranges.v (divisor c.before) (below c))
 
-returns-2 : tie.Need-returns-2
+returns-2 : tie.Need-returns-then-v-lt0
 returns-2 c = (h-sub last (quotient c) (below-fits w64 _ _ (s c).ranges.v (divisor c.before) (below c))).is ∙ floor-below _ _ (divisor c.before) (below c)
 
-div-result-2 : tie.Need-nonzero-div-result-2
+div-result-2 : tie.Need-nonzero_div-result-2
 div-result-2 c = let s = c.before.before in (bits_pos w64 _ (divisor c.before), asks-quot (v s) (p s) (quot_fits w64 _ _ s.ranges.v (divisor c.before)))
 
-returns-3 : tie.Need-returns-3
+returns-3 : tie.Need-returns
 returns-3 c =
     let s = c.before.before in
-    (h-quot (v s) (p s) (quot_fits w64 _ _ s.ranges.v (divisor c.before))).is ∙ floor-above _ _ (divisor c.before) (h-lt (v s) zero c.if2.false)
+    (h-quot (v s) (p s) (quot_fits w64 _ _ s.ranges.v (divisor c.before))).is ∙ floor-above _ _ (divisor c.before) (h-lt (v s) zero c.if-v-lt0.false)
 
-pub floor-div-spec : {M : Type 1} → statement M
-floor-div-spec = tie.close (tie.spec returns sub-result div-result sub-result-2 returns-2 div-result-2 returns-3)
+pub floor_div_spec : {M : Type 1} → statement M
+floor_div_spec = tie.close (tie.spec returns sub-result div-result sub-result-2 returns-2 div-result-2 returns-3)

@@ -20,28 +20,28 @@ module _ (s : tie.Start) where
   value = held w64 _ s.ranges.v
 
   half : Held w64 ((1 * 2 ^ (s.args.k - 1)) % 2 ^ 64) (pos (2 ^ (s.args.k - 1)))
-  half = held-power (s.args.k - 1) (omega (arith, s.pre))
+  half = held-power (s.args.k - 1) (omega (arith, s.requires))
 
   -- v within 2^62 and half a unit within 2^61
   fits : SFits w64 (s.args.v +ℤ pos (2 ^ (s.args.k - 1)))
   fits =
-      let l : 2 ^ (s.args.k - 1) ≤ 2 ^ 61 = pow_mono {i = s.args.k - 1} {j = 61} (omega (arith, s.pre)) in
-      small w64 _ (omega (arith, nat_abs-+ℤ s.args.v (pos (2 ^ (s.args.k - 1))), s.pre.2))
+      let l : 2 ^ (s.args.k - 1) ≤ 2 ^ 61 = pow_mono {i = s.args.k - 1} {j = 61} (omega (arith, s.requires)) in
+      small w64 _ (omega (arith, nat_abs-+ℤ s.args.v (pos (2 ^ (s.args.k - 1))), s.requires.2))
 
-add-floor-div : tie.Need-overflow-add-floor-div
+add-floor-div : tie.Need-overflow_add-v
 add-floor-div c = asks-add (value c) (half c) (fits c)
 
 returns : tie.Need-returns
 unfolding above
 returns c =
     let s = c.before in
-    (held-ok w64 _ c.floor-div.type-inv).is
-    ∙ c.floor-div.ensures
+    (held-ok w64 _ c.floor_div.type_inv).is
+    ∙ c.floor_div.ensures
     ∙ ap₂ (λ v p. floor_div v (above p)) (h-add (value s) (half s) (fits s)).is (held-power s.args.k (omega (arith, s.requires))).is
     ∙ round_is s.args.k s.args.v (omega (arith, s.requires))
 
-pub rounded-spec : {M : Type 1} → statement M
-rounded-spec =
+pub rounded_spec : {M : Type 1} → statement M
+rounded_spec =
     tie.close
     (tie.spec
     (λ c. search rules)

@@ -28,51 +28,51 @@ module _ (s : tie.Start) where
   next = asked_way s.args.undo N given out
 
 -- questions 1 and 6 are passed
-module _ (e : tie.Else1) where
-  abbrev asked : tie.After-in-parts
+module _ (e : tie.Else-number-ne0) where
+  abbrev asked : tie.After-in_parts-asked
   asked = e.before.before
 
   abbrev from : tie.Start
   from = asked.before
 
-  none : (told asked.in_parts.result).0 ≡ 0
-  none = sym e.before.number.ensures ∙ e.if1.left
+  none : (told asked.in_parts-asked.result).0 ≡ 0
+  none = sym e.number.ensures ∙ e.if-number-ne0.false
 
   has_width : half_width (N from) ≡ 0 → ⊥
-  has_width = parts-width (N from) (length (given from)) 1 1 _ asked.in_parts.ensures none
+  has_width = parts-width (N from) (length (given from)) 1 1 _ asked.in_parts-asked.ensures none
 
   wide : 0 < half_width (N from)
   wide = omega (arith, has_width)
 
   given-long : length (given from) ≡ N from
-  given-long = one-given (N from) (length (given from)) _ asked.in_parts.ensures none
+  given-long = one-given (N from) (length (given from)) _ asked.in_parts-asked.ensures none
 
-returns : tie.Need-returns
+returns : tie.Need-returns-then-number-ne0
 returns c =
-    let n = c.before in
-    let a = n.before in
-    let s = a.before in
-    shape-refused (N s) (given s) (out s) _ a.in_parts.ensures (λ z. c.if1.true (n.number.ensures ∙ z)) (next s) ∙ way-shaped (N s) (given s) (out s) s.args.undo
+    let n = c in
+    let a = n in
+    let s = a.before.before.before in
+    shape-refused (N s) (given s) (out s) _ a.in_parts-asked.ensures (λ z. c.if-number-ne0.true (n.number.ensures ∙ z)) (next s) ∙ way-shaped (N s) (given s) (out s) s.args.undo
 
-returns-2 : tie.Need-returns-2
+returns-2 : tie.Need-returns-then-out-width
 returns-2 c =
     let e = c.before in
     let s = from e in
-    output-refused (N s) (given s) (out s) (next s) (has_width e) (given-long e) c.if2.true ∙ way-shaped (N s) (given s) (out s) s.args.undo
+    output-refused (N s) (given s) (out s) (next s) (has_width e) (given-long e) c.if-out-width.true ∙ way-shaped (N s) (given s) (out s) s.args.undo
 
-in-room-requires : tie.Need-in-room-requires
-in-room-requires c κs = let seventh = c.before in let e = seventh.before in (wide e, (given-long e, seventh.if2.false))
+in-room-requires : tie.Need-in_room-requires
+in-room-requires c κs = let seventh = c in let e = seventh.before.before in (wide e, (given-long e, seventh.if-out-width.false))
 
-returns-3 : tie.Need-returns-3
+returns-3 : tie.Need-returns
 returns-3 c =
-    let did = c.before in
-    let seventh = did.before.before in
-    let e = seventh.before in
+    let did = c in
+    let seventh = did in
+    let e = seventh.before.before.before.before in
     let s = from e in
-    did.in-room.ensures ∙ shape-passed (N s) (given s) (out s) (next s) (has_width e) (given-long e) seventh.if2.false ∙ way-shaped (N s) (given s) (out s) s.args.undo
+    did.in_room.ensures ∙ shape-passed (N s) (given s) (out s) (next s) (has_width e) (given-long e) seventh.if-out-width.false ∙ way-shaped (N s) (given s) (out s) s.args.undo
 
-pub alone-spec : {M : Type 1} → statement M
-alone-spec =
+pub alone_spec : {M : Type 1} → statement M
+alone_spec =
     tie.close
     (tie.spec
     (λ c κs. tt)
@@ -80,5 +80,5 @@ alone-spec =
     returns
     returns-2
     in-room-requires
-    (λ c. c.out.given)
+    (λ c. c.out-1.given)
     returns-3)

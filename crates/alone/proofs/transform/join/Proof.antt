@@ -18,7 +18,7 @@ module _ (s : tie.Start) where
   out = s.args.out.now
 
   half_le : half ≤ length out
-  half_le = omega (arith, s.pre)
+  half_le = omega (arith, s.requires)
 
 -- top is in front
 module _ (k : tie.After-copy) where
@@ -26,7 +26,7 @@ module _ (k : tie.After-copy) where
   from = k.before.before
 
   abbrev front_of : List ℤ
-  front_of = k.copy.last.1.0
+  front_of = k.copy.new.out
 
   abbrev behind : List ℤ
   behind = drop (half from) (out from)
@@ -35,12 +35,12 @@ module _ (k : tie.After-copy) where
   front-is = ap length k.copy.ensures
 
   behind-long : length behind ≡ length from.args.bottom.now
-  behind-long = omega (arith, length-drop (half from) (out from), from.pre)
+  behind-long = omega (arith, length-drop (half from) (out from), from.requires)
 
-sub-copy : tie.Need-overflow-sub-copy
+sub-copy : tie.Need-slice_bounds-copy-count
 sub-copy c = let k = c.before in front-le _ (front_of k) (behind k) (front-is k)
 
-part-copy-start : tie.Need-slice-bounds-copy-start
+part-copy-start : tie.Need-slice_bounds-copy-start
 part-copy-start c = let k = c.before in front-le _ (front_of k) (behind k) (front-is k)
 
 copy-requires-2 : tie.Need-copy-requires-2
@@ -49,10 +49,10 @@ copy-requires-2 c κs = let k = c.before.before in sym (behind-long k) ∙ sym (
 returns : tie.Need-returns
 returns c =
     let k = c.before.before.before.before in
-    rest_put (half (from k)) (front_of k) (behind k) (front-is k) _ ∙ ap₂ ◌++◌ k.copy.ensures c.before.copy2.ensures
+    rest_put (half (from k)) (front_of k) (behind k) (front-is k) _ ∙ ap₂ ◌++◌ k.copy.ensures c.copy-2.ensures
 
-pub join-spec : {M : Type 1} → statement M
-join-spec =
+pub join_spec : {M : Type 1} → statement M
+join_spec =
     tie.close
     (tie.spec
     (λ c. half_le c)

@@ -27,57 +27,57 @@ module _ (s : tie.Start) where
   values = s.args.folded.now
 
   room : WideRoom N s.args.top.now s.args.bottom.now s.args.y.now s.args.z.now
-  room = s.pre.1.1.0
+  room = s.requires.1.1.0
 
   long : length values ≡ N
-  long = s.pre.1.1.1
+  long = s.requires.1.1.1
 
 -- what question 10 finds
-module _ (f : tie.After-seldom-beyond) where
+module _ (f : tie.After-seldom_beyond-value) where
   abbrev from : tie.Start
   from = f.before.before
 
-  seen : first_beyond (pos folded_limit) (values from) 0 ≡ f.seldom-beyond.result
-  seen = sym f.seldom-beyond.ensures
+  seen : first_beyond (pos folded_limit) (values from) 0 ≡ f.seldom_beyond-value.result
+  seen = sym f.seldom_beyond-value.ensures
 
-none : (c : tie.After-enum-told) → first_beyond (pos folded_limit) (values (from c.before.before.before)) 0 ≡ Nothing
-none c = seen c.before.before.before ∙ c.enum_told.given.1
+none : (c : tie.In_default) → first_beyond (pos folded_limit) (values (from c.before.before)) 0 ≡ Nothing
+none c = seen c.before.before ∙ c.in_default.is
 
-seldom-beyond-requires : tie.Need-seldom-beyond-requires
+seldom-beyond-requires : tie.Need-seldom_beyond-value-requires
 seldom-beyond-requires c κs =
     let s = c.before in
     ((omega (arith, long s, width-le (N s) s.requires.0), ap (λ n. n % 4) (long s) ∙ width-in-fours (N s) s.requires.0, long s ∙ part-long _ _ (room s).y-wide), record { le = tt })
 
-returns : tie.Need-returns
-returns c = let f = c.before.before.before.before in let s = from f in stages-refused (N s) (values s) _ _ (seen f ∙ c.before.value.given.1)
+returns : tie.Need-returns-in-At
+returns c = let f = c.before.before in let s = from f in stages-refused (N s) (values s) _ _ (seen f ∙ c.in-At.is)
 
 stages-requires : tie.Need-stages-requires
 stages-requires c κs =
     let n = c.before.before.before.before in
-    let s = from n.before.before.before in
-    (s.pre.0, (s.pre.1.0, (same-room (room s) n.before.before.y.given.1, (long s, none_within folded_limit _ (none n)))))
+    let s = from n.before.before in
+    (s.requires.0, (s.requires.1.0, (same-room (room s) n.y-1.given.1, (long s, none_within folded_limit _ (none n)))))
 
-returns-2 : tie.Need-returns-2
+returns-2 : tie.Need-returns
 returns-2 c =
-    let k = c.before.before.before.before in
-    let n = k.before.before.before.before.before in
-    let s = from n.before.before.before in
+    let k = c in
+    let n = k.before.before.before.before.before.before.before.before.before in
+    let s = from n.before.before in
     ap (λ (l : List ℤ). (told Done, l)) k.stages.ensures ∙ stages-done (N s) (values s) _ (none n)
 
-pub staged-spec : {M : Type 1} → statement M
-staged-spec =
+pub staged_spec : {M : Type 1} → statement M
+staged_spec =
     tie.close
     (tie.spec
     (λ c. (room c).y-wide)
     (λ c. part-long _ _ (room c.before).y-wide)
     seldom-beyond-requires
     (λ c. search rules)
-    (λ c. c.before.before.before.y.given.1)
+    (λ c. c.y-1.given.1)
     returns
     (λ c. search rules)
     stages-requires
-    (λ c. c.before.before.before.top.given)
-    (λ c. c.before.before.bottom.given)
-    (λ c. let k = c.before.before.before.before in let n = k.before.before.before.before.before in c.before.y2.given ∙ n.before.before.y.given.1)
-    (λ c. c.z.given)
+    (λ c. c.top-1.given)
+    (λ c. c.bottom-1.given)
+    (λ c. let k = c in let n = k in c.y-2-1.given ∙ n.y-1.given.1)
+    (λ c. c.z-1.given)
     returns-2)

@@ -30,31 +30,31 @@ module _ (s : tie.Start) where
   work = s.args.given.now
 
   room : WideRoom N s.args.top.now s.args.bottom.now s.args.y.now s.args.z.now
-  room = s.pre.1.1.0
+  room = s.requires.1.1.0
 
   long : length work ≡ N
-  long = s.pre.1.1.1.0
+  long = s.requires.1.1.1.0
 
   inside : Within folded_limit work
-  inside = s.pre.1.1.1.1
+  inside = s.requires.1.1.1.1
 
   two-halves : M + M ≡ N
-  two-halves = width-half N s.pre.0
+  two-halves = width-half N s.requires.0
 
-top1 : (c : tie.After-every-second) → c.every-second.new.1.1.0 ≡ top_of (N c.before.before) (work c.before.before)
+top1 : (c : tie.After-every_second) → c.every_second.new.out ≡ top_of (N c.before.before) (work c.before.before)
 top1 c =
     let s = c.before.before in
-    c.every-second.ensures ∙ ap (λ n. places n (λ i. at (work s) (2 * i + 0))) (room s).halves.top-long ∙ read-evens (N s) (work s)
+    c.every_second.ensures ∙ ap (λ n. places n (λ i. at (work s) (2 * i + 0))) (room s).halves.top-long ∙ read-evens (N s) (work s)
 
-bottom1 : (c : tie.After-every-second2) → let earlier = c.before.before.before.before.before in c.every-second2.new.1.1.0 ≡ bottom_of (N earlier) (work earlier)
+bottom1 : (c : tie.After-every_second-2) → let earlier = c.before.before.before.before.before in c.every_second-2.new.out ≡ bottom_of (N earlier) (work earlier)
 bottom1 c =
     let s = c.before.before.before.before.before in
-    c.every-second2.ensures ∙ ap (λ n. places n (λ i. at (work s) (2 * i + 1))) (room s).halves.bottom-long ∙ read-odds (N s) (work s)
+    c.every_second-2.ensures ∙ ap (λ n. places n (λ i. at (work s) (2 * i + 1))) (room s).halves.bottom-long ∙ read-odds (N s) (work s)
 
-every-second-requires : tie.Need-every-second-requires
+every-second-requires : tie.Need-every_second-requires
 every-second-requires c κs = let s = c.before in (omega arith, omega (arith, two-halves s, long s, (room s).halves.top-long))
 
-every-second-requires-2 : tie.Need-every-second-requires-2
+every-second-requires-2 : tie.Need-every_second-requires-2
 every-second-requires-2 c κs = let s = c.before.before.before.before in (omega arith, omega (arith, two-halves s, long s, (room s).halves.bottom-long))
 
 forward-requires : tie.Need-forward-requires
@@ -77,61 +77,61 @@ forward-requires c κs =
 
 -- the halves of the frame
 module _ (g : tie.After-forward) where
-  abbrev second : tie.After-every-second2
+  abbrev second : tie.After-every_second-2
   second = g.before.before.before.before.before.before
 
-  abbrev first : tie.After-every-second
+  abbrev first : tie.After-every_second
   first = second.before.before.before
 
   abbrev from : tie.Start
   from = first.before.before
 
-  top-is : g.forward.last.1.1.0 ≡ top4 (N from) (top_of (N from) (work from)) (bottom_of (N from) (work from))
+  top-is : g.forward.new.top ≡ top4 (N from) (top_of (N from) (work from)) (bottom_of (N from) (work from))
   top-is = g.forward.ensures.0 ∙ ap₂ (top4 (N from)) (top1 first) (bottom1 second)
 
-  bottom-is : g.forward.last.1.1.1.0 ≡ bottom5 (N from) (top_of (N from) (work from)) (bottom_of (N from) (work from))
+  bottom-is : g.forward.new.bottom ≡ bottom5 (N from) (top_of (N from) (work from)) (bottom_of (N from) (work from))
   bottom-is = g.forward.ensures.1 ∙ ap₂ (bottom5 (N from)) (top1 first) (bottom1 second)
 
 -- and where they are put
-module _ (c : tie.After-z) where
+module _ (c : tie.After-z-1) where
   abbrev made : tie.After-forward
   made = c.before.before.before.before
 
   abbrev products : List ℤ
-  products = made.forward.last.1.1.1.1.0
+  products = made.forward.new.y
 
   y-wide : N (from made) ≤ length products
-  y-wide = omega (arith, (room (from made)).y-wide, c.before.y.given)
+  y-wide = omega (arith, (room (from made)).y-wide, c.y-1.given)
 
 join-requires : tie.Need-join-requires
 join-requires c κs =
-    let z = c.before.before.before in
+    let z = c.before in
     let g = made z in
     let s = from g in
     sym (part-long _ (products z) (y-wide z)) ∙ omega (arith, two-halves s, ap length (top-is g) ∙ long4 (N s) _ _, ap length (bottom-is g) ∙ long5 (N s) _ _)
 
-abbrev lent : tie.After-y2 → tie.After-z
-lent c = let joining = c.before.before in joining.before.before.before
+abbrev lent : tie.After-y-2-1 → tie.After-z-1
+lent c = let joining = c in joining.before.before.before
 
 returns : tie.Need-returns
 returns c =
     let g = made (lent c) in
     let s = from g in
-    let joined = c.before.join.ensures ∙ ap₂ ◌++◌ (top-is g) (bottom-is g) ∙ stages-halves (N s) (work s) in
+    let joined = c.join.ensures ∙ ap₂ ◌++◌ (top-is g) (bottom-is g) ∙ stages-halves (N s) (work s) in
     front (N s) _ _ (ap length joined ∙ length-stages (N s) (work s) ∙ two-halves s) ∙ joined
 
-pub stages-spec : {M : Type 1} → statement M
-stages-spec =
+pub stages_spec : {M : Type 1} → statement M
+stages_spec =
     tie.close
     (tie.spec
     every-second-requires
     every-second-requires-2
     forward-requires
-    (λ c. y-wide c.before.before)
-    (λ c. let z = c.before.before.before in part-long _ (products z) (y-wide z))
+    (λ c. y-wide c)
+    (λ c. let z = c.before in part-long _ (products z) (y-wide z))
     join-requires
-    (λ c. let z = lent c in let at_top = (second (made z)).before.before in z.before.before.before.top2.given ∙ at_top.top.given)
-    (λ c. let z = lent c in let at-bottom = (made z).before.before.before.before.before in z.before.before.bottom2.given ∙ at-bottom.bottom.given)
-    (λ c. c.y2.given.1 ∙ (lent c).before.y.given)
-    (λ c. (lent c).z.given)
+    (λ c. let z = lent c in let at_top = (second (made z)) in z.top-2-1.given ∙ at_top.top-1.given)
+    (λ c. let z = lent c in let at-bottom = (made z) in z.bottom-2-1.given ∙ at-bottom.bottom-1.given)
+    (λ c. c.y-2-1.given.1 ∙ (lent c).y-1.given)
+    (λ c. (lent c).z-1.given)
     returns)

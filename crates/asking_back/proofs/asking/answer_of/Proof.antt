@@ -24,7 +24,7 @@ use Rattle.asking_back.proofs.asking.answer_of.Tie as tie
 abbrev outs : ℕ → List ℤ → List ℤ
 outs width frames = zeros width ++ zeros (length frames - width)
 
-abbrev invariant-loop : tie.invariant-loop
+abbrev invariant-loop : tie.invariant-loop-left
 invariant-loop width t frames held₀ block₀ top₀ bottom₀ y₀ z₀ at₀ count₀ left₀ held block top bottom y z at count left =
     (at + left * width ≡ length frames)
     × (count + left ≡ length frames / width)
@@ -32,7 +32,7 @@ invariant-loop width t frames held₀ block₀ top₀ bottom₀ y₀ z₀ at₀ 
     × (length block ≡ length block₀)
     × SameRoom top₀ bottom₀ y₀ z₀ top bottom y z
 
-abbrev decreases-loop : tie.decreases-loop
+abbrev decreases-loop : tie.decreases-loop-left
 decreases-loop width t frames held₀ block₀ top₀ bottom₀ y₀ z₀ at₀ count₀ left₀ held block top bottom y z at count left =
     left
 
@@ -47,76 +47,76 @@ module _ (s : tie.Start invariant-loop decreases-loop) where
   whole = first_answer N frames (zeros (length frames - N))
 
   outs-long : length (outs N frames) ≡ length frames
-  outs-long = omega (arith, length-append (zeros N) (zeros (length frames - N)), length-replicate N (pos 0), length-replicate (length frames - N) (pos 0), one-frame N frames s.pre.1.1.0)
+  outs-long = omega (arith, length-append (zeros N) (zeros (length frames - N)), length-replicate N (pos 0), length-replicate (length frames - N) (pos 0), one-frame N frames s.requires.1.1.0)
 
   few : length frames ≤ frame_limit * 128
-  few = few-numbers N frames s.pre.1.1.0
+  few = few-numbers N frames s.requires.1.1.0
 
-module _ (k : tie.At-loop invariant-loop decreases-loop) where
+module _ (k : tie.At-loop-left invariant-loop decreases-loop) where
   abbrev from : tie.Start invariant-loop decreases-loop
   from = k.before
 
   abbrev place : ℕ
-  place = k.loop.at
+  place = k.loop-left.at
 
   abbrev low : List ℤ
-  low = k.loop.held
+  low = k.loop-left.held
 
   abbrev run : Run
-  run = opened (N from) k.loop.count k.loop.inv.2.total low
+  run = opened (N from) k.loop-left.count k.loop-left.invariant.2.total low
 
   abbrev others : List ℤ
   others = outs (N from) (frames from)
 
 -- a frame is left
-module _ (i : tie.In-loop invariant-loop decreases-loop) where
-  abbrev at : tie.At-loop invariant-loop decreases-loop
+module _ (i : tie.In-loop-left invariant-loop decreases-loop) where
+  abbrev at : tie.At-loop-left invariant-loop decreases-loop
   at = i.before
 
   inner : place at + N (from at) ≤ length (frames (from at))
-  inner = block_in (place at) at.loop.left (N (from at)) _ at.loop.inv.0 i.loop-test.taken
+  inner = block_in (place at) at.loop-left.left (N (from at)) _ at.loop-left.invariant.0 i.loop-left-test.true
 
-  counted : at.loop.count < frame_limit
-  counted = omega (arith, at.loop.inv.1, i.loop-test.taken, (from at).pre.1.1.0.few)
+  counted : at.loop-left.count < frame_limit
+  counted = omega (arith, at.loop-left.invariant.1, i.loop-left-test.true, (from at).requires.1.1.0.few)
 
 -- the frame step on the part lent
-module _ (a : tie.After-z invariant-loop decreases-loop) where
-  abbrev step : tie.After-undo invariant-loop decreases-loop
+module _ (a : tie.After-z-1 invariant-loop decreases-loop) where
+  abbrev step : tie.After-undo-answer invariant-loop decreases-loop
   step = a.before.before.before.before.before.before
 
-  abbrev inside : tie.In-loop invariant-loop decreases-loop
+  abbrev inside : tie.In-loop-left invariant-loop decreases-loop
   inside = step.before.before.before.before.before.before.before.before
 
-  abbrev here : tie.At-loop invariant-loop decreases-loop
+  abbrev here : tie.At-loop-left invariant-loop decreases-loop
   here = inside.before
 
   abbrev kept : List ℤ
-  kept = step.undo.last.1.1.1.1.0
+  kept = step.undo-answer.new.held
 
   kept-long : length kept ≡ half_width (N (from here))
-  kept-long = let at_held = a.before.before.before.before.before in at_held.held.given ∙ here.loop.inv.2.reached.long
+  kept-long = let at_held = a in at_held.held-1.given ∙ here.loop-left.invariant.2.reached.long
 
   -- what it tells of the whole run
-  known : FrameAnswer (whole (from here)) (N (from here)) (place here) here.loop.count here.loop.left (frames (from here)) (others here) kept step.undo.result
+  known : FrameAnswer (whole (from here)) (N (from here)) (place here) here.loop-left.count here.loop-left.left (frames (from here)) (others here) kept step.undo-answer.result
   known =
-      next-answer here.loop.inv.2 kept here.loop.block _ step.undo.result inside.loop-test.taken (counted inside) (inner inside) (omega (arith, outs-long (from here), inner inside)) kept-long
-      (step.undo.ensures here.loop.inv.2.total ∙ ap (λ (f : List ℤ). undone_in (run here) f here.loop.block) (part-is (place here) (N (from here)) (frames (from here))))
+      next-answer here.loop-left.invariant.2 kept here.loop-left.block _ step.undo-answer.result inside.loop-left-test.true (counted inside) (inner inside) (omega (arith, outs-long (from here), inner inside)) kept-long
+      (step.undo-answer.ensures here.loop-left.invariant.2.total ∙ ap (λ (f : List ℤ). undone_in (run here) f here.loop-left.block) (part-is (place here) (N (from here)) (frames (from here))))
 
-  abbrev at_block : tie.After-block invariant-loop decreases-loop
+  abbrev at_block : tie.After-block-1 invariant-loop decreases-loop
   at_block = a.before.before.before.before
 
 -- no frame is left
-module _ (e : tie.After-loop invariant-loop decreases-loop) where
-  abbrev over : tie.At-loop invariant-loop decreases-loop
+module _ (e : tie.After-loop-left invariant-loop decreases-loop) where
+  abbrev over : tie.At-loop-left invariant-loop decreases-loop
   over = e.before
 
-  none : over.loop.left ≡ 0
-  none = omega (arith, e.loop-test.left)
+  none : over.loop-left.left ≡ 0
+  none = omega (arith, e.loop-left-test.false)
 
 held-long : (s : tie.Start invariant-loop decreases-loop) → length s.args.held.now ≡ half_width (N s)
 held-long s = ap length s.requires.1.0 ∙ length-replicate (half_width (N s)) (pos 0)
 
-loop-holds : tie.Need-loop-init invariant-loop decreases-loop
+loop-holds : tie.Need-loop-left-init invariant-loop decreases-loop
 unfolding first_answer
 loop-holds c = (
   omega (arith, c.requires.1.1.0.whole),
@@ -132,54 +132,54 @@ loop-holds c = (
   record { top-same = refl; bottom-same = refl; y-same = refl; z-same = refl },
 )
 
-undo-requires : tie.Need-undo-requires invariant-loop decreases-loop
+undo-requires : tie.Need-undo-answer-requires invariant-loop decreases-loop
 undo-requires c κs =
     let i = c.before.before.before.before.before.before.before in
     let k = at i in
     let s = from k in
     let frame-long = ap length (part-is (place k) (N s) (frames s)) ∙ block-long (place k) (N s) (frames s) (inner i) in
-    let room = still-room k.loop.inv.4 (N s) s.pre.1.1.1.1 in
-    (s.pre.1.1.0.wide, (s.pre.0, ((frame-long, k.loop.inv.2.reached.long, k.loop.inv.3 ∙ s.pre.1.1.1.0), (room, low-within k.loop.inv.2.reached))))
+    let room = still-room k.loop-left.invariant.4 (N s) s.requires.1.1.1.1 in
+    (s.requires.1.1.0.wide, (s.requires.0, ((frame-long, k.loop-left.invariant.2.reached.long, k.loop-left.invariant.3 ∙ s.requires.1.1.1.0), (room, low-within k.loop-left.invariant.2.reached))))
 
 placed-requires : tie.Need-placed-requires invariant-loop decreases-loop
 placed-requires c κs =
     let a = c.before.before in
     (omega (arith, inner (inside a), few (from (here a))), (known a).small)
 
-returns : tie.Need-returns invariant-loop decreases-loop
+returns : tie.Need-returns-then-number-ne0 invariant-loop decreases-loop
 returns c =
-    let n = c.before.before in
-    let a = n.before in
-    c.placed.ensures ∙ (known a).refused (λ e. c.before.if1.true (n.number.ensures ∙ e))
+    let n = c in
+    let a = n.before.before.before in
+    c.placed.ensures ∙ (known a).refused (λ e. c.if-number-ne0.true (n.number.ensures ∙ e))
 
-loop-again : tie.Need-loop-preserved invariant-loop decreases-loop
+loop-again : tie.Need-loop-left-preserved invariant-loop decreases-loop
 loop-again c =
-    let n = c.before in
-    let a = n.before in
+    let n = c in
+    let a = n.before.before in
     let i = inside a in
     let k = here a in
     let s = from k in (
-      block-next (place k) k.loop.left (N s) _ k.loop.inv.0 i.loop-test.taken,
-      omega (arith, k.loop.inv.1, i.loop-test.taken),
-      (known a).passed (sym n.number.ensures ∙ c.if1.false),
-      (at_block a).block.given ∙ k.loop.inv.3,
+      block-next (place k) k.loop-left.left (N s) _ k.loop-left.invariant.0 i.loop-left-test.true,
+      omega (arith, k.loop-left.invariant.1, i.loop-left-test.true),
+      (known a).passed (sym n.number.ensures ∙ c.if-number-ne0.false),
+      (at_block a).block-1.given ∙ k.loop-left.invariant.3,
       record {
-        top-same = a.before.before.before.top.given ∙ k.loop.inv.4.top-same;
-        bottom-same = a.before.before.bottom.given ∙ k.loop.inv.4.bottom-same;
-        y-same = a.before.y.given ∙ k.loop.inv.4.y-same;
-        z-same = a.z.given ∙ k.loop.inv.4.z-same;
+        top-same = a.top-1.given ∙ k.loop-left.invariant.4.top-same;
+        bottom-same = a.bottom-1.given ∙ k.loop-left.invariant.4.bottom-same;
+        y-same = a.y-1.given ∙ k.loop-left.invariant.4.y-same;
+        z-same = a.z-1.given ∙ k.loop-left.invariant.4.z-same;
       },
     )
 
-returns-2 : tie.Need-returns-2 invariant-loop decreases-loop
+returns-2 : tie.Need-returns invariant-loop decreases-loop
 returns-2 c =
-    let e = c.before.before in
+    let e = c.before in
     let k = over e in
     let s = from k in
-    c.finish-answer.ensures ∙ end-answer k.loop.inv.2 (λ z. omega (arith, z, k.loop.inv.1, none e, s.pre.1.1.0.some)) (none e)
+    c.finish_answer.ensures ∙ end-answer k.loop-left.invariant.2 (λ z. omega (arith, z, k.loop-left.invariant.1, none e, s.requires.1.1.0.some)) (none e)
 
-pub answer-of-spec : {M : Type 1} → statement M
-answer-of-spec =
+pub answer_of_spec : {M : Type 1} → statement M
+answer_of_spec =
     tie.close
     (tie.spec
     invariant-loop
@@ -195,22 +195,22 @@ answer-of-spec =
     (λ c κs. tt)
     placed-requires
     (λ c. let a = c.before.before.before in kept-long a ∙ sym (held-long (from (here a))))
-    (λ c. let a = c.before.before.before in (at_block a).block.given ∙ (here a).loop.invariant.3)
-    (λ c. let a = c.before.before.before in a.before.before.before.top.given ∙ (here a).loop.invariant.4.top-same)
-    (λ c. let a = c.before.before.before in a.before.before.bottom.given ∙ (here a).loop.invariant.4.bottom-same)
-    (λ c. let a = c.before.before.before in a.before.y.given ∙ (here a).loop.invariant.4.y-same)
-    (λ c. let a = c.before.before.before in a.z.given ∙ (here a).loop.invariant.4.z-same)
+    (λ c. let a = c.before.before.before in (at_block a).block-1.given ∙ (here a).loop-left.invariant.3)
+    (λ c. let a = c.before.before.before in a.top-1.given ∙ (here a).loop-left.invariant.4.top-same)
+    (λ c. let a = c.before.before.before in a.bottom-1.given ∙ (here a).loop-left.invariant.4.bottom-same)
+    (λ c. let a = c.before.before.before in a.y-1.given ∙ (here a).loop-left.invariant.4.y-same)
+    (λ c. let a = c.before.before.before in a.z-1.given ∙ (here a).loop-left.invariant.4.z-same)
     returns
     (λ c. record { fits = omega (arith, counted (inside c.before.before)) })
     (λ c. omega arith)
     (λ c. omega arith)
     loop-again
-    (λ c. let k = over c in omega (arith, no_block (place k) k.loop.left (N (from k)) _ k.loop.inv.0 (none c), one-frame (N (from k)) (frames (from k)) (from k).pre.1.1.0))
-    (λ c κs. let k = over c.before in (omega (arith, k.loop.inv.0, few (from k)), omega (arith, k.loop.inv.2.reached.long, half-width-le (N (from k)))))
-    (λ c. let k = c.before.before.before in k.loop.invariant.2.reached.long ∙ sym (held-long (from k)))
-    (λ c. c.before.before.before.loop.invariant.3)
-    (λ c. c.before.before.before.loop.invariant.4.top-same)
-    (λ c. c.before.before.before.loop.invariant.4.bottom-same)
-    (λ c. c.before.before.before.loop.invariant.4.y-same)
-    (λ c. c.before.before.before.loop.invariant.4.z-same)
+    (λ c. let k = over c in omega (arith, no_block (place k) k.loop-left.left (N (from k)) _ k.loop-left.invariant.0 (none c), one-frame (N (from k)) (frames (from k)) (from k).requires.1.1.0))
+    (λ c κs. let k = over c in (omega (arith, k.loop-left.invariant.0, few (from k)), omega (arith, k.loop-left.invariant.2.reached.long, half-width-le (N (from k)))))
+    (λ c. let k = c.before.before in k.loop-left.invariant.2.reached.long ∙ sym (held-long (from k)))
+    (λ c. c.loop-left.invariant.3)
+    (λ c. c.loop-left.invariant.4.top-same)
+    (λ c. c.loop-left.invariant.4.bottom-same)
+    (λ c. c.loop-left.invariant.4.y-same)
+    (λ c. c.loop-left.invariant.4.z-same)
     returns-2)

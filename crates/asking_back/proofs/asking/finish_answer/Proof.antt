@@ -9,22 +9,22 @@ use Rattle.asking_back.specs.Own.Ready.{told_held}
 use Rattle.asking_back.proofs.asking.finish_answer.Statement.{statement}
 use Rattle.asking_back.proofs.asking.finish_answer.Tie as tie
 
-seen : (f : tie.After-first-beyond) → first_beyond (pos 0) f.before.args.held.now 0 ≡ f.first-beyond.result
-seen f = sym f.first-beyond.ensures
+seen : (f : tie.After-first_beyond-lower) → first_beyond (pos 0) f.args.held.now 0 ≡ f.first_beyond-lower.result
+seen f = sym f.first_beyond-lower.ensures
 
-add-t5 : tie.Need-overflow-add-t5
-add-t5 c = let f = c.before.before.before in record { fits = omega (arith, f.before.requires.0, f.before.requires.1, beyond-at (pos 0) f.before.args.held.now _ (seen f ∙ c.before.lower.given.1)) }
+add-t5 : tie.Need-overflow_add-result
+add-t5 c = let f = c.before in record { fits = omega (arith, f.requires.0, f.requires.1, beyond-at (pos 0) f.args.held.now _ (seen f ∙ c.in-At.is)) }
 
-returns : tie.Need-returns
+returns : tie.Need-returns-in-At
 unfolding told told_held
-returns c = let f = c.before.before.before in ap (told_held f.before.args.offset) (sym (seen f ∙ c.before.lower.given.1))
+returns c = let f = c.before in ap (told_held f.args.offset) (sym (seen f ∙ c.in-At.is))
 
-enum_told : tie.Need-enum-told
+enum_told : tie.Need-enum_told-1
 enum_told c = search rules
 
-returns-2 : tie.Need-returns-2
+returns-2 : tie.Need-returns
 unfolding told told_held
-returns-2 c = let f = c.before.before in ap (told_held f.before.args.offset) (sym (seen f ∙ c.enum_told.given.1))
+returns-2 c = let f = c.before in ap (told_held f.args.offset) (sym (seen f ∙ c.in_default.is))
 
-pub finish-answer-spec : {M : Type 1} → statement M
-finish-answer-spec = tie.close (tie.spec (λ c κs. search rules) (λ c. search rules) add-t5 returns enum_told returns-2)
+pub finish_answer_spec : {M : Type 1} → statement M
+finish_answer_spec = tie.close (tie.spec (λ c κs. search rules) (λ c. search rules) add-t5 returns enum_told returns-2)

@@ -15,8 +15,8 @@ use Rattle.asking_back.proofs.asking.first_answer.Statement.{statement}
 use Rattle.asking_back.proofs.asking.first_answer.Tie as tie
 
 -- the arrays made
-module _ (c : tie.After-of-6482) where
-  abbrev block_made : tie.After-zero-block
+module _ (c : tie.After-of_648-z) where
+  abbrev block_made : tie.After-zero_block-block
   block_made = c.before.before.before.before
 
   abbrev from : tie.Start
@@ -26,60 +26,60 @@ module _ (c : tie.After-of-6482) where
   N = from.args.width
 
   half-wide : N / 2 ≡ half_width N
-  half-wide = half_is N from.pre.1.wide
+  half-wide = half_is N from.requires.1.wide
 
   abbrev held : List ℤ
-  held = block_made.before.nothing-held.result
+  held = block_made.nothing_held-held.result
 
   abbrev block : List ℤ
-  block = block_made.zero-block.result
+  block = block_made.zero_block-block.result
 
   abbrev top : List ℤ
-  top = c.before.before.before.of-64.result
+  top = c.of_64-top.result
 
   abbrev bottom : List ℤ
-  bottom = c.before.before.of-642.result
+  bottom = c.of_64-bottom.result
 
   held_in : N / 2 ≤ length held
-  held_in = half_room N (N / 2) held half-wide (ap length block_made.before.nothing-held.ensures ∙ length-replicate 64 (pos 0))
+  held_in = half_room N (N / 2) held half-wide (ap length block_made.nothing_held-held.ensures ∙ length-replicate 64 (pos 0))
 
   block_in : N ≤ length block
-  block_in = width_room N block from.pre.1.wide (sym (ap length block_made.zero-block.ensures ∙ length-replicate 128 (pos 0)))
+  block_in = width_room N block from.requires.1.wide (sym (ap length block_made.zero_block-block.ensures ∙ length-replicate 128 (pos 0)))
 
   fits : Wide N 1906 64 648
-  fits = large-room N from.pre.1.wide
+  fits = large-room N from.requires.1.wide
 
-  given : Lent 64 648 top bottom c.before.of-648.result c.of-6482.result
-  given = record { top-long = c.before.before.before.of-64.ensures; bottom-long = c.before.before.of-642.ensures; y-long = c.before.of-648.ensures; z-long = c.of-6482.ensures }
+  given : Lent 64 648 top bottom c.of_648-y.result c.of_648-z.result
+  given = record { top-long = c.of_64-top.ensures; bottom-long = c.of_64-bottom.ensures; y-long = c.of_648-y.ensures; z-long = c.of_648-z.ensures }
 
-slice-aggregate-answer-of : tie.Need-slice-aggregate-answer-of
+slice-aggregate-answer-of : tie.Need-slice_bounds-answer_of-end
 slice-aggregate-answer-of c = let m = c.before in part-long _ (held m) (held_in m)
 
-slice-aggregate-answer-of-2 : tie.Need-slice-aggregate-answer-of-2
+slice-aggregate-answer-of-2 : tie.Need-slice_bounds-answer_of-end-2
 slice-aggregate-answer-of-2 c = let m = c.before.before in part-long _ (block m) (block_in m)
 
-slice-aggregate-answer-of-3 : tie.Need-slice-aggregate-answer-of-3
+slice-aggregate-answer-of-3 : tie.Need-slice_bounds-answer_of-end-3
 slice-aggregate-answer-of-3 c = let m = c.before.before.before in part-long _ (top m) (top-le (fits m) (given m))
 
-array-borrow-prefix-bottom : tie.Need-array-borrow-prefix-bottom
+array-borrow-prefix-bottom : tie.Need-slice_bounds-bottom-end
 array-borrow-prefix-bottom c = let m = c.before.before.before in bottom-le (fits m) (given m)
 
-slice-aggregate-answer-of-4 : tie.Need-slice-aggregate-answer-of-4
+slice-aggregate-answer-of-4 : tie.Need-slice_bounds-answer_of-end-4
 slice-aggregate-answer-of-4 c = let m = c.before.before.before.before in part-long _ (bottom m) (bottom-le (fits m) (given m))
 
-answer-of-requires : tie.Need-answer-of-requires
+answer-of-requires : tie.Need-answer_of-requires
 answer-of-requires c κs =
     let m = c.before.before.before.before.before.before in
     let s = from m in (
-      s.pre.0,
+      s.requires.0,
       (
-        none-held (N m) (N m / 2) (held m) (half-wide m) (block_made m).before.nothing-held.ensures,
-        (s.pre.1, (sym (part-long _ (block m) (block_in m)), lent-wide (fits m) (given m))),
+        none-held (N m) (N m / 2) (held m) (half-wide m) (block_made m).nothing_held-held.ensures,
+        (s.requires.1, (sym (part-long _ (block m) (block_in m)), lent-wide (fits m) (given m))),
       ),
     )
 
-pub first-answer-spec : {M : Type 1} → statement M
-first-answer-spec =
+pub first_answer_spec : {M : Type 1} → statement M
+first_answer_spec =
     tie.close
     (tie.spec
     (λ c κs. tt)

@@ -32,20 +32,20 @@ module _ (s : tie.Start) where
   low = s.args.held.now
 
   begun : ReachedBack N 0 (pos 0) low
-  begun = subst (ReachedBack N 0 (pos 0)) (sym s.pre.1.1.0.1) (back-first N s.pre.0)
+  begun = subst (ReachedBack N 0 (pos 0)) (sym s.requires.1.1.0.1) (back-first N s.requires.0)
 
   started-is : (started N).1 ≡ opened N 0 (pos 0) low
-  started-is = started-back N s.pre.0 ∙ ap (opened N 0 (pos 0)) (sym s.pre.1.1.0.1)
+  started-is = started-back N s.requires.0 ∙ ap (opened N 0 (pos 0)) (sym s.requires.1.1.0.1)
 
-module _ (c : tie.After-zero-block) where
+module _ (c : tie.After-zero_block-block) where
   abbrev from : tie.Start
   from = c.before
 
-  block_in : N from ≤ length c.zero-block.result
-  block_in = width_room (N from) c.zero-block.result from.pre.0 (sym (ap length c.zero-block.ensures ∙ length-replicate 128 (pos 0)))
+  block_in : N from ≤ length c.zero_block-block.result
+  block_in = width_room (N from) c.zero_block-block.result from.requires.0 (sym (ap length c.zero_block-block.ensures ∙ length-replicate 128 (pos 0)))
 
 -- the frame undone
-module _ (a : tie.After-z) where
+module _ (a : tie.After-z-1) where
   abbrev step : tie.After-undo
   step = a.before.before.before.before.before.before
 
@@ -53,19 +53,19 @@ module _ (a : tie.After-z) where
   start = let earlier = step.before.before.before.before.before.before.before in from earlier
 
   abbrev kept : List ℤ
-  kept = step.undo.last.1.1.1.1.0
+  kept = step.undo.new.held
 
   abbrev block : List ℤ
-  block = step.undo.last.1.1.1.1.1.0
+  block = step.undo.new.block
 
   kept-long : length kept ≡ half_width (N start)
-  kept-long = let at_held = a.before.before.before.before.before in at_held.held.given ∙ (begun start).long
+  kept-long = let at_held = a in at_held.held-1.given ∙ (begun start).long
 
   given : ◌≡◌ {A = CallResult} (taken_back (started (N start)).1 (frame start) (zeros (N start)))
       (told step.undo.result, record_then (N start) 0 (pos 0) step.undo.result kept block, (taken_back (opened (N start) 0 (pos 0) (low start)) (frame start) (zeros (N start))).2)
   given =
       ap (λ (r : Run). taken_back r (frame start) (zeros (N start))) (started-is start)
-      ∙ frame-taken (N start) 0 (pos 0) (low start) kept (frame start) _ _ step.undo.result (begun start) (omega arith) kept-long (step.undo.ensures (pos 0)) (zeros (N start)) start.pre.1.1.0.0 (length-replicate (N start) (pos 0))
+      ∙ frame-taken (N start) 0 (pos 0) (low start) kept (frame start) _ _ step.undo.result (begun start) (omega arith) kept-long (step.undo.ensures (pos 0)) (zeros (N start)) start.requires.1.1.0.0 (length-replicate (N start) (pos 0))
 
   module _ (z : (taken_back (started (N start)).1 (frame start) (zeros (N start))).0.0 ≡ 0) where
     none : (told step.undo.result).0 ≡ 0
@@ -77,22 +77,22 @@ module _ (a : tie.After-z) where
     reached : ReachedBack (N start) 1 (pos 0 +ℤ sum_of (readings_given 0 block)) kept
     reached = reached-after (N start) 0 (pos 0) (low start) kept (frame start) _ _ step.undo.result (begun start) (omega arith) kept-long (step.undo.ensures (pos 0)) none
 
-array-borrow-prefix-block : tie.Need-array-borrow-prefix-block
+array-borrow-prefix-block : tie.Need-slice_bounds-block-end
 array-borrow-prefix-block c = block_in c.before
 
-slice-aggregate-undo : tie.Need-slice-aggregate-undo
-slice-aggregate-undo c = let m = c.before.before in part-long _ m.zero-block.result (block_in m)
+slice-aggregate-undo : tie.Need-slice_bounds-undo-end
+slice-aggregate-undo c = let m = c.before.before in part-long _ m.zero_block-block.result (block_in m)
 
 undo-requires : tie.Need-undo-requires
 undo-requires c κs =
     let m = c.before.before.before.before.before.before in
     let s = from m in (
-      s.pre.0,
+      s.requires.0,
       (
-        s.pre.1.0,
+        s.requires.1.0,
         (
-          (s.pre.1.1.0.0, (begun s).long, sym (part-long _ m.zero-block.result (block_in m))),
-          (s.pre.1.1.1, low-within (begun s)),
+          (s.requires.1.1.0.0, (begun s).long, sym (part-long _ m.zero_block-block.result (block_in m))),
+          (s.requires.1.1.1, low-within (begun s)),
         ),
       ),
     )
@@ -100,17 +100,17 @@ undo-requires c κs =
 returns : tie.Need-returns
 returns c = λ z. (after c z, low-within (reached c z))
 
-pub first-frame-spec : {M : Type 1} → statement M
-first-frame-spec =
+pub first_frame_spec : {M : Type 1} → statement M
+first_frame_spec =
     tie.close
     (tie.spec
     (λ c κs. tt)
     array-borrow-prefix-block
     slice-aggregate-undo
     undo-requires
-    (λ c. let at_held = c.before.before.before.before.before in at_held.held.given)
-    (λ c. c.before.before.before.top.given)
-    (λ c. c.before.before.bottom.given)
-    (λ c. c.before.y.given)
-    (λ c. c.z.given)
+    (λ c. let at_held = c in at_held.held-1.given)
+    (λ c. c.top-1.given)
+    (λ c. c.bottom-1.given)
+    (λ c. c.y-1.given)
+    (λ c. c.z-1.given)
     returns)

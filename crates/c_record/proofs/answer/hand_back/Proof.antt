@@ -7,19 +7,19 @@ use Rattle.c_record.proofs.AnswerLaws.{kept-refused, kept-worked}
 use Rattle.c_record.proofs.answer.hand_back.Statement.{statement}
 use Rattle.c_record.proofs.answer.hand_back.Tie as tie
 
-same_length : tie.Need-same-length
-same_length c = ⊎_elim (λ w. ap length w.5 ∙ w.4.given) (λ w. ap length w.1) c.before.before.if1.branch
+same_length : tie.Need-shape_of-numbers
+same_length c = ⊎_elim (λ w. ap length w.5 ∙ w.4.given) (λ w. ap length w.1) c.if1.branch
 
 returns : tie.Need-returns
 returns c =
-    let n = c.before.before.before in
-    (c.tell.ensures, ⊎_elim (λ w. w.5 ∙ w.3.ensures ∙ kept-worked _ _ _ (sym n.number.ensures ∙ w.0.taken)) (λ w. w.1 ∙ kept-refused _ _ _ (λ e. w.0.left (n.number.ensures ∙ e))) c.before.before.if1.branch)
+    let n = c in
+    (c.tell.ensures, ⊎_elim (λ w. w.5 ∙ w.3.ensures ∙ kept-worked _ _ _ (sym n.number.ensures ∙ w.0.taken)) (λ w. w.1 ∙ kept-refused _ _ _ (λ e. w.0.left (n.number.ensures ∙ e))) c.if1.branch)
 
 pack-requires : tie.Need-pack-requires
 pack-requires c κs =
-    let n = c.before.before.before in
-    n.before.requires (sym n.number.ensures ∙ c.before.before.if1.true)
+    let n = c in
+    n.requires (sym n.number.ensures ∙ c.if-number-eq0.true)
 
-pub hand-back-spec : {M : Type 1} → statement M
-hand-back-spec =
+pub hand_back_spec : {M : Type 1} → statement M
+hand_back_spec =
     tie.close (tie.spec (λ c κs. search rules) pack-requires (λ c κs. search rules) same_length returns)

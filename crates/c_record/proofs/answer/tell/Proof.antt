@@ -6,11 +6,11 @@ use Rattle.c_record.proofs.AnswerLaws.{told-small}
 use Rattle.c_record.proofs.answer.tell.Statement.{statement}
 use Rattle.c_record.proofs.answer.tell.Tie as tie
 
-cast-result : tie.Need-overflow-cast-result
-cast-result c = record { fits = omega (arith, c.before.number.ensures, told-small c.before.before.args.answer) }
+cast-result : tie.Need-overflow_cast-result
+cast-result c = record { fits = omega (arith, c.number-number.ensures, told-small c.args.answer) }
 
 returns : tie.Need-returns
-returns c = told-pair _ c.before.number.ensures c.place.ensures
+returns c = told-pair _ c.number-number.ensures c.place-at.ensures
 
-pub tell-spec : {M : Type 1} → statement M
-tell-spec = tie.close (tie.spec (λ c κs. search rules) (λ c κs. search rules) cast-result returns)
+pub tell_spec : {M : Type 1} → statement M
+tell_spec = tie.close (tie.spec (λ c κs. search rules) (λ c κs. search rules) cast-result returns)

@@ -22,42 +22,42 @@ numbers s = s.args.numbers.now
 below-0 : (l : List ℤ) (i : ℕ) {b : Bool} → mag (at l i) < 2 ^ 63 → lt_z (to_z w64 (of_z w64 (at l i))) (pos 0) ≡ b → lt_z (at l i) (pos 0) ≡ b
 below-0 l i h = h-lt (held-ok w64 (at l i) h) (num_lit w64 0 tt).holds
 
-returns : tie.Need-returns
-returns c = no_room (numbers c.before) c.if1.true
+returns : tie.Need-returns-then-numbers-ne68
+returns c = no_room (numbers c.before) c.if-numbers-ne68.true
 
-returns-2 : tie.Need-returns-2
+returns-2 : tie.Need-returns-then-numbers-lt0
 returns-2 c =
-    let o = c.before.before in
-    let l = numbers o.before in
-    no-width l o.if1.false (below-0 l 0 c.before.if22.given c.if2.true)
+    let o = c in
+    let l = numbers o.before.before.before in
+    no-width l o.if-numbers-ne68.false (below-0 l 0 c.t5-1.given c.if-numbers-lt0.true)
 
-returns-3 : tie.Need-returns-3
+returns-3 : tie.Need-returns-then-numbers-lt0-2
 returns-3 c =
-    let w = c.before.before in
-    let o = w.before.before in
-    let l = numbers o.before in
-    no-count l o.if1.false (below-0 l 0 w.before.if22.given w.if2.false) (below-0 l 1 c.before.if32.given c.if3.true)
+    let w = c in
+    let o = w in
+    let l = numbers o.before.before.before.before.before in
+    no-count l o.if-numbers-ne68.false (below-0 l 0 w.t5-1.given w.if-numbers-lt0.false) (below-0 l 1 c.t5-2-1.given c.if-numbers-lt0-2.true)
 
-returns-4 : tie.Need-returns-4
+returns-4 : tie.Need-returns-then-numbers-lt0-3
 returns-4 c =
-    let n = c.before.before in
-    let w = n.before.before in
-    let o = w.before.before in
-    let l = numbers o.before in
-    no_flag l o.if1.false (below-0 l 0 w.before.if22.given w.if2.false) (below-0 l 1 n.before.if32.given n.if3.false) (below-0 l 2 c.before.if42.given c.if4.true)
+    let n = c in
+    let w = n in
+    let o = w in
+    let l = numbers o.before.before.before.before.before.before.before in
+    no_flag l o.if-numbers-ne68.false (below-0 l 0 w.t5-1.given w.if-numbers-lt0.false) (below-0 l 1 n.t5-2-1.given n.if-numbers-lt0-2.false) (below-0 l 2 c.t5-3-1.given c.if-numbers-lt0-3.true)
 
-returns-5 : tie.Need-returns-5
+returns-5 : tie.Need-returns
 returns-5 c =
-    let f = c.before in
-    let n = f.before.before in
-    let w = n.before.before in
-    let o = w.before.before in
-    let l = numbers o.before in
-    ap (λ z. lt_z z (pos 2)) (held-ok w64 (at l 2) c.result.given).is
-    ∙ by_flag l o.if1.false (below-0 l 0 w.before.if22.given w.if2.false) (below-0 l 1 n.before.if32.given n.if3.false) (below-0 l 2 f.before.if42.given f.if4.false)
+    let f = c in
+    let n = f in
+    let w = n in
+    let o = w in
+    let l = numbers o.before.before.before.before.before.before.before.before in
+    ap (λ z. lt_z z (pos 2)) (held-ok w64 (at l 2) c.result-1.given).is
+    ∙ by_flag l o.if-numbers-ne68.false (below-0 l 0 w.t5-1.given w.if-numbers-lt0.false) (below-0 l 1 n.t5-2-1.given n.if-numbers-lt0-2.false) (below-0 l 2 f.t5-3-1.given f.if-numbers-lt0-3.false)
 
-pub is-record-spec : {M : Type 1} → statement M
-is-record-spec =
+pub is_record_spec : {M : Type 1} → statement M
+is_record_spec =
     tie.close
     (tie.spec
     returns

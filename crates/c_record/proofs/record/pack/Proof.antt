@@ -24,54 +24,54 @@ module _ (s : tie.Start) where
   held-long = search rules
 
 -- the total, read before anything is written
-module _ (t : tie.After-struct-told) where
+module _ (t : tie.After-struct_told-1) where
   abbrev start : tie.Start
   start = t.before.before
 
   room : length (numbers start) ≡ 68
-  room = start.pre.room
+  room = start.requires.room
 
   total-is : to_z w64 (of_z w64 (run start).total) ≡ (run start).total
-  total-is = (held-ok w64 _ t.struct_told.given.1.1.1.1.0.1).is
+  total-is = (held-ok w64 _ t.struct_told-1.given.1.1.1.1.0.1).is
 
-  begun-long : length (begun (run start) (numbers start) start.pre) ≡ 68
+  begun-long : length (begun (run start) (numbers start) start.requires) ≡ 68
   begun-long = simp length-set room
 
-slice-set-from-numbers : tie.Need-slice-set-from-numbers
+slice-set-from-numbers : tie.Need-bounds-numbers-0
 slice-set-from-numbers c = omega (arith, room c.before)
 
-slice-set-from-numbers-2 : tie.Need-slice-set-from-numbers-2
+slice-set-from-numbers-2 : tie.Need-bounds-numbers-1
 slice-set-from-numbers-2 c = simp length-set (omega (arith, room c.before.before))
 
-cast-numbers-3 : tie.Need-overflow-cast-numbers-3
+cast-numbers-3 : tie.Need-overflow_cast-numbers-3
 cast-numbers-3 c = tt
 
-slice-set-from-numbers-3 : tie.Need-slice-set-from-numbers-3
+slice-set-from-numbers-3 : tie.Need-bounds-numbers-2
 slice-set-from-numbers-3 c = let t = c.before.before.before in simp length-set (omega (arith, room t))
 
-part-copy-end : tie.Need-slice-bounds-copy-end
-part-copy-end c = let known = c.before in let t = known.before.before.before in simp length-set (omega (arith, room t))
+part-copy-end : tie.Need-slice_bounds-copy-end-2
+part-copy-end c = let known = c in let t = known.before.before.before.before in simp length-set (omega (arith, room t))
 
 copy-requires : tie.Need-copy-requires
 copy-requires c κs =
-    let known = c.before.before in
-    let t = known.before.before.before in
+    let known = c in
+    let t = known.before.before.before.before.before in
     held-long (start t) ∙ sym (simp (length-take, length-drop, length-set, room t))
 
-slice-set-from-total : tie.Need-slice-set-from-total
-slice-set-from-total c = let known = c.before.before.before.before in let t = known.before.before.before in omega (arith, c.numbers.given.1, begun-long t)
+slice-set-from-total : tie.Need-bounds-numbers-67
+slice-set-from-total c = let known = c in let t = known.before.before.before.before.before.before.before in omega (arith, c.numbers-1.given.1, begun-long t)
 
-same_length : tie.Need-same-length
-same_length c = simp length-set (c.numbers.given.1 ∙ simp length-set)
+same_length : tie.Need-shape_of-numbers
+same_length c = simp length-set (c.numbers-1.given.1 ∙ simp length-set)
 
 returns : tie.Need-returns
 returns c =
-    let known = c.before.before.before.before in
-    let t = known.before.before.before in
-    packed-is (run (start t)) (numbers (start t)) (start t).requires _ _ c.before.copy.ensures (ap length c.before.copy.ensures ∙ held-long (start t)) (total-is t)
+    let known = c in
+    let t = known.before.before.before.before.before.before.before in
+    packed-is (run (start t)) (numbers (start t)) (start t).requires _ _ c.copy.ensures (ap length c.copy.ensures ∙ held-long (start t)) (total-is t)
 
-pub pack-spec : {M : Type 1} → statement M
-pack-spec =
+pub pack_spec : {M : Type 1} → statement M
+pack_spec =
     tie.close
     (tie.spec
     (λ c. search rules)

@@ -19,42 +19,42 @@ use Rattle.c_record.proofs.record.unpack.Tie as tie
 abbrev numbers : tie.Start → List ℤ
 numbers s = s.args.numbers.now
 
-module _ (e : tie.Else1) where
+module _ (e : tie.Else-not-is_record) where
   abbrev from : tie.Start
   from = e.before.before.before
 
   is-record : is_record (numbers from) ≡ true
-  is-record = sym e.before.is-record.ensures ∙ not-false _ e.if1.left
+  is-record = sym e.is_record.ensures ∙ not-false _ e.if-not-is_record.false
 
   long : 67 ≤ length (numbers from)
   long = omega (arith, has_room (numbers from) is-record)
 
-returns : tie.Need-returns
+returns : tie.Need-returns-then-not-is_record
 returns c =
-    let t = c.before in
-    c.make.ensures ∙ no_record (numbers t.before.before.before) _ t.before.before.nothing-held.ensures (sym t.before.is-record.ensures ∙ not-true _ t.if1.true)
+    let t = c in
+    c.make.ensures ∙ no_record (numbers t.before.before.before.before) _ t.nothing_held-held.ensures (sym t.is_record.ensures ∙ not-true _ t.if-not-is_record.true)
 
 copy-requires : tie.Need-copy-requires
 copy-requires c κs =
     let e = c.before.before in
-    held-long (numbers (from e)) (has_room (numbers (from e)) (is-record e)) ∙ sym (ap length e.before.before.nothing-held.ensures ∙ length-replicate 64 (pos 0))
+    held-long (numbers (from e)) (has_room (numbers (from e)) (is-record e)) ∙ sym (ap length e.nothing_held-held.ensures ∙ length-replicate 64 (pos 0))
 
-front-requires : tie.Need-front-requires
+front-requires : tie.Need-front-head-requires
 front-requires c κs =
     let else1 = c.before.before.before.before in
     is-record else1
 
-returns-2 : tie.Need-returns-2
+returns-2 : tie.Need-returns
 returns-2 c =
-    let f = c.before.before in
-    let p = f.before.before in
-    let head = f.front.result in
-    c.make2.ensures
-    ∙ ap₂ (λ (xs : List ℤ) (t : ℤ). record_of head.width head.count xs head.finished t) p.copy.ensures (held-ok w64 _ c.before.struct_told.given.1.1.1.0.1).is
-    ∙ f.front.ensures.0
+    let f = c in
+    let p = f in
+    let head = f.front-head.result in
+    c.make-2.ensures
+    ∙ ap₂ (λ (xs : List ℤ) (t : ℤ). record_of head.width head.count xs head.finished t) p.copy.ensures (held-ok w64 _ c.struct_told-1.given.1.1.1.0.1).is
+    ∙ f.front-head.ensures.0
 
-pub unpack-spec : {M : Type 1} → statement M
-unpack-spec =
+pub unpack_spec : {M : Type 1} → statement M
+unpack_spec =
     tie.close
     (tie.spec
     (λ c κs. search rules)

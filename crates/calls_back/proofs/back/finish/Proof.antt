@@ -31,22 +31,22 @@ module _ (s : tie.Start) where
   held-long = search rules
 
 -- the total is lent by its bits
-total-is : (a : tie.After-still-open) → let s = a.before.before.before.before in to_z w64 (of_z w64 (run s).total) ≡ (run s).total
-total-is a = let read = a.before.before in (held-ok w64 _ read.struct_told.given.1.1.1.1.0.1).is
+total-is : (a : tie.After-still_open-asked) → let s = a.before.before.before.before in to_z w64 (of_z w64 (run s).total) ≡ (run s).total
+total-is a = let read = a in (held-ok w64 _ read.struct_told-1.given.1.1.1.1.0.1).is
 
-open_by : (a : tie.After-still-open) → StillOpen frame_limit (run a.before.before.before.before) a.still_Open.result
-open_by a = rw (total-is a) at a.still_Open.ensures
+open_by : (a : tie.After-still_open-asked) → StillOpen frame_limit (run a.before.before.before.before) a.still_open-asked.result
+open_by a = rw (total-is a) at a.still_open-asked.ensures
 
 -- questions 2 and 3 are passed
-module _ (e : tie.Else1) where
-  abbrev asked : tie.After-still-open
+module _ (e : tie.Else-number-ne0) where
+  abbrev asked : tie.After-still_open-asked
   asked = e.before.before
 
   abbrev from : tie.Start
   from = asked.before.before.before.before
 
-  none : (told asked.still_Open.result).0 ≡ 0
-  none = sym e.before.number.ensures ∙ e.if1.left
+  none : (told asked.still_open-asked.result).0 ≡ 0
+  none = sym e.number.ensures ∙ e.if-number-ne0.false
 
   is-sound : sound frame_limit (run from) ≡ true
   is-sound = open-sound (open_by asked) none
@@ -54,48 +54,48 @@ module _ (e : tie.Else1) where
   unfinished : (run from).finished ≡ false
   unfinished = open-unfinished (open_by asked) none
 
-returns : tie.Need-returns
+returns : tie.Need-returns-then-number-ne0
 unfolding ended_back
 returns c =
-    let n = c.before.before in
-    let a = n.before in
+    let n = c in
+    let a = n.before.before.before in
     let s = a.before.before.before.before in
-    handed-with c.hand-back.ensures [] _ (refused a.still_Open.result (run s) [] _ (λ z. c.before.if1.true (n.number.ensures ∙ z)) ∙ (open_by a).asked [] _)
+    handed-with c.hand_back.ensures [] _ (refused a.still_open-asked.result (run s) [] _ (λ z. c.if-number-ne0.true (n.number.ensures ∙ z)) ∙ (open_by a).asked [] _)
 
-returns-2 : tie.Need-returns-2
+returns-2 : tie.Need-returns-then-run-eq0
 returns-2 c =
-    let t = c.before in
-    let e = t.before.before in
-    handed-with c.hand-back2.ensures [] _ (end-empty-refused (run (from e)) (is-sound e) (unfinished e) t.if2.true)
+    let t = c in
+    let e = t.before.before.before in
+    handed-with c.hand_back-then-run-eq0.ensures [] _ (end-empty-refused (run (from e)) (is-sound e) (unfinished e) t.if-run-eq0.true)
 
-first-held-requires : tie.Need-first-held-requires
-first-held-requires c κs = let e = c.before.before.before in let s = from e in passed frame_limit (omega arith) (run s) _ (is-sound e) c.half-width.ensures (held-long s)
+first-held-requires : tie.Need-first_held-lower-requires
+first-held-requires c κs = let e = c.before.before.before in let s = from e in passed frame_limit (omega arith) (run s) _ (is-sound e) c.half_width.ensures (held-long s)
 
-returns-3 : tie.Need-returns-3
+returns-3 : tie.Need-returns-in-At
 returns-3 c =
-    let h = c.before.before in
-    let f = h.before.before in
-    let l = f.before.before in
-    let e = l.before.before in
-    handed-with c.hand-back3.ensures [] _
-    (end-held-refused (run (from e)) (is-sound e) (unfinished e) l.if2.false _ (sym f.first-held.ensures ∙ h.lower.given.1))
+    let h = c in
+    let f = h in
+    let l = f in
+    let e = l.before.before.before.before.before.before in
+    handed-with c.hand_back-in-At.ensures [] _
+    (end-held-refused (run (from e)) (is-sound e) (unfinished e) l.if-run-eq0.false _ (sym f.first_held-lower.ensures ∙ h.in-At.is))
 
-enum_told : tie.Need-enum-told
+enum_told : tie.Need-enum_told-1
 enum_told c = search rules
 
-returns-4 : tie.Need-returns-4
+returns-4 : tie.Need-returns
 unfolding closed
 returns-4 c =
-    let m = c.before in
-    let n = m.before.before in
-    let f = n.before.before in
-    let l = f.before.before in
-    let e = l.before.before in
+    let m = c in
+    let n = m in
+    let f = n in
+    let l = f in
+    let e = l.before.before.before.before.before.before.before.before in
     let s = from e in
-    handed-with c.hand-back4.ensures [] _
+    handed-with c.hand_back-2.ensures [] _
     (ap (λ (r : Run). (told Done, r, [])) m.make.ensures
-    ∙ ap₂ (λ (h : List ℤ) (t : ℤ). (told Done, record { width = (run s).width; count = (run s).count; held = h; finished = true; total = t }, [])) m.before.nothing-held.ensures (total-is (asked e))
-    ∙ ended-done (run s) (is-sound e) (unfinished e) l.if2.false (sym f.first-held.ensures ∙ n.enum_told.given.1))
+    ∙ ap₂ (λ (h : List ℤ) (t : ℤ). (told Done, record { width = (run s).width; count = (run s).count; held = h; finished = true; total = t }, [])) m.nothing_held.ensures (total-is (asked e))
+    ∙ ended-done (run s) (is-sound e) (unfinished e) l.if-run-eq0.false (sym f.first_held-lower.ensures ∙ n.in_default.is))
 
 pub finish_spec : {M : Type 1} → statement M
 finish_spec =

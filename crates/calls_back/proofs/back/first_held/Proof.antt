@@ -17,19 +17,19 @@ module _ (s : tie.Start) where
   held-long = search rules
 
   half_le : s.args.half ≤ length s.args.run.held
-  half_le = omega (arith, held-long, s.pre.half_is, half-width-le s.args.run.width)
+  half_le = omega (arith, held-long, s.requires.half_is, half-width-le s.args.run.width)
 
-array-share-prefix-held : tie.Need-array-share-prefix-held
+array-share-prefix-held : tie.Need-slice_bounds-held-end
 array-share-prefix-held c = half_le c.before
 
-slice-aggregate-first-beyond : tie.Need-slice-aggregate-first-beyond
+slice-aggregate-first-beyond : tie.Need-slice_bounds-first_beyond-end
 slice-aggregate-first-beyond c = let s = c.before.before in part-long _ s.args.run.held (half_le s)
 
 returns : tie.Need-returns
 unfolding first_held
-returns c = let s = c.before.before.before in c.first-beyond.ensures ∙ ap (λ (n : ℕ). first_beyond (pos 0) (take n s.args.run.held) 0) s.requires.half_is
+returns c = let s = c in c.first_beyond.ensures ∙ ap (λ (n : ℕ). first_beyond (pos 0) (take n s.args.run.held) 0) s.requires.half_is
 
-pub first-held-spec : {M : Type 1} → statement M
-first-held-spec =
+pub first_held_spec : {M : Type 1} → statement M
+first_held_spec =
     tie.close
     (tie.spec array-share-prefix-held slice-aggregate-first-beyond (λ c κs. search rules) returns)

@@ -20,8 +20,8 @@ use Rattle.runs.proofs.AskLaws.{handed-with}
 use Rattle.calls_back.proofs.back.take.Statement.{statement}
 use Rattle.calls_back.proofs.back.take.Tie as tie
 
-module _ (a : tie.After-take) where
-  abbrev read : tie.After-struct-told
+module _ (a : tie.After-take-answer) where
+  abbrev read : tie.After-struct_told-1
   read = a.before.before.before
 
   abbrev start : tie.Start
@@ -38,51 +38,51 @@ module _ (a : tie.After-take) where
 
   -- the block as the call left it, and the readings that it gave
   abbrev block : List ℤ
-  block = a.take.last.1.1.1.1.1.1.0
+  block = a.take-answer.new.block
 
   abbrev readings : List ℤ
   readings = readings_given run.count block
 
   -- the total, lent by its bits
   total-is : to_z w64 (of_z w64 run.total) ≡ run.total
-  total-is = (held-ok w64 _ read.struct_told.given.1.1.1.1.0.1).is
+  total-is = (held-ok w64 _ read.struct_told-1.given.1.1.1.1.0.1).is
 
   abbrev after : Run
-  after = record_of run.width (next_count (told a.take.result).0 run.count) a.take.last.1.1.1.1.0 run.finished (next_total (told a.take.result).0 run.total readings)
+  after = record_of run.width (next_count (told a.take-answer.result).0 run.count) a.take-answer.new.held run.finished (next_total (told a.take-answer.result).0 run.total readings)
 
-  given : (told a.take.result, after, block) ≡ taken_back run frame out
-  given = rw total-is at a.take.ensures
+  given : (told a.take-answer.result, after, block) ≡ taken_back run frame out
+  given = rw total-is at a.take-answer.ensures
 
-  module _ (z : (told a.take.result).0 ≡ 0) where
+  module _ (z : (told a.take-answer.result).0 ≡ 0) where
     worked : (taken_back run frame out).0.0 ≡ 0
     worked = ap (λ (g : CallResult). g.0.0) (sym given) ∙ z
 
-    fits : nat_abs (next_total (told a.take.result).0 run.total readings) ≤ total_limit
+    fits : nat_abs (next_total (told a.take-answer.result).0 run.total readings) ≤ total_limit
     fits = subst (λ (g : CallResult). nat_abs g.1.total ≤ total_limit) (sym given) (back_fits run frame out worked)
 
-total-after-requires : tie.Need-total-after-requires
+total-after-requires : tie.Need-total_after-total-requires
 total-after-requires c κs z =
-    let a = c.before.before.before in
-    (omega (arith, back_long (run a) (frame a) (out a) (worked a z), c.before.block.given), rw (total-is a, total-raised _ (run a).total (readings a) z) (fits a z))
+    let a = c.before.before in
+    (omega (arith, back_long (run a) (frame a) (out a) (worked a z), c.block-1.given), rw (total-is a, total-raised _ (run a).total (readings a) z) (fits a z))
 
-after-take-requires : tie.Need-after-take-requires
+after-take-requires : tie.Need-after_take-requires
 unfolding taken_back
 after-take-requires c κs z =
-    let a = c.before.before.before.before in
+    let a = c.before.before.before in
     let n = admitted-few _ (run a) (frame a) (out a) _ (worked a z) in
     omega arith
 
 -- the total after it, by its bits
-total-then : (n : tie.After-total-after) → let a = n.before.before.before.before in to_z w64 (of_z w64 n.total-after.result) ≡ next_total (told a.take.result).0 (run a).total (readings a)
-total-then n = let a = n.before.before.before.before in (held-ok w64 _ n.total-after.type-inv).is ∙ (rw (total-is a) at n.total-after.ensures)
+total-then : (n : tie.After-total_after-total) → let a = n.before.before.before in to_z w64 (of_z w64 n.total_after-total.result) ≡ next_total (told a.take-answer.result).0 (run a).total (readings a)
+total-then n = let a = n.before.before.before in (held-ok w64 _ n.total_after-total.type_inv).is ∙ (rw (total-is a) at n.total_after-total.ensures)
 
 returns : tie.Need-returns
 returns c =
     let n = c.before in
-    let a = n.before.before.before.before in
-    let held = a.take.new.1.1.1.1.0 in
-    handed-with c.after-take.ensures (block a) _
-    (ap (λ (t : ℤ). (told a.take.result, record_of (run a).width (next_count (told a.take.result).0 (run a).count) held (run a).finished t, block a)) (total-then n)
+    let a = n.before.before.before in
+    let held = a.take-answer.new.held in
+    handed-with c.after_take.ensures (block a) _
+    (ap (λ (t : ℤ). (told a.take-answer.result, record_of (run a).width (next_count (told a.take-answer.result).0 (run a).count) held (run a).finished t, block a)) (total-then n)
     ∙ given a)
 
 pub take_spec : {M : Type 1} → statement M

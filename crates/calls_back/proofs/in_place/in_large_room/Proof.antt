@@ -11,7 +11,7 @@ use Rattle.frames.proofs.RoomSizes.{Wide, large-room, tables-in, fill-asks, Lent
 use Rattle.calls_back.proofs.in_place.in_large_room.Statement.{statement}
 use Rattle.calls_back.proofs.in_place.in_large_room.Tie as tie
 
-module _ (r : tie.After-of-6482) where
+module _ (r : tie.After-of_648-z) where
   abbrev from : tie.Start
   from = r.before.before.before.before.before.before
 
@@ -19,76 +19,76 @@ module _ (r : tie.After-of-6482) where
   N = from.args.width
 
   abbrev array : List ℤ
-  array = let at-of-1906 = r.before.before.before.before in at-of-1906.of-1906.result
+  array = let at-of-1906 = r in at-of-1906.of_1906-t.result
 
   abbrev long : ℕ
-  long = let at-tables-long = r.before.before.before.before.before in at-tables-long.tables-long.result
+  long = let at-tables-long = r in at-tables-long.tables_long-long.result
 
   fits : Wide N 1906 64 648
-  fits = large-room N from.pre.0
+  fits = large-room N from.requires.0
 
 -- all that the width takes is filled in
-module _ (f : tie.After-y2) where
-  abbrev room : tie.After-of-6482
+module _ (f : tie.After-y-2-1) where
+  abbrev room : tie.After-of_648-z
   room = f.before.before.before.before.before
 
   abbrev tables : List ℤ
-  tables = f.before.before.fill.last.1.0
+  tables = f.fill.new.t
 
   filled : Filled (N room) tables
-  filled = f.before.before.fill.ensures
+  filled = f.fill.ensures
 
   abbrev top : List ℤ
-  top = room.before.before.before.of-64.result
+  top = room.of_64-top.result
 
   abbrev bottom : List ℤ
-  bottom = room.before.before.of-642.result
+  bottom = room.of_64-bottom.result
 
   abbrev y : List ℤ
-  y = f.before.before.fill.last.1.1.0
+  y = f.fill.new.room
 
   abbrev z : List ℤ
-  z = room.of-6482.result
+  z = room.of_648-z.result
 
   given : Lent 64 648 top bottom y z
-  given = record { top-long = room.before.before.before.of-64.ensures; bottom-long = room.before.before.of-642.ensures; y-long = sym f.y2.given; z-long = room.of-6482.ensures }
+  given = record { top-long = room.of_64-top.ensures; bottom-long = room.of_64-bottom.ensures; y-long = sym f.y-2-1.given; z-long = room.of_648-z.ensures }
 
-array-borrow-prefix-t : tie.Need-array-borrow-prefix-t
+array-borrow-prefix-t : tie.Need-slice_bounds-t-end
 array-borrow-prefix-t c =
-    let at-of-1906 = c.before.before.before.before in
-    tables-in (fits c) _ at-of-1906.before.tables-long.ensures (array c) at-of-1906.of-1906.ensures
+    let at-of-1906 = c in
+    tables-in (fits c) _ at-of-1906.tables_long-long.ensures (array c) at-of-1906.of_1906-t.ensures
 
-slice-aggregate-fill : tie.Need-slice-aggregate-fill
+slice-aggregate-fill : tie.Need-slice_bounds-fill-end
 slice-aggregate-fill c = let r = c.before in part-long _ (array r) (array-borrow-prefix-t r)
 
 fill-requires : tie.Need-fill-requires
 fill-requires c κs =
     let r = c.before.before in
-    let at-of-1906 = r.before.before.before.before in
-    fill-asks (fits r) _ at-of-1906.before.tables-long.ensures (array r) r.before.of-648.result at-of-1906.of-1906.ensures r.before.of-648.ensures
+    let at-of-1906 = r in
+    fill-asks (fits r) _ at-of-1906.tables_long-long.ensures (array r) r.of_648-y.result at-of-1906.of_1906-t.ensures r.of_648-y.ensures
 
-array-share-prefix-t : tie.Need-array-share-prefix-t
+array-share-prefix-t : tie.Need-slice_bounds-t-end-2
 array-share-prefix-t c =
     let r = room c in
     let at-tables-long = r.before.before.before.before.before in
-    filled-le _ at-tables-long.tables-long.ensures (tables c) _ (filled c)
+    filled-le _ at-tables-long.tables_long-long.ensures (tables c) _ (filled c)
 
-slice-aggregate-undo : tie.Need-slice-aggregate-undo
+slice-aggregate-undo : tie.Need-slice_bounds-undo-end
 slice-aggregate-undo c =
     let r = room c.before in
     let at-tables-long = r.before.before.before.before.before in
-    filled-long _ at-tables-long.tables-long.ensures (tables c.before) _ (filled c.before)
+    filled-long _ at-tables-long.tables_long-long.ensures (tables c.before) _ (filled c.before)
 
-array-borrow-prefix-top : tie.Need-array-borrow-prefix-top
+array-borrow-prefix-top : tie.Need-slice_bounds-top-end
 array-borrow-prefix-top c = let f = c.before.before.before in top-le (fits (room f)) (given f)
 
-slice-aggregate-undo-2 : tie.Need-slice-aggregate-undo-2
+slice-aggregate-undo-2 : tie.Need-slice_bounds-undo-end-2
 slice-aggregate-undo-2 c = let f = c.before.before.before.before in part-long _ (top f) (top-le (fits (room f)) (given f))
 
-array-borrow-prefix-bottom : tie.Need-array-borrow-prefix-bottom
+array-borrow-prefix-bottom : tie.Need-slice_bounds-bottom-end
 array-borrow-prefix-bottom c = let f = c.before.before.before.before in bottom-le (fits (room f)) (given f)
 
-slice-aggregate-undo-3 : tie.Need-slice-aggregate-undo-3
+slice-aggregate-undo-3 : tie.Need-slice_bounds-undo-end-3
 slice-aggregate-undo-3 c = let f = c.before.before.before.before.before in part-long _ (bottom f) (bottom-le (fits (room f)) (given f))
 
 undo-requires : tie.Need-undo-requires
@@ -97,18 +97,18 @@ undo-requires c κs =
     let r = room f in
     let at-tables-long = r.before.before.before.before.before in
     let s = from r in (
-      s.pre.0,
+      s.requires.0,
       (
-        filled-lent _ at-tables-long.tables-long.ensures (tables f) _ (filled f),
-        (s.pre.1.0, (lent-wide (fits r) (given f), s.pre.1.1)),
+        filled-lent _ at-tables-long.tables_long-long.ensures (tables f) _ (filled f),
+        (s.requires.1.0, (lent-wide (fits r) (given f), s.requires.1.1)),
       ),
     )
 
 returns : tie.Need-returns
 returns c = search rules
 
-pub in-large-room-spec : {M : Type 1} → statement M
-in-large-room-spec =
+pub in_large_room_spec : {M : Type 1} → statement M
+in_large_room_spec =
     tie.close
     (tie.spec
     (λ c κs. search rules)
@@ -130,6 +130,6 @@ in-large-room-spec =
     (λ c. search rules)
     (λ c. search rules)
     undo-requires
-    (λ c. let at_held = c.before.before.before.before.before in at_held.held.given)
-    (λ c. let at_block = c.before.before.before.before in at_block.block.given)
+    (λ c. let at_held = c in at_held.held-1.given)
+    (λ c. let at_block = c in at_block.block-1.given)
     (λ c. search rules))

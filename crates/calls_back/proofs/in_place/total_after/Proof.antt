@@ -28,29 +28,29 @@ module _ (s : tie.Start) where
   block = s.args.block.now
 
   total-is : to_z w64 (of_z w64 s.args.total) ≡ s.args.total
-  total-is = (held w64 _ s.fits.total).is
+  total-is = (held w64 _ s.ranges.total).is
 
-next-total-requires : tie.Need-next-total-requires
+next-total-requires : tie.Need-next_total-requires
 next-total-requires c κs z =
-    let s = c.before.before in
-    (omega arith, rw (total-is s) (rw (none-given s.args.count (block s) c.before.if1.true) at (s.requires z).1))
+    let s = c.before in
+    (omega arith, rw (total-is s) (rw (none-given s.args.count (block s) c.if-count-eq0.true) at (s.requires z).1))
 
-returns : tie.Need-returns
+returns : tie.Need-returns-then-count-eq0
 returns c =
-    let s = c.before.before.before in
-    (held-ok w64 _ c.next-total.type-inv).is ∙ (rw (total-is s) at c.next-total.ensures)
-    ∙ rw (none-given s.args.count (block s) c.before.before.if1.true)
+    let s = c.before.before in
+    (held-ok w64 _ c.next_total.type_inv).is ∙ (rw (total-is s) at c.next_total.ensures)
+    ∙ rw (none-given s.args.count (block s) c.if-count-eq0.true)
 
-next-total-requires-2 : tie.Need-next-total-requires-2
+next-total-requires-2 : tie.Need-next_total-requires-2
 next-total-requires-2 c κs z =
     let s = c.before in
-    ((s.requires z).0, rw (total-is s) (rw (block-given s.args.count (block s) c.if1.false) at (s.requires z).1))
+    ((s.requires z).0, rw (total-is s) (rw (block-given s.args.count (block s) c.if-count-eq0.false) at (s.requires z).1))
 
-returns-2 : tie.Need-returns-2
+returns-2 : tie.Need-returns
 returns-2 c =
     let s = c.before.before in
-    (held-ok w64 _ c.next-total2.type-inv).is ∙ (rw (total-is s) at c.next-total2.ensures)
-    ∙ rw (block-given s.args.count (block s) c.before.if1.false)
+    (held-ok w64 _ c.next_total-2.type_inv).is ∙ (rw (total-is s) at c.next_total-2.ensures)
+    ∙ rw (block-given s.args.count (block s) c.if-count-eq0.false)
 
-pub total-after-spec : {M : Type 1} → statement M
-total-after-spec = tie.close (tie.spec (λ c. search rules) next-total-requires returns next-total-requires-2 returns-2)
+pub total_after_spec : {M : Type 1} → statement M
+total_after_spec = tie.close (tie.spec (λ c. search rules) next-total-requires returns next-total-requires-2 returns-2)

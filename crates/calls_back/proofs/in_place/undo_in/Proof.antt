@@ -3,14 +3,14 @@ use borrow.Author.Rules.{rules}
 use Rattle.calls_back.proofs.in_place.undo_in.Statement.{statement}
 use Rattle.calls_back.proofs.in_place.undo_in.Tie as tie
 
-in-large-room-requires : tie.Need-in-large-room-requires
-in-large-room-requires c κs = c.before.before.before.requires
+in-large-room-requires : tie.Need-in_large_room-requires
+in-large-room-requires c κs = c.requires
 
-returns-2 : tie.Need-returns-2
+returns-2 : tie.Need-returns
 returns-2 c = search rules
 
-pub undo-in-spec : {M : Type 1} → statement M
-undo-in-spec =
+pub undo_in_spec : {M : Type 1} → statement M
+undo_in_spec =
     tie.close
     (tie.spec
     (λ c κs. search rules)

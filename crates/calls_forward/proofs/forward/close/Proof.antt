@@ -30,39 +30,39 @@ module _ (s : tie.Start) where
   held-long = search rules
 
   half_le : s.args.half ≤ length before
-  half_le = half_room N s.args.half before s.pre.0.half_is held-long
+  half_le = half_room N s.args.half before s.requires.0.half_is held-long
 
 -- a block of zeros, as long as the width
-module _ (z : tie.After-zero-block) where
+module _ (z : tie.After-zero_block-zeros) where
   abbrev from : tie.Start
   from = z.before.before
 
-  zeros-le : N from ≤ length z.zero-block.result
-  zeros-le = width_room (N from) z.zero-block.result from.pre.0.wide (sym (ap length z.zero-block.ensures ∙ length-replicate 128 (pos 0)))
+  zeros-le : N from ≤ length z.zero_block-zeros.result
+  zeros-le = width_room (N from) z.zero_block-zeros.result from.requires.0.wide (sym (ap length z.zero_block-zeros.ensures ∙ length-replicate 128 (pos 0)))
 
-  block-is : take (N from) z.zero-block.result ≡ zeros (N from)
-  block-is = zero-part (N from) _ from.pre.0.wide z.zero-block.ensures
+  block-is : take (N from) z.zero_block-zeros.result ≡ zeros (N from)
+  block-is = zero-part (N from) _ from.requires.0.wide z.zero_block-zeros.ensures
 
-array-share-prefix-zeros : tie.Need-array-share-prefix-zeros
+array-share-prefix-zeros : tie.Need-slice_bounds-zeros-end
 array-share-prefix-zeros c = zeros-le c.before
 
-slice-aggregate-step-in : tie.Need-slice-aggregate-step-in
-slice-aggregate-step-in c = let z = c.before.before in part-long _ z.zero-block.result (zeros-le z)
+slice-aggregate-step-in : tie.Need-slice_bounds-step_in-end
+slice-aggregate-step-in c = let z = c.before.before in part-long _ z.zero_block-zeros.result (zeros-le z)
 
-array-borrow-prefix-held : tie.Need-array-borrow-prefix-held
+array-borrow-prefix-held : tie.Need-slice_bounds-held-end
 array-borrow-prefix-held c = half_le (from c.before.before)
 
-slice-aggregate-step-in-2 : tie.Need-slice-aggregate-step-in-2
+slice-aggregate-step-in-2 : tie.Need-slice_bounds-step_in-end-2
 slice-aggregate-step-in-2 c = let s = from c.before.before.before in part-long _ (before s) (half_le s)
 
-step-in-requires : tie.Need-step-in-requires
+step-in-requires : tie.Need-step_in-requires
 step-in-requires c κs =
     let z = c.before.before.before.before in
     let s = from z in
-    let ready = s.pre.0 in (
+    let ready = s.requires.0 in (
       ready.wide,
       (
-        (sym (part-long _ z.zero-block.result (zeros-le z)), sym (part-long _ (before s) (half_le s)) ∙ ready.half_is, s.pre.1),
+        (sym (part-long _ z.zero_block-zeros.result (zeros-le z)), sym (part-long _ (before s) (half_le s)) ∙ ready.half_is, s.requires.1),
         (take_within (N s) folded_limit (before s) ready.within s.args.half, subst (Within reading_limit) (sym (block-is z)) (zero-within (N s))),
       ),
     )
@@ -73,8 +73,8 @@ returns c =
     let t = c.before.before.before.before in
     let z = t.before.before.before.before.before in
     let s = from z in (
-      c.make.ensures ∙ ap₂ (λ (h : List ℤ) (t : ℤ). record { width = N s; count = s.args.run.count; held = h; finished = true; total = t }) c.before.nothing-held.ensures (held-ok w64 _ z.before.struct_told.given.1.1.1.1.0.1).is,
-      t.step_in.ensures.1 ∙ ap (frame (N s) (take s.args.half (before s))) (block-is z) ∙ frame_on_lem s.args.run s.args.half s.pre.0 (zeros (N s)),
+      c.make.ensures ∙ ap₂ (λ (h : List ℤ) (t : ℤ). record { width = N s; count = s.args.run.count; held = h; finished = true; total = t }) c.nothing_held.ensures (held-ok w64 _ z.struct_told-1.given.1.1.1.1.0.1).is,
+      t.step_in.ensures.1 ∙ ap (frame (N s) (take s.args.half (before s))) (block-is z) ∙ frame_on_lem s.args.run s.args.half s.requires.0 (zeros (N s)),
     )
 
 pub close_spec : {M : Type 1} → statement M

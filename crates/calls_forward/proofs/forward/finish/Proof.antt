@@ -32,19 +32,19 @@ module _ (s : tie.Start) where
   held-long = search rules
 
 -- the total is lent by its bits
-open_by : (a : tie.After-still-open) → StillOpen block_limit (run a.before.before.before.before) a.still_Open.result
-open_by a = rw (held-ok w64 _ a.before.struct_told.given.1.1.1.1.0.1).is at a.still_Open.ensures
+open_by : (a : tie.After-still_open-asked) → StillOpen block_limit (run a.before.before.before.before) a.still_open-asked.result
+open_by a = rw (held-ok w64 _ a.struct_told-1.given.1.1.1.1.0.1).is at a.still_open-asked.ensures
 
 -- questions 2 and 3 are passed
-module _ (e : tie.Else1) where
-  abbrev asked : tie.After-still-open
+module _ (e : tie.Else-number-ne0) where
+  abbrev asked : tie.After-still_open-asked
   asked = e.before.before
 
   abbrev from : tie.Start
   from = asked.before.before.before.before
 
-  none : (told asked.still_Open.result).0 ≡ 0
-  none = sym e.before.number.ensures ∙ e.if1.left
+  none : (told asked.still_open-asked.result).0 ≡ 0
+  none = sym e.number.ensures ∙ e.if-number-ne0.false
 
   is-sound : sound block_limit (run from) ≡ true
   is-sound = open-sound (open_by asked) none
@@ -52,37 +52,37 @@ module _ (e : tie.Else1) where
   unfinished : (run from).finished ≡ false
   unfinished = open-unfinished (open_by asked) none
 
-returns : tie.Need-returns
+returns : tie.Need-returns-then-number-ne0
 unfolding ended
 returns c =
-    let n = c.before.before in
-    let a = n.before in
+    let n = c in
+    let a = n.before.before.before in
     let s = a.before.before.before.before in
-    handed-with c.hand-back.ensures (out s) _ (refused a.still_Open.result (run s) (out s) _ (λ z. c.before.if1.true (n.number.ensures ∙ z)) ∙ (open_by a).asked (out s) _)
+    handed-with c.hand_back.ensures (out s) _ (refused a.still_open-asked.result (run s) (out s) _ (λ z. c.if-number-ne0.true (n.number.ensures ∙ z)) ∙ (open_by a).asked (out s) _)
 
-returns-2 : tie.Need-returns-2
+returns-2 : tie.Need-returns-then-frame-width
 returns-2 c =
-    let t = c.before in
-    let e = t.before in
+    let t = c in
+    let e = t.before.before in
     let s = from e in
-    handed-with c.hand-back2.ensures (out s) _ (end-output-refused (run s) (out s) (is-sound e) (unfinished e) t.if2.true)
+    handed-with c.hand_back-then-frame-width.ensures (out s) _ (end-output-refused (run s) (out s) (is-sound e) (unfinished e) t.if-frame-width.true)
 
 close-requires : tie.Need-close-requires
 close-requires c κs =
-    let l = c.before.before in
-    let e = l.before in
+    let l = c in
+    let e = l.before.before.before in
     let s = from e in
-    (passed block_limit (omega arith) (run s) _ (is-sound e) c.before.half-width.ensures (held-long s), l.if2.false)
+    (passed block_limit (omega arith) (run s) _ (is-sound e) c.half_width.ensures (held-long s), l.if-frame-width.false)
 
-returns-3 : tie.Need-returns-3
+returns-3 : tie.Need-returns
 returns-3 c =
-    let d = c.before.before in
-    let l = d.before.before.before in
-    let e = l.before in
+    let d = c in
+    let l = d in
+    let e = l.before.before.before.before.before.before in
     let s = from e in
-    handed-with c.hand-back3.ensures _ _
+    handed-with c.hand_back-2.ensures _ _
     (ap₂ (λ (r : Run) (f : List ℤ). (told Done, r, f)) d.close.ensures.0 d.close.ensures.1
-    ∙ ended-done (run s) (out s) (is-sound e) (unfinished e) l.if2.false)
+    ∙ ended-done (run s) (out s) (is-sound e) (unfinished e) l.if-frame-width.false)
 
 pub finish_spec : {M : Type 1} → statement M
 finish_spec =

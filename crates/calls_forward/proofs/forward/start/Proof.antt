@@ -8,19 +8,19 @@ use Rattle.runs.proofs.AskLaws.{handed, start-refused, start-done}
 use Rattle.calls_forward.proofs.forward.start.Statement.{statement}
 use Rattle.calls_forward.proofs.forward.start.Tie as tie
 
-returns : tie.Need-returns
+returns : tie.Need-returns-then-half-eq0
 returns c =
-    let t = c.before.before in
-    handed c.hand-back.ensures _
-    (ap (λ (r : Run). (told Width, r)) c.before.make.ensures
-    ∙ start-refused t.before.before.before.args.width _ t.before.before.nothing-held.ensures (sym t.before.half-width.ensures ∙ t.if1.true))
+    let t = c in
+    handed c.hand_back.ensures _
+    (ap (λ (r : Run). (told Width, r)) c.make.ensures
+    ∙ start-refused t.args.width _ t.nothing_held-held.ensures (sym t.half_width-half.ensures ∙ t.if-half-eq0.true))
 
-returns-2 : tie.Need-returns-2
+returns-2 : tie.Need-returns
 returns-2 c =
-    let e = c.before.before in
-    handed c.hand-back2.ensures _
-    (ap (λ (r : Run). (told Done, r)) c.before.make2.ensures
-    ∙ start-done e.before.before.before.args.width _ e.before.before.nothing-held.ensures (λ h. e.if1.false (e.before.half-width.ensures ∙ h)))
+    let e = c in
+    handed c.hand_back-2.ensures _
+    (ap (λ (r : Run). (told Done, r)) c.make-2.ensures
+    ∙ start-done e.args.width _ e.nothing_held-held.ensures (λ h. e.if-half-eq0.false (e.half_width-half.ensures ∙ h)))
 
 pub start_spec : {M : Type 1} → statement M
 start_spec =

@@ -20,8 +20,8 @@ use Rattle.runs.proofs.AskLaws.{handed-with}
 use Rattle.calls_forward.proofs.forward.take.Statement.{statement}
 use Rattle.calls_forward.proofs.forward.take.Tie as tie
 
-module _ (a : tie.After-take) where
-  abbrev read : tie.After-struct-told
+module _ (a : tie.After-take-answer) where
+  abbrev read : tie.After-struct_told-1
   read = a.before.before.before
 
   abbrev start : tie.Start
@@ -38,27 +38,27 @@ module _ (a : tie.After-take) where
 
   -- the total, lent by its bits
   total-is : to_z w64 (of_z w64 run.total) ≡ run.total
-  total-is = (held-ok w64 _ read.struct_told.given.1.1.1.1.0.1).is
+  total-is = (held-ok w64 _ read.struct_told-1.given.1.1.1.1.0.1).is
 
   abbrev after : Run
-  after = record_of run.width (next_count (told a.take.result).0 run.count) a.take.last.1.1.1.1.0 run.finished (next_total (told a.take.result).0 run.total block)
+  after = record_of run.width (next_count (told a.take-answer.result).0 run.count) a.take-answer.new.held run.finished (next_total (told a.take-answer.result).0 run.total block)
 
-  given : (told a.take.result, after, a.take.last.1.1.1.1.1.1.0) ≡ taken run block out
-  given = rw total-is at a.take.ensures
+  given : (told a.take-answer.result, after, a.take-answer.new.frame) ≡ taken run block out
+  given = rw total-is at a.take-answer.ensures
 
-  module _ (z : (told a.take.result).0 ≡ 0) where
+  module _ (z : (told a.take-answer.result).0 ≡ 0) where
     worked : (taken run block out).0.0 ≡ 0
     worked = ap (λ (g : CallResult). g.0.0) (sym given) ∙ z
 
-    fits : nat_abs (next_total (told a.take.result).0 run.total block) ≤ total_limit
+    fits : nat_abs (next_total (told a.take-answer.result).0 run.total block) ≤ total_limit
     fits = subst (λ (g : CallResult). nat_abs g.1.total ≤ total_limit) (sym given) (forward-fits run block out worked)
 
-next-total-requires : tie.Need-next-total-requires
+next-total-requires : tie.Need-next_total-total-requires
 next-total-requires c κs z =
     let a = c.before.before in
     (forward-long (run a) (block a) (out a) (worked a z), rw (total-is a, total-raised _ (run a).total (block a) z) (fits a z))
 
-after-take-requires : tie.Need-after-take-requires
+after-take-requires : tie.Need-after_take-requires
 unfolding taken
 after-take-requires c κs z =
     let a = c.before.before.before in
@@ -66,17 +66,17 @@ after-take-requires c κs z =
     omega arith
 
 -- the total after it, by its bits
-total-then : (n : tie.After-next-total) → let a = n.before.before.before in to_z w64 (of_z w64 n.next-total.result) ≡ next_total (told a.take.result).0 (run a).total (block a)
-total-then n = let a = n.before.before.before in (held-ok w64 _ n.next-total.type-inv).is ∙ (rw (total-is a) at n.next-total.ensures)
+total-then : (n : tie.After-next_total-total) → let a = n.before.before.before in to_z w64 (of_z w64 n.next_total-total.result) ≡ next_total (told a.take-answer.result).0 (run a).total (block a)
+total-then n = let a = n.before.before.before in (held-ok w64 _ n.next_total-total.type_inv).is ∙ (rw (total-is a) at n.next_total-total.ensures)
 
 returns : tie.Need-returns
 returns c =
     let n = c.before in
     let a = n.before.before.before in
-    let held = a.take.new.1.1.1.1.0 in
-    let frame = a.take.new.1.1.1.1.1.1.0 in
-    handed-with c.after-take.ensures frame _
-    (ap (λ (t : ℤ). (told a.take.result, record_of (run a).width (next_count (told a.take.result).0 (run a).count) held (run a).finished t, frame)) (total-then n)
+    let held = a.take-answer.new.held in
+    let frame = a.take-answer.new.frame in
+    handed-with c.after_take.ensures frame _
+    (ap (λ (t : ℤ). (told a.take-answer.result, record_of (run a).width (next_count (told a.take-answer.result).0 (run a).count) held (run a).finished t, frame)) (total-then n)
     ∙ given a)
 
 pub take_spec : {M : Type 1} → statement M

@@ -46,19 +46,19 @@ module _ (s : tie.Start) where
   next = taken_in run block out
 
 -- the total is lent by its bits
-admitted-by : (a : tie.After-admitted) → let s = a.before.before in Admitted block_limit (run s) (length (block s)) (length (out s)) a.admitted.result
-admitted-by a = let s = a.before.before in rw (held w64 _ s.ranges.total).is at a.admitted.ensures
+admitted-by : (a : tie.After-admitted-asked) → let s = a.before in Admitted block_limit (run s) (length (block s)) (length (out s)) a.admitted-asked.result
+admitted-by a = let s = a in rw (held w64 _ s.ranges.total).is at a.admitted-asked.ensures
 
 -- questions 2 to 7 are passed
-module _ (l : tie.Else1) where
-  abbrev asked : tie.After-admitted
+module _ (l : tie.Else-number-ne0) where
+  abbrev asked : tie.After-admitted-asked
   asked = l.before.before
 
   abbrev from : tie.Start
-  from = asked.before.before
+  from = asked.before
 
-  none : (told asked.admitted.result).0 ≡ 0
-  none = sym l.before.number.ensures ∙ l.if1.left
+  none : (told asked.admitted-asked.result).0 ≡ 0
+  none = sym l.number.ensures ∙ l.if-number-ne0.false
 
   unfinished : from.args.finished ≡ false
   unfinished = admitted-open (admitted-by asked) none
@@ -70,22 +70,22 @@ module _ (l : tie.Else1) where
   frame-long = admitted-room (admitted-by asked) none
 
   ready : (half : ℕ) → half ≡ half_width from.args.width → Ready (run from) half
-  ready half h = passed block_limit (omega arith) (run from) half (admitted-sound (admitted-by asked) none) h from.pre
+  ready half h = passed block_limit (omega arith) (run from) half (admitted-sound (admitted-by asked) none) h from.requires
 
   taken_is : next from ≡ taken (run from) (block from) (out from)
   unfolding taken
   taken_is = admitted-passed (admitted-by asked) (block from) (out from) (next from) refl refl none
 
 -- and 8 and 9
-module _ (n : tie.After-enum-told) where
-  abbrev passing : tie.Else1
-  passing = n.before.before.before
+module _ (n : tie.In-Clear) where
+  abbrev passing : tie.Else-number-ne0
+  passing = n.before.before
 
   abbrev half : ℕ
   half = (from passing).args.width / 2
 
   clear : fault_of (block (from passing)) ≡ Clear
-  clear = sym n.before.before.fault-of.ensures ∙ n.enum_told.given.1
+  clear = sym n.fault_of-fault.ensures ∙ n.in-Clear.is
 
   wide : 0 < half_width (from passing).args.width
   wide = (ready passing _ refl).wide
@@ -94,31 +94,31 @@ module _ (n : tie.After-enum-told) where
   set = ready passing half (half_is (from passing).args.width wide)
 
   half_le : half ≤ length (from passing).args.held.now
-  half_le = half_room (from passing).args.width half (from passing).args.held.now set.half_is (from passing).pre
+  half_le = half_room (from passing).args.width half (from passing).args.held.now set.half_is (from passing).requires
 
-returns : tie.Need-returns
+returns : tie.Need-returns-then-number-ne0
 unfolding taken
 returns c =
-    let n = c.before in
-    let a = n.before in
-    let s = a.before.before in
-    admitted-refused (admitted-by a) (block s) (out s) (next s) refl refl (block s) (λ z. c.if1.true (n.number.ensures ∙ z))
+    let n = c in
+    let a = n.before.before in
+    let s = a.before in
+    admitted-refused (admitted-by a) (block s) (out s) (next s) refl refl (block s) (λ z. c.if-number-ne0.true (n.number.ensures ∙ z))
 
-fault-of-requires : tie.Need-fault-of-requires
+fault-of-requires : tie.Need-fault_of-fault-requires
 fault-of-requires c κs =
     let w = (ready c _ refl).wide in
     (omega (arith, block-long c, width-le (from c).args.width w), omega (arith, block-long c, width-in-fours (from c).args.width w))
 
-enum_told : tie.Need-enum-told
+enum_told : tie.Need-enum_told-1
 enum_told c = search rules
 
-slice-relend-prefix-step-in : tie.Need-slice-relend-prefix-step-in
+slice-relend-prefix-step-in : tie.Need-slice_bounds-step_in-end
 slice-relend-prefix-step-in c = half_le c
 
-slice-aggregate-step-in : tie.Need-slice-aggregate-step-in
+slice-aggregate-step-in : tie.Need-slice_bounds-step_in-end-in-Clear
 slice-aggregate-step-in c = let n = c.before in part-long _ (from (passing n)).args.held.now (half_le n)
 
-step-in-requires : tie.Need-step-in-requires
+step-in-requires : tie.Need-step_in-requires
 step-in-requires c κs =
     let n = c.before.before in
     let l = passing n in
@@ -130,19 +130,19 @@ step-in-requires c κs =
       ),
     )
 
-returns-2 : tie.Need-returns-2
+returns-2 : tie.Need-returns-in-Dead
 unfolding told next_count next_total
-returns-2 c = let f = c.before.before.before in let s = from f.before in dead-refused (run s) (block s) (out s) _ (sym f.fault-of.ensures ∙ c.before.fault.given.1) ∙ taken_is f.before
+returns-2 c = let f = c in let s = from f.before.before in dead-refused (run s) (block s) (out s) _ (sym f.fault_of-fault.ensures ∙ c.in-Dead.is) ∙ taken_is f.before.before
 
-returns-3 : tie.Need-returns-3
+returns-3 : tie.Need-returns-in-Beyond
 unfolding told next_count next_total
-returns-3 c = let f = c.before.before.before in let s = from f.before in range-refused (run s) (block s) (out s) _ (sym f.fault-of.ensures ∙ c.before.fault2.given.1) ∙ taken_is f.before
+returns-3 c = let f = c in let s = from f.before.before in range-refused (run s) (block s) (out s) _ (sym f.fault_of-fault.ensures ∙ c.in-Beyond.is) ∙ taken_is f.before.before
 
-returns-4 : tie.Need-returns-4
+returns-4 : tie.Need-returns-in-Clear
 unfolding told next_count next_total
 returns-4 c =
-    let t = c.before.before in
-    let n = t.before.before.before in
+    let t = c in
+    let n = t.before.before.before.before.before in
     let l = passing n in
     let s = from l in
     ap₂ (λ (r : Run) (f : List ℤ). (told Done, r, f))

@@ -5,14 +5,14 @@ use lib.ListN.{length}
 use Rattle.cases.proofs.call.repeated.Statement.{statement}
 use Rattle.cases.proofs.call.repeated.Tie as tie
 
-abbrev invariant-loop : tie.invariant-loop
+abbrev invariant-loop : tie.invariant-loop-left
 invariant-loop kind times input output₀ given₀ left₀ output given left = length output ≡ length output₀
 
-abbrev decreases-loop : tie.decreases-loop
+abbrev decreases-loop : tie.decreases-loop-left
 decreases-loop kind times input output₀ given₀ left₀ output given left = left
 
-pub repeated-spec : {M : Type 1} → statement M
-repeated-spec =
+pub repeated_spec : {M : Type 1} → statement M
+repeated_spec =
     tie.close
     (tie.spec
     invariant-loop

@@ -4,14 +4,14 @@ use Prim.Native.Nat.{◌-◌}
 use Rattle.cases.proofs.case.same_held.Statement.{statement}
 use Rattle.cases.proofs.case.same_held.Tie as tie
 
-abbrev invariant-loop : tie.invariant-loop
+abbrev invariant-loop : tie.invariant-loop-i
 invariant-loop x y i₀ i = Unit {0}
 
-abbrev decreases-loop : tie.decreases-loop
+abbrev decreases-loop : tie.decreases-loop-i
 decreases-loop x y i₀ i = 64 - i
 
-pub same-held-spec : {M : Type 1} → statement M
-same-held-spec =
+pub same_held_spec : {M : Type 1} → statement M
+same_held_spec =
     tie.close
     (tie.spec
     invariant-loop

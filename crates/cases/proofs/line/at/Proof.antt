@@ -6,11 +6,11 @@ use Rattle.integers.proofs.Held.{asks-wide}
 use Rattle.cases.proofs.line.at.Statement.{statement}
 use Rattle.cases.proofs.line.at.Tie as tie
 
-cast-size : tie.Need-overflow-cast-size
-cast-size c = let s = c.before.before.args in asks-wide (get_or s.x.now s.i (pos 0)) c.size-arg.given
+cast-size : tie.Need-overflow_cast-x
+cast-size c = let s = c.args in asks-wide (get_or s.x.now s.i (pos 0)) c.size-arg-1.given
 
-pub at-spec : {M : Type 1} → statement M
-at-spec =
+pub at_spec : {M : Type 1} → statement M
+at_spec =
     tie.close
     (tie.spec
     (λ c. search rules)

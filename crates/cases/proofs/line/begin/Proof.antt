@@ -5,14 +5,14 @@ use lib.ListN.{length}
 use Rattle.cases.proofs.line.begin.Statement.{statement}
 use Rattle.cases.proofs.line.begin.Tie as tie
 
-abbrev invariant-loop : tie.invariant-loop
+abbrev invariant-loop : tie.invariant-loop-left
 invariant-loop text n byte at₀ left₀ at left = at ≤ length text
 
-abbrev decreases-loop : tie.decreases-loop
+abbrev decreases-loop : tie.decreases-loop-left
 decreases-loop text n byte at₀ left₀ at left = left
 
-pub begin-spec : {M : Type 1} → statement M
-begin-spec =
+pub begin_spec : {M : Type 1} → statement M
+begin_spec =
     tie.close
     (tie.spec
     invariant-loop

@@ -6,14 +6,14 @@ use Rattle.text_runs.proofs.UpToLaws.{part_length}
 use Rattle.cases.proofs.line.end.Statement.{statement}
 use Rattle.cases.proofs.line.end.Tie as tie
 
-end-of-requires : tie.Need-end-of-requires
+end-of-requires : tie.Need-end_of-requires
 end-of-requires c κs = search rules
 
 returns : tie.Need-returns
 returns c =
-    let text = c.before.before.args.text.now in
-    let rest = drop c.before.before.args.from text in
-    omega (arith, c.end_of_lem.ensures, part_length c.before.before.args.byte rest, length-drop c.before.before.args.from text)
+    let text = c.args.text.now in
+    let rest = drop c.args.from text in
+    omega (arith, c.end_of.ensures, part_length c.args.byte rest, length-drop c.args.from text)
 
-pub end-spec : {M : Type 1} → statement M
-end-spec = tie.close (tie.spec end-of-requires returns)
+pub end_spec : {M : Type 1} → statement M
+end_spec = tie.close (tie.spec end-of-requires returns)

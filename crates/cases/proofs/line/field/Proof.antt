@@ -5,14 +5,14 @@ use Rattle.decimal.proofs.FieldsRead.{asks-narrow}
 use Rattle.cases.proofs.line.field.Statement.{statement}
 use Rattle.cases.proofs.line.field.Tie as tie
 
-cast-fill : tie.Need-overflow-cast-fill
+cast-fill : tie.Need-overflow_cast-x
 cast-fill c =
-    let known = c.before.before in
-    let found = known.before in
-    asks-narrow _ _ known.known-told.given.0.1 (sym found.before.before.number.ensures ∙ found.found.given.1)
+    let known = c in
+    let found = known in
+    asks-narrow _ _ known.known_told-1.given.0.1 (sym found.number-found.ensures ∙ found.in-Number.is)
 
-pub field-spec : {M : Type 1} → statement M
-field-spec =
+pub field_spec : {M : Type 1} → statement M
+field_spec =
     tie.close
     (tie.spec
     (λ c κs. search rules)

@@ -7,10 +7,10 @@ use lib.ListN.{length, length-set}
 use Rattle.cases.proofs.line.fill.Statement.{statement}
 use Rattle.cases.proofs.line.fill.Tie as tie
 
-abbrev invariant-loop : tie.invariant-loop
+abbrev invariant-loop : tie.invariant-loop-i
 invariant-loop numbers₀ n times value end i₀ numbers i = (end ≤ length numbers) × (length numbers ≡ length numbers₀)
 
-abbrev decreases-loop : tie.decreases-loop
+abbrev decreases-loop : tie.decreases-loop-i
 decreases-loop numbers₀ n times value end i₀ numbers i = end - i
 
 pub fill_spec : {M : Type 1} → statement M

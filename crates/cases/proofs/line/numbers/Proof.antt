@@ -6,14 +6,14 @@ use lib.ListN.{length}
 use Rattle.cases.proofs.line.numbers.Statement.{statement}
 use Rattle.cases.proofs.line.numbers.Tie as tie
 
-abbrev invariant-loop : tie.invariant-loop
+abbrev invariant-loop : tie.invariant-loop-at
 invariant-loop text from numbers₀ n₀ at₀ numbers n at = (n ≤ length numbers) × (length numbers ≡ length numbers₀)
 
-abbrev decreases-loop : tie.decreases-loop
+abbrev decreases-loop : tie.decreases-loop-at
 decreases-loop text from numbers₀ n₀ at₀ numbers n at = length text + 1 - at
 
-pub numbers-spec : {M : Type 1} → statement M
-numbers-spec =
+pub numbers_spec : {M : Type 1} → statement M
+numbers_spec =
     tie.close
     (tie.spec
     invariant-loop

@@ -4,8 +4,8 @@ use Rattle.integers.proofs.Signs.{asks-usize}
 use Rattle.cases.proofs.line.size.Statement.{statement}
 use Rattle.cases.proofs.line.size.Tie as tie
 
-cast-result : tie.Need-overflow-cast-result
-cast-result c = asks-usize c.before.args.x c.before.ranges.x.sfits c.if1.false
+cast-result : tie.Need-overflow_cast-result
+cast-result c = asks-usize c.args.x c.ranges.x.sfits c.if-x-lt0.false
 
-pub size-spec : {M : Type 1} → statement M
-size-spec = tie.close (tie.spec (λ c. search rules) cast-result (λ c. search rules))
+pub size_spec : {M : Type 1} → statement M
+size_spec = tie.close (tie.spec (λ c. search rules) cast-result (λ c. search rules))

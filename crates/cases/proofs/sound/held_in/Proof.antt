@@ -6,14 +6,14 @@ use lib.ListN.{length}
 use Rattle.cases.proofs.sound.held_in.Statement.{statement}
 use Rattle.cases.proofs.sound.held_in.Tie as tie
 
-abbrev invariant-loop : tie.invariant-loop
+abbrev invariant-loop : tie.invariant-loop-at
 invariant-loop text held₀ at₀ held at = length held ≡ 64
 
-abbrev decreases-loop : tie.decreases-loop
+abbrev decreases-loop : tie.decreases-loop-at
 decreases-loop text held₀ at₀ held at = length text - at
 
-pub held-in-spec : {M : Type 1} → statement M
-held-in-spec =
+pub held_in_spec : {M : Type 1} → statement M
+held_in_spec =
     tie.close
     (tie.spec
     invariant-loop

@@ -8,33 +8,33 @@ use Rattle.tables.proofs.Quadrants.{half-near, half-past}
 use Rattle.constants.proofs.angles.half_turn.Statement.{statement}
 use Rattle.constants.proofs.angles.half_turn.Tie as tie
 
-mul-within-turn : tie.Need-overflow-mul-within-turn
+mul-within-turn : tie.Need-overflow_mul-quarter
 mul-within-turn c = search rules
 
-within-turn-requires : tie.Need-within-turn-requires
+within-turn-requires : tie.Need-within_turn-part-requires
 within-turn-requires c κs = search rules
 
-mul-if1 : tie.Need-overflow-mul-if1
+mul-if1 : tie.Need-overflow_mul-quarter-2
 mul-if1 c = search rules
 
-returns : tie.Need-returns
+returns : tie.Need-returns-then-part-quarter
 returns c =
-    c.before.within-turn.ensures ∙ sym (half-near c.before.before.args.quarter c.before.before.args.angle (omega (arith, c.if1.true)))
+    c.within_turn-part.ensures ∙ sym (half-near c.args.quarter c.args.angle (omega (arith, c.if-part-quarter.true)))
 
-mul-result : tie.Need-overflow-mul-result
+mul-result : tie.Need-overflow_mul-result
 mul-result c = search rules
 
-sub-result : tie.Need-overflow-sub-result
+sub-result : tie.Need-overflow_sub-result
 sub-result c =
-    let s = c.before.before in
-    omega (arith, c.before.within-turn.ensures, mod-lt s.args.angle {m = 4 * s.args.quarter} (omega (arith, s.requires)))
+    let s = c in
+    omega (arith, c.within_turn-part.ensures, mod-lt s.args.angle {m = 4 * s.args.quarter} (omega (arith, s.requires)))
 
-returns-2 : tie.Need-returns-2
+returns-2 : tie.Need-returns
 returns-2 c =
-    let s = c.before.before in
-    rw c.before.within-turn.ensures (sym (half-past s.args.quarter s.args.angle (omega (arith, c.if1.false))))
+    let s = c in
+    rw c.within_turn-part.ensures (sym (half-past s.args.quarter s.args.angle (omega (arith, c.if-part-quarter.false))))
 
-pub half-turn-spec : {M : Type 1} → statement M
-half-turn-spec =
+pub half_turn_spec : {M : Type 1} → statement M
+half_turn_spec =
     tie.close
     (tie.spec mul-within-turn within-turn-requires mul-if1 returns mul-result sub-result returns-2)

@@ -7,18 +7,18 @@ use Rattle.tables.specs.Angles.{signed}
 use Rattle.constants.proofs.angles.signed.Statement.{statement}
 use Rattle.constants.proofs.angles.signed.Tie as tie
 
-sub-result : tie.Need-overflow-sub-result
-sub-result c = asks-minus (held w64 _ c.before.ranges.x) (minus-small w64 c.before.args.x c.before.requires)
+sub-result : tie.Need-overflow_sub-result
+sub-result c = asks-minus (held w64 _ c.ranges.x) (minus-small w64 c.args.x c.requires)
 
-returns : tie.Need-returns
+returns : tie.Need-returns-then-minus
 unfolding signed
 returns c =
-    (h-minus (held w64 _ c.before.ranges.x) (minus-small w64 c.before.args.x c.before.requires)).is
-    ∙ ap (λ b. signed b c.before.args.x) (sym c.if1.true)
+    (h-minus (held w64 _ c.ranges.x) (minus-small w64 c.args.x c.requires)).is
+    ∙ ap (λ b. signed b c.args.x) (sym c.if-minus.true)
 
-returns-2 : tie.Need-returns-2
+returns-2 : tie.Need-returns
 unfolding signed
-returns-2 c = (held w64 _ c.before.ranges.x).is ∙ ap (λ b. signed b c.before.args.x) (sym c.if1.false)
+returns-2 c = (held w64 _ c.ranges.x).is ∙ ap (λ b. signed b c.args.x) (sym c.if-minus.false)
 
-pub signed-spec : {M : Type 1} → statement M
-signed-spec = tie.close (tie.spec sub-result returns returns-2)
+pub signed_spec : {M : Type 1} → statement M
+signed_spec = tie.close (tie.spec sub-result returns returns-2)

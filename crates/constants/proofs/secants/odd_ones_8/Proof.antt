@@ -7,19 +7,19 @@ use Rattle.tables.specs.Numbers.{secants, secants8}
 use Rattle.constants.proofs.secants.odd_ones_8.Statement.{statement}
 use Rattle.constants.proofs.secants.odd_ones_8.Tie as tie
 
-slice-aggregate-odd-ones : tie.Need-slice-aggregate-odd-ones
-slice-aggregate-odd-ones c = search rules
-
-odd-ones-requires : tie.Need-odd-ones-requires
+odd-ones-requires : tie.Need-odd_ones-requires
 unfolding by_width half_width secants secants8
-odd-ones-requires c κs = (lit< tt, refl, c.before.before.requires)
+odd-ones-requires c κs = (lit< tt, refl, c.requires)
 
-same_length : tie.Need-same-length
+same_length : tie.Need-shape_of-out
 same_length c = search rules
 
 returns : tie.Need-returns
 returns c = search rules
 
-pub odd-ones-8-spec : {M : Type 1} → statement M
-odd-ones-8-spec =
-    tie.close (tie.spec slice-aggregate-odd-ones odd-ones-requires same_length returns)
+pub odd_ones_8_spec : {M : Type 1} → statement M
+odd_ones_8_spec =
+    tie.close (tie.spec
+    odd-ones-requires
+    same_length
+    returns)

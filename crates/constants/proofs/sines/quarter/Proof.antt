@@ -8,5 +8,5 @@ returns : tie.Need-returns
 unfolding sines
 returns c = refl
 
-pub quarter-spec : {M : Type 1} → statement M
-quarter-spec = tie.close (tie.spec returns)
+pub quarter_spec : {M : Type 1} → statement M
+quarter_spec = tie.close (tie.spec returns)

@@ -7,19 +7,19 @@ use Rattle.constants.proofs.TableLaws.{tested-within, half-tangents-minus}
 use Rattle.constants.proofs.tangents.negate_8.Statement.{statement}
 use Rattle.constants.proofs.tangents.negate_8.Tie as tie
 
-slice-aggregate-negate : tie.Need-slice-aggregate-negate
-slice-aggregate-negate c = search rules
-
 negate-requires : tie.Need-negate-requires
 unfolding by_width half_width half_tangents half_tangents8
-negate-requires c κs = (c.before.before.requires, tested-within 268435456 _ tt)
+negate-requires c κs = (c.requires, tested-within 268435456 _ tt)
 
-same_length : tie.Need-same-length
+same_length : tie.Need-shape_of-out
 same_length c = search rules
 
 returns : tie.Need-returns
 unfolding by_width half_tangents half_tangents8
-returns c = let start = c.before.before.before.before in c.before.negate.ensures ∙ half-tangents-minus 8 _ start.requires
+returns c = let start = c in c.negate.ensures ∙ half-tangents-minus 8 _ start.requires
 
-pub negate-8-spec : {M : Type 1} → statement M
-negate-8-spec = tie.close (tie.spec slice-aggregate-negate negate-requires same_length returns)
+pub negate_8_spec : {M : Type 1} → statement M
+negate_8_spec = tie.close (tie.spec
+    negate-requires
+    same_length
+    returns)

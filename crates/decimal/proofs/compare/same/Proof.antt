@@ -8,45 +8,45 @@ use Rattle.decimal.proofs.CompareLaws.{same_length, same_next, same_differs, sam
 use Rattle.decimal.proofs.compare.same.Statement.{statement}
 use Rattle.decimal.proofs.compare.same.Tie as tie
 
-abbrev invariant-loop : tie.invariant-loop
+abbrev invariant-loop : tie.invariant-loop-i
 invariant-loop x y i₀ i = (i ≤ length x) × (Lines.same x y ≡ Lines.same (drop i x) (drop i y))
 
-abbrev decreases-loop : tie.decreases-loop
+abbrev decreases-loop : tie.decreases-loop-i
 decreases-loop x y i₀ i = length x - i
 
-returns : tie.Need-returns invariant-loop decreases-loop
-returns c = sym (same_length _ _ c.if1.true)
+returns : tie.Need-returns-then-x-y invariant-loop decreases-loop
+returns c = sym (same_length _ _ c.if-x-y.true)
 
-loop-holds : tie.Need-loop-init invariant-loop decreases-loop
+loop-holds : tie.Need-loop-i-init invariant-loop decreases-loop
 loop-holds c = (omega arith, refl)
 
-shared-slice-read-if2 : tie.Need-shared-slice-read-if2 invariant-loop decreases-loop
+shared-slice-read-if2 : tie.Need-bounds-x-i invariant-loop decreases-loop
 shared-slice-read-if2 c = omega arith
 
-shared-slice-read-if2-2 : tie.Need-shared-slice-read-if2-2 invariant-loop decreases-loop
+shared-slice-read-if2-2 : tie.Need-bounds-y-i invariant-loop decreases-loop
 shared-slice-read-if2-2 c = omega arith
 
-returns-2 : tie.Need-returns-2 invariant-loop decreases-loop
+returns-2 : tie.Need-returns-then-x-i invariant-loop decreases-loop
 returns-2 c =
-    let k = c.before.before.before.before in
-    sym (k.loop.invariant.1 ∙ same_differs _ _ k.loop.i (omega arith) (omega arith) c.if2.true)
+    let k = c in
+    sym (k.loop-i.invariant.1 ∙ same_differs _ _ k.loop-i.i (omega arith) (omega arith) c.if-x-i.true)
 
-add-i : tie.Need-overflow-add-i invariant-loop decreases-loop
+add-i : tie.Need-overflow_add-i invariant-loop decreases-loop
 add-i c = omega arith
 
-loop-less : tie.Need-loop-smaller invariant-loop decreases-loop
+loop-less : tie.Need-loop-i-smaller invariant-loop decreases-loop
 loop-less c = omega arith
 
-loop-again : tie.Need-loop-preserved invariant-loop decreases-loop
+loop-again : tie.Need-loop-i-preserved invariant-loop decreases-loop
 loop-again c =
-    let k = c.before.before.before.before in
-    (omega arith, k.loop.invariant.1 ∙ same_next _ _ k.loop.i (omega arith) (omega arith) c.if2.false)
+    let k = c in
+    (omega arith, k.loop-i.invariant.1 ∙ same_next _ _ k.loop-i.i (omega arith) (omega arith) c.if-x-i.false)
 
-returns-3 : tie.Need-returns-3 invariant-loop decreases-loop
+returns-3 : tie.Need-returns invariant-loop decreases-loop
 returns-3 c =
-    let k = c.before in
-    let e : k.loop.i ≡ length k.before.before.args.x.now = omega arith in
-    sym (k.loop.invariant.1 ∙ same_ends _ _ _ e (omega arith))
+    let k = c in
+    let e : k.loop-i.i ≡ length k.args.x.now = omega arith in
+    sym (k.loop-i.invariant.1 ∙ same_ends _ _ _ e (omega arith))
 
 pub same_spec : {M : Type 1} → statement M
 same_spec =

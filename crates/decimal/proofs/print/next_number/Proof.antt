@@ -9,26 +9,27 @@ use Rattle.decimal.proofs.PutLaws.{put_then, put_as}
 use Rattle.decimal.proofs.print.next_number.Statement.{statement}
 use Rattle.decimal.proofs.print.next_number.Tie as tie
 
-slice-aggregate-bytes : tie.Need-slice-aggregate-bytes
-slice-aggregate-bytes c = search rules
-
-bytes-requires : tie.Need-bytes-requires
+bytes-requires : tie.Need-bytes-n-requires
 bytes-requires c κs = search rules
 
 number-requires : tie.Need-number-requires
-number-requires c κs = omega (arith, c.before.before.before.bytes.ensures.count)
+number-requires c κs = omega (arith, c.bytes-n.ensures.count)
 
-same_length : tie.Need-same-length
-same_length c = let at_out = c.before.before.before.before.before in c.before.out2.given ∙ at_out.out.given
+same_length : tie.Need-shape_of-out
+same_length c = let at_out = c in c.out-2-1.given ∙ at_out.out-1.given
 
 returns : tie.Need-returns
 returns c =
-    let at-bytes = c.before.before.before.before.before.before in
-    let s = at-bytes.before.before.before.before in
-    let p = at-bytes.bytes.ensures in
-    let q = c.before.before.number.ensures in
+    let at-bytes = c in
+    let s = at-bytes in
+    let p = at-bytes.bytes-n.ensures in
+    let q = c.number.ensures in
     (put_then p (put_as _ _ _ _ (ap printed (held-ok w32 s.args.x s.ranges.x.sfits).is) q.0), omega (arith, p.count, q.1))
 
-pub next-number-spec : {M : Type 1} → statement M
-next-number-spec =
-    tie.close (tie.spec slice-aggregate-bytes bytes-requires number-requires same_length returns)
+pub next_number_spec : {M : Type 1} → statement M
+next_number_spec =
+    tie.close (tie.spec
+    bytes-requires
+    number-requires
+    same_length
+    returns)

@@ -17,22 +17,22 @@ module _ (s : tie.Start) where
   text = ap printed (h-wide s.args.x s.ranges.x.sfits).is
 
   long : length (printed s.args.x) ≤ 11
-  long = printed-length s.args.x (mag-fits least32 s.args.x s.fits.x.sfits)
+  long = printed-length s.args.x (mag-fits least32 s.args.x s.ranges.x.sfits)
 
-cast_signed : tie.Need-overflow-cast-signed
-cast_signed c = let s = c.before.before in asks-wide s.args.x s.ranges.x.sfits
+cast_signed : tie.Need-overflow_cast-x
+cast_signed c = let s = c in asks-wide s.args.x s.ranges.x.sfits
 
 signed-requires : tie.Need-signed-requires
 signed-requires c κs = let s = c.before.before in omega (arith, ap length (text s), long s, s.requires)
 
-same_length : tie.Need-same-length
-same_length c = c.before.out.given
+same_length : tie.Need-shape_of-out
+same_length c = c.out-1.given
 
 returns : tie.Need-returns
 returns c =
-    let at-signed = c.before.before in
-    let s = at-signed.before.before.before in
+    let at-signed = c in
+    let s = at-signed.before.before.before.before.before in
     (put_as _ _ _ _ (text s) at-signed.signed.ensures, omega (arith, at-signed.signed.ensures.count, ap length (text s), long s))
 
-pub number-spec : {M : Type 1} → statement M
-number-spec = tie.close (tie.spec cast_signed signed-requires same_length returns)
+pub number_spec : {M : Type 1} → statement M
+number_spec = tie.close (tie.spec cast_signed signed-requires same_length returns)

@@ -27,18 +27,18 @@ module _ (s : tie.Start) where
   x = s.args.x
 
   size : nat_abs x ≤ 2 ^ 63
-  size = nat_abs-le x s.fits.x.sfits
+  size = nat_abs-le x s.ranges.x.sfits
 
 -- x is below zero
-module _ (t : tie.Then1) where
+module _ (t : tie.Then-x-lt0) where
   abbrev start : tie.Start
   start = t.before.before
 
   below : lt_z (x start) (pos 0) ≡ true
-  below = sign-told (x start) start.fits.x.sfits t.if1.taken
+  below = sign-told (x start) start.ranges.x.sfits t.if-x-lt0.true
 
   turned : Held w64 (of_z w64 (negsuc 0 -ℤ to_z w64 (of_z w64 (x start)))) (negsuc 0 -ℤ x start)
-  turned = h-sub last (held w64 (x start) start.fits.x) (turned-fits w64 (x start) start.fits.x below)
+  turned = h-sub last (held w64 (x start) start.ranges.x) (turned-fits w64 (x start) start.ranges.x below)
 
   turned-natural : nat_abs (to_z w64 (of_z w64 (negsuc 0 -ℤ to_z w64 (of_z w64 (x start))))) + 1 ≡ nat_abs (x start)
   turned-natural = ap (λ (z : ℤ). nat_abs z + 1) turned.is ∙ turned-size (x start) below
@@ -46,65 +46,61 @@ module _ (t : tie.Then1) where
   text : 45 ∷ decimal (nat_abs (to_z w64 (of_z w64 (negsuc 0 -ℤ to_z w64 (of_z w64 (x start))))) + 1) ≡ printed (x start)
   text = ap (λ (n : ℕ). 45 ∷ decimal n) turned-natural ∙ printed-below (x start) below
 
-module _ (e : tie.Else1) where
+module _ (e : tie.Else-x-lt0) where
   abbrev begin : tie.Start
   begin = e.before.before
 
   text-from : decimal (nat_abs (to_z w64 (of_z w64 (x begin)))) ≡ printed (x begin)
-  text-from = ap decimal (usize-is (x begin) begin.fits.x.sfits) ∙ printed-from (x begin) (sign-told (x begin) begin.fits.x.sfits e.if1.left)
+  text-from = ap decimal (usize-is (x begin) begin.ranges.x.sfits) ∙ printed-from (x begin) (sign-told (x begin) begin.ranges.x.sfits e.if-x-lt0.false)
 
-slice-aggregate-bytes : tie.Need-slice-aggregate-bytes
-slice-aggregate-bytes c = search rules
+bytes-requires : tie.Need-bytes-n-requires
+bytes-requires c κs = let t = c.before.before.before in omega (arith, ap length (text t), (start t).requires)
 
-bytes-requires : tie.Need-bytes-requires
-bytes-requires c κs = let t = c.before.before in omega (arith, ap length (text t), (start t).requires)
-
-sub-natural : tie.Need-overflow-sub-natural
+sub-natural : tie.Need-overflow_sub-x
 sub-natural c =
-    let t = c.before.before.before.before.before.before in
-    asks-sub last (held w64 (x (start t)) (start t).ranges.x) (turned t).ranges
+    let t = c.before.before.before.before.before.before.before in
+    asks-sub last (held w64 (x (start t)) (start t).ranges.x) (turned t).fits
 
-cast-natural : tie.Need-overflow-cast-natural
+cast-natural : tie.Need-overflow_cast-x
 cast-natural c =
-    let t = c.before.before.before.before.before.before in
+    let t = c.before.before.before.before.before.before.before in
     asks-nat w64 (turned t) (turned-from (x (start t)) (below t)) (omega (arith, size (start t), turned-size (x (start t)) (below t)))
 
-add-natural : tie.Need-overflow-add-natural
+add-natural : tie.Need-overflow_add-x
 add-natural c =
-    let t = c.before.before.before.before.before.before in
+    let t = c.before.before.before.before.before.before.before in
     record { fits = omega (arith, turned-natural t, size (start t)) }
 
 natural-requires : tie.Need-natural-requires
 natural-requires c κs =
-    let at-bytes = c.before.before.before in
-    let t = at-bytes.before.before.before in
-    omega (arith, at-bytes.bytes.ensures.count, ap length (text t), (start t).requires)
+    let at-bytes = c in
+    let t = at-bytes.before.before.before.before.before.before.before in
+    omega (arith, at-bytes.bytes-n.ensures.count, ap length (text t), (start t).requires)
 
-same_length : tie.Need-same-length
+same_length : tie.Need-shape_of-out-then-x-lt0
 same_length c = search rules
 
-returns : tie.Need-returns
+returns : tie.Need-returns-then-x-lt0
 returns c =
-    let at-bytes = c.before.before.before.before.before.before in
-    put_as _ _ _ _ (text at-bytes.before.before.before) (put_then at-bytes.bytes.ensures c.before.before.natural.ensures)
+    let at-bytes = c in
+    put_as _ _ _ _ (text at-bytes.before.before.before.before.before.before.before.before.before.before) (put_then at-bytes.bytes-n.ensures c.natural.ensures)
 
-cast-natural-2 : tie.Need-overflow-cast-natural-2
-cast-natural-2 c = let s = begin c.before in asks-usize (x s) s.fits.x.sfits c.before.if1.false
+cast-natural-2 : tie.Need-overflow_cast-x-2
+cast-natural-2 c = let s = begin c.before in asks-usize (x s) s.ranges.x.sfits c.if-x-lt0.false
 
 natural-requires-2 : tie.Need-natural-requires-2
 natural-requires-2 c κs = let e = c.before in omega (arith, ap length (text-from e), (begin e).requires)
 
-same-length-2 : tie.Need-same-length-2
+same-length-2 : tie.Need-shape_of-out
 same-length-2 c = search rules
 
-returns-2 : tie.Need-returns-2
-returns-2 c = put_as _ _ _ _ (text-from c.before.before.before.before) c.before.before.natural2.ensures
+returns-2 : tie.Need-returns
+returns-2 c = put_as _ _ _ _ (text-from c.before.before.before.before) c.natural-2.ensures
 
-pub signed-spec : {M : Type 1} → statement M
-signed-spec =
+pub signed_spec : {M : Type 1} → statement M
+signed_spec =
     tie.close
     (tie.spec
-    slice-aggregate-bytes
     bytes-requires
     sub-natural
     cast-natural

@@ -10,32 +10,31 @@ use Rattle.decimal.proofs.EndRead.{end_short, end-other, end-tagged}
 use Rattle.decimal.proofs.read.end_total.Statement.{statement}
 use Rattle.decimal.proofs.read.end_total.Tie as tie
 
-returns : tie.Need-returns
+returns : tie.Need-returns-then-line-lt4
 returns c = sym (end_short _ _ (omega arith))
 
-slice-aggregate-same : tie.Need-slice-aggregate-same
-slice-aggregate-same c = sym (length-take-le 4 c.before.before.before.args.line.now (omega arith))
+slice-aggregate-same : tie.Need-slice_bounds-same-end
+slice-aggregate-same c = sym (length-take-le 4 c.args.line.now (omega arith))
 
-returns-2 : tie.Need-returns-2
+returns-2 : tie.Need-returns-then-not-same
 unfolding end_tag
-returns-2 c = sym (end-other _ _ (sym c.before.same.ensures ∙ not-true _ c.if2.true))
+returns-2 c = sym (end-other _ _ (sym c.same.ensures ∙ not-true _ c.if-not-same.true))
 
-returns-3 : tie.Need-returns-3
+returns-3 : tie.Need-returns
 unfolding end_tag
 returns-3 c =
-    let t = c.before.before.before in
-    let s = t.before.before.before.before.before.args in
-    c.count-and-total.ensures
+    let t = c in
+    let s = t.args in
+    c.count_and_total.ensures
     ∙ ap (λ bs. count_and_total s.count (fields bs)) (rest_part 4 s.line.now)
-    ∙ sym (end-tagged s.count s.line.now (sym t.same.ensures ∙ not-false _ c.before.before.if2.false))
+    ∙ sym (end-tagged s.count s.line.now (sym t.same.ensures ∙ not-false _ c.if-not-same.false))
 
-pub end-total-spec : {M : Type 1} → statement M
-end-total-spec =
+pub end_total_spec : {M : Type 1} → statement M
+end_total_spec =
     tie.close
     (tie.spec
     returns
     slice-aggregate-same
-    (λ c. search rules)
     (λ c κs. search rules)
     returns-2
     (λ c. search rules)

@@ -13,41 +13,41 @@ use Rattle.decimal.proofs.read.is_count.Statement.{statement}
 use Rattle.decimal.proofs.read.is_count.Tie as tie
 
 -- the number that was read
-module _ (k : tie.After-known-told) where
-  abbrev read : tie.After-number
-  read = k.before.before.before
+module _ (k : tie.In-Number) where
+  abbrev read : tie.After-number-found
+  read = k.before
 
   abbrev count : ℕ
-  count = read.before.before.args.count
+  count = read.args.count
 
   abbrev x : ℤ
-  x = k.before.found.given.0.0
+  x = k.in-Number.n
 
-  seen : number_in read.before.before.args.field.now ≡ Field.Number x
-  seen = sym read.number.ensures ∙ k.before.found.given.1
+  seen : number_in read.args.field.now ≡ Field.Number x
+  seen = sym read.number-found.ensures ∙ k.in-Number.is
 
-returns : tie.Need-returns
+returns : tie.Need-returns-in_default
 unfolding is_count
 returns c =
-    let at-number = c.before.before in
-    sym (ap (is_count at-number.before.before.args.count) (sym at-number.number.ensures ∙ c.enum_told.given.1))
+    let at-number = c in
+    sym (ap (is_count at-number.args.count) (sym at-number.number-found.ensures ∙ c.in_default.is))
 
-returns-2 : tie.Need-returns-2
+returns-2 : tie.Need-returns-then-n-lt0
 returns-2 c =
     let k = c.before in
-    sym (ap (is_count (count k)) (seen k) ∙ count-below (count k) (x k) (sign-told (x k) k.known-told.given.0.1 c.if1.true))
+    sym (ap (is_count (count k)) (seen k) ∙ count-below (count k) (x k) (sign-told (x k) k.known_told-1.given.0.1 c.if-n-lt0.true))
 
-cast-said : tie.Need-overflow-cast-said
-cast-said c = asks-usize (x c.before) c.before.known-told.given.0.1 c.if1.false
+cast-said : tie.Need-overflow_cast-said
+cast-said c = asks-usize (x c.before) c.known_told-1.given.0.1 c.if-n-lt0.false
 
-returns-3 : tie.Need-returns-3
+returns-3 : tie.Need-returns
 returns-3 c =
     let k = c.before in
-    let fits = k.known-told.given.0.1 in
-    ap (λ (n : ℕ). eqb n (count k)) (usize-is (x k) fits) ∙ sym (ap (is_count (count k)) (seen k) ∙ count-from (count k) (x k) (sign-told (x k) fits c.if1.false))
+    let fits = k.known_told-1.given.0.1 in
+    ap (λ (n : ℕ). eqb n (count k)) (usize-is (x k) fits) ∙ sym (ap (is_count (count k)) (seen k) ∙ count-from (count k) (x k) (sign-told (x k) fits c.if-n-lt0.false))
 
-pub is-count-spec : {M : Type 1} → statement M
-is-count-spec =
+pub is_count_spec : {M : Type 1} → statement M
+is_count_spec =
     tie.close
     (tie.spec
     (λ c κs. search rules)

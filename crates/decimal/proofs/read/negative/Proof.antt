@@ -17,47 +17,47 @@ last : Held w64 (of_z w64 (negsuc 0)) (negsuc 0)
 last = held w64 (negsuc 0) (search rules)
 
 -- the size, which is not zero
-module _ (e : tie.Else1) where
+module _ (e : tie.Else-n-eq0) where
   abbrev size : ℕ
-  size = e.before.before.size.given.0.0
+  size = e.in-Of.n
 
   small : size ≤ least64
-  small = let start = e.before.before.before.before in size-within start.pre e.before.before.size.given.1
+  small = let start = e in size-within start.requires e.in-Of.is
 
   less-small : size - 1 < 2 ^ 63
-  less-small = let z = e.if1.left in omega (arith, small, z)
+  less-small = let z = e.if-n-eq0.false in omega (arith, small, z)
 
   less : Held w64 (size - 1) (pos (size - 1))
   less = held-ok w64 (pos (size - 1)) less-small
 
   fits : SFits w64 (negsuc 0 -ℤ pos (size - 1))
-  fits = below-fits size small e.if1.left
+  fits = below-fits size small e.if-n-eq0.false
 
-enum-known-size : tie.Need-enum-known-size
+enum-known-size : tie.Need-enum_known-size
 enum-known-size c = search rules
 
-returns : tie.Need-returns
-returns c = minus-zero c.before.before.size.given.1 c.if1.true
+returns : tie.Need-returns-then-n-eq0
+returns c = minus-zero c.in-Of.is c.if-n-eq0.true
 
-sub-t5 : tie.Need-overflow-sub-t5
-sub-t5 c = let z = c.if1.false in omega (arith, z)
+sub-t5 : tie.Need-overflow_sub-result
+sub-t5 c = let z = c.if-n-eq0.false in omega (arith, z)
 
-cast-t6 : tie.Need-overflow-cast-t6
+cast-t6 : tie.Need-overflow_cast-result
 cast-t6 c = record { sfits = less-small c }
 
-sub-t7 : tie.Need-overflow-sub-t7
+sub-t7 : tie.Need-overflow_sub-result-in-Of
 sub-t7 c = asks-sub last (less c) (fits c)
 
-enum_told : tie.Need-enum-told
+enum_told : tie.Need-enum_told-1
 enum_told c = search rules
 
-returns-2 : tie.Need-returns-2
-returns-2 c = ap Field.Number ((h-sub last (less c) (fits c)).is ∙ less-than (size c) c.if1.false) ∙ minus-of (size c) c.before.before.size.given.1 c.if1.false
+returns-2 : tie.Need-returns-else-n-eq0
+returns-2 c = ap Field.Number ((h-sub last (less c) (fits c)).is ∙ less-than (size c) c.if-n-eq0.false) ∙ minus-of (size c) c.in-Of.is c.if-n-eq0.false
 
-returns-3 : tie.Need-returns-3
-returns-3 c = minus-bad c.enum_told.given.1
+returns-3 : tie.Need-returns-in-Bad
+returns-3 c = minus-bad c.in-Bad.is
 
-pub negative-spec : {M : Type 1} → statement M
-negative-spec =
+pub negative_spec : {M : Type 1} → statement M
+negative_spec =
     tie.close
     (tie.spec enum-known-size returns sub-t5 cast-t6 sub-t7 enum_told returns-2 returns-3)

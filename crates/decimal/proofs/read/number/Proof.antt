@@ -11,5 +11,5 @@ returns : tie.Need-returns
 unfolding number_in
 returns c = c.signed.ensures
 
-pub number-spec : {M : Type 1} → statement M
-number-spec = tie.close (tie.spec signed-requires returns)
+pub number_spec : {M : Type 1} → statement M
+number_spec = tie.close (tie.spec signed-requires returns)

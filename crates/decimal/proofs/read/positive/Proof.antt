@@ -12,23 +12,23 @@ use Rattle.decimal.proofs.ReadLaws.{size-within, plus-of, plus-bad}
 use Rattle.decimal.proofs.read.positive.Statement.{statement}
 use Rattle.decimal.proofs.read.positive.Tie as tie
 
-small : (c : tie.After-known-told) → c.before.size.given.0.0 ≤ least64 - 1
-small c = size-within c.before.before.before.requires c.before.size.given.1
+small : (c : tie.In-Of) → c.in-Of.n ≤ least64 - 1
+small c = size-within c.requires c.in-Of.is
 
-enum-known-size : tie.Need-enum-known-size
+enum-known-size : tie.Need-enum_known-size
 enum-known-size c = search rules
 
-cast-t4 : tie.Need-overflow-cast-t4
+cast-t4 : tie.Need-overflow_cast-result
 cast-t4 c = record { sfits = omega (arith, small c) }
 
-enum_told : tie.Need-enum-told
+enum_told : tie.Need-enum_told-1
 enum_told c = search rules
 
-returns : tie.Need-returns
-returns c = ap Field.Number (num w64 (pos _) (small c) tt).holds.is ∙ plus-of c.before.size.given.1
+returns : tie.Need-returns-in-Of
+returns c = ap Field.Number (num w64 (pos _) (small c) tt).holds.is ∙ plus-of c.in-Of.is
 
-returns-2 : tie.Need-returns-2
-returns-2 c = plus-bad c.enum_told.given.1
+returns-2 : tie.Need-returns-in-Bad
+returns-2 c = plus-bad c.in-Bad.is
 
-pub positive-spec : {M : Type 1} → statement M
-positive-spec = tie.close (tie.spec enum-known-size cast-t4 enum_told returns returns-2)
+pub positive_spec : {M : Type 1} → statement M
+positive_spec = tie.close (tie.spec enum-known-size cast-t4 enum_told returns returns-2)

@@ -7,50 +7,50 @@ use Rattle.decimal.proofs.ReadLaws.{sized-within, rest_part, no_field, signed, u
 use Rattle.decimal.proofs.read.signed.Statement.{statement}
 use Rattle.decimal.proofs.read.signed.Tie as tie
 
-returns : tie.Need-returns
-returns c = no_field _ _ c.if1.true
+returns : tie.Need-returns-then-field-eq0
+returns c = no_field _ _ c.if-field-eq0.true
 
-shared-slice-read-if2 : tie.Need-shared-slice-read-if2
+shared-slice-read-if2 : tie.Need-bounds-field-0
 shared-slice-read-if2 c = search rules
 
-sub-size-of : tie.Need-overflow-sub-size-of
+sub-size-of : tie.Need-slice_bounds-size_of-count
 sub-size-of c = search rules
 
-part-size-of-start : tie.Need-slice-bounds-size-of-start
+part-size-of-start : tie.Need-slice_bounds-size_of-start
 part-size-of-start c = search rules
 
-part-size-of-end : tie.Need-slice-bounds-size-of-end
+part-size-of-end : tie.Need-slice_bounds-size_of-end
 part-size-of-end c = search rules
 
-size-of-requires : tie.Need-size-of-requires
+size-of-requires : tie.Need-size_of-requires
 size-of-requires c κs = search rules
 
 negative-requires : tie.Need-negative-requires
-negative-requires c κs = rw c.type_size.ensures (sized-within _ _ (omega arith) _)
+negative-requires c κs = rw c.size_of.ensures (sized-within _ _ (omega arith) _)
 
-returns-2 : tie.Need-returns-2
+returns-2 : tie.Need-returns-then-field-eq45
 returns-2 c =
-    let t = c.before.before.before in
-    let start = t.before.before.before.before in
+    let t = c in
+    let start = t in
     let s = start.args.field.now in
-    c.negative.ensures ∙ ap negative (c.before.type_size.ensures ∙ ap (sized start.args.least) (rest_part 1 s)) ∙ signed _ s t.before.before.if1.false t.if2.true
+    c.negative.ensures ∙ ap negative (c.size_of.ensures ∙ ap (sized start.args.least) (rest_part 1 s)) ∙ signed _ s t.if-field-eq0.false t.if-field-eq45.true
 
-sub-size-of-2 : tie.Need-overflow-sub-size-of-2
+sub-size-of-2 : tie.Need-overflow_sub-least
 sub-size-of-2 c = search rules
 
-size-of-requires-2 : tie.Need-size-of-requires-2
+size-of-requires-2 : tie.Need-size_of-requires-2
 size-of-requires-2 c κs = search rules
 
 positive-requires : tie.Need-positive-requires
-positive-requires c κs = rw c.size-of2.ensures (sized-within _ _ (omega arith) _)
+positive-requires c κs = rw c.size_of-2.ensures (sized-within _ _ (omega arith) _)
 
-returns-3 : tie.Need-returns-3
+returns-3 : tie.Need-returns
 returns-3 c =
-    let e = c.before.before in
-    c.positive.ensures ∙ ap positive c.before.size-of2.ensures ∙ unsigned _ _ e.before.before.if1.false e.if2.false
+    let e = c in
+    c.positive.ensures ∙ ap positive c.size_of-2.ensures ∙ unsigned _ _ e.if-field-eq0.false e.if-field-eq45.false
 
-pub signed-spec : {M : Type 1} → statement M
-signed-spec =
+pub signed_spec : {M : Type 1} → statement M
+signed_spec =
     tie.close
     (tie.spec
     returns

@@ -7,23 +7,23 @@ use Rattle.decimal.proofs.ReadLaws.{no-digits, zero-led, led}
 use Rattle.decimal.proofs.read.size_of.Statement.{statement}
 use Rattle.decimal.proofs.read.size_of.Tie as tie
 
-returns : tie.Need-returns
-returns c = no-digits _ _ c.if1.true
+returns : tie.Need-returns-then-digits-eq0
+returns c = no-digits _ _ c.if-digits-eq0.true
 
-shared-slice-read-if3 : tie.Need-shared-slice-read-if3
+shared-slice-read-if3 : tie.Need-bounds-digits-0
 shared-slice-read-if3 c = search rules
 
-returns-2 : tie.Need-returns-2
-returns-2 c = zero-led _ _ c.before.before.if2.true c.if3.true
+returns-2 : tie.Need-returns-then-digits-eq48
+returns-2 c = zero-led _ _ c.if-digits-gt1.true c.if-digits-eq48.true
 
-value-of-requires : tie.Need-value-of-requires
+value-of-requires : tie.Need-value_of-requires
 value-of-requires c κs = search rules
 
-returns-3 : tie.Need-returns-3
+returns-3 : tie.Need-returns
 returns-3 c =
-    let j = c.before in
-    c.value_of_lem.ensures ∙ led _ _ j.before.if1.false (λ h e. ⊎_elim (λ w. w.2.left e) (λ w. omega arith) j.if2.branch)
+    let j = c in
+    c.value_of.ensures ∙ led _ _ j.if-digits-eq0.false (λ h e. ⊎_elim (λ w. w.2.left e) (λ w. omega arith) j.if2.branch)
 
-pub size-of-spec : {M : Type 1} → statement M
-size-of-spec =
+pub size_of_spec : {M : Type 1} → statement M
+size_of_spec =
     tie.close (tie.spec returns shared-slice-read-if3 returns-2 value-of-requires returns-3)

@@ -11,5 +11,5 @@ returns : tie.Need-returns
 unfolding total_in
 returns c = c.signed.ensures
 
-pub total-spec : {M : Type 1} → statement M
-total-spec = tie.close (tie.spec signed-requires returns)
+pub total_spec : {M : Type 1} → statement M
+total_spec = tie.close (tie.spec signed-requires returns)

@@ -9,87 +9,87 @@ use Rattle.decimal.proofs.ReadLaws.{byte_low, byte_high, byte-digit, valued-beyo
 use Rattle.decimal.proofs.read.value_of.Statement.{statement}
 use Rattle.decimal.proofs.read.value_of.Tie as tie
 
-abbrev invariant-loop : tie.invariant-loop
+abbrev invariant-loop : tie.invariant-loop-i
 invariant-loop digits limit tenth size₀ i₀ size i = (i ≤ length digits) × (size ≤ limit) × (valued limit 0 digits ≡ valued limit size (drop i digits))
 
-abbrev decreases-loop : tie.decreases-loop
+abbrev decreases-loop : tie.decreases-loop-i
 decreases-loop digits limit tenth size₀ i₀ size i = length digits - i
 
 -- the loop's turn, with its byte
-module _ (i : tie.In-loop invariant-loop decreases-loop) where
-  abbrev here : tie.At-loop invariant-loop decreases-loop
+module _ (i : tie.In-loop-i invariant-loop decreases-loop) where
+  abbrev here : tie.At-loop-i invariant-loop decreases-loop
   here = i.before
 
   abbrev digits : List ℕ
-  digits = i.before.before.args.digits.now
+  digits = i.args.digits.now
 
   abbrev limit : ℕ
-  limit = i.before.before.args.limit
+  limit = i.args.limit
 
   abbrev byte : ℕ
-  byte = get_or digits here.loop.i 0
+  byte = get_or digits here.loop-i.i 0
 
   abbrev more : ℕ
-  more = here.loop.size * 10 + (byte - 48)
+  more = here.loop-i.size * 10 + (byte - 48)
 
-  taken : 48 ≤ byte → byte ≤ 57 → valued limit 0 digits ≡ valued limit more (drop (here.loop.i + 1) digits)
-  taken l h = here.loop.inv.2 ∙ byte-digit limit here.loop.size digits here.loop.i i.loop-test.taken l h
+  taken : 48 ≤ byte → byte ≤ 57 → valued limit 0 digits ≡ valued limit more (drop (here.loop-i.i + 1) digits)
+  taken l h = here.loop-i.invariant.2 ∙ byte-digit limit here.loop-i.size digits here.loop-i.i i.loop-i-test.true l h
 
-loop-holds : tie.Need-loop-init invariant-loop decreases-loop
+loop-holds : tie.Need-loop-i-init invariant-loop decreases-loop
 loop-holds c = (omega arith, omega arith, refl)
 
-shared-slice-read-byte : tie.Need-shared-slice-read-byte invariant-loop decreases-loop
+shared-slice-read-byte : tie.Need-bounds-digits-i invariant-loop decreases-loop
 shared-slice-read-byte c = omega arith
 
-returns : tie.Need-returns invariant-loop decreases-loop
+returns : tie.Need-returns-then-byte-lt48 invariant-loop decreases-loop
 returns c =
-    let i = c.before.before in
-    sym (i.before.loop.invariant.2 ∙ byte_low _ _ _ _ i.loop-test.true c.if1.true)
+    let i = c in
+    sym (i.loop-i.invariant.2 ∙ byte_low _ _ _ _ i.loop-i-test.true c.if-byte-lt48.true)
 
-returns-2 : tie.Need-returns-2 invariant-loop decreases-loop
+returns-2 : tie.Need-returns-then-byte-gt57 invariant-loop decreases-loop
 returns-2 c =
-    let i = c.before.before.before in
-    sym (i.before.loop.invariant.2 ∙ byte_high _ _ _ _ i.loop-test.true c.if2.true)
+    let i = c in
+    sym (i.loop-i.invariant.2 ∙ byte_high _ _ _ _ i.loop-i-test.true c.if-byte-gt57.true)
 
 -- a tenth of the limit is passed: with another digit the limit is too
-returns-3 : tie.Need-returns-3 invariant-loop decreases-loop
+returns-3 : tie.Need-returns-then-tenth-size invariant-loop decreases-loop
 returns-3 c =
     let i = c.before.before.before.before in
-    sym (taken i c.before.before.if1.false c.before.if2.false ∙ valued-beyond _ _ _ (omega arith))
+    sym (taken i c.if-byte-lt48.false c.if-byte-gt57.false ∙ valued-beyond _ _ _ (omega arith))
 
-mul-size : tie.Need-overflow-mul-size invariant-loop decreases-loop
+mul-size : tie.Need-overflow_mul-size invariant-loop decreases-loop
 mul-size c = omega arith
 
-cast-size : tie.Need-overflow-cast-size invariant-loop decreases-loop
+cast-size : tie.Need-overflow_cast-size invariant-loop decreases-loop
 cast-size c = record { fits = omega arith }
 
-add-size : tie.Need-overflow-add-size invariant-loop decreases-loop
+add-size : tie.Need-overflow_add-size invariant-loop decreases-loop
 add-size c = record { fits = omega arith }
 
-returns-4 : tie.Need-returns-4 invariant-loop decreases-loop
+returns-4 : tie.Need-returns-then-limit-size invariant-loop decreases-loop
 returns-4 c =
-    let at-if2 = c.before.before in
-    sym (taken at-if2.before.before.before at-if2.before.if1.false at-if2.if2.false ∙ valued-beyond _ _ _ c.if4.true)
+    let at-if2 = c in
+    sym (taken at-if2.before.before.before.before.before at-if2.if-byte-lt48.false at-if2.if-byte-gt57.false ∙ valued-beyond _ _ _ c.if-limit-size.true)
 
-add-i : tie.Need-overflow-add-i invariant-loop decreases-loop
+add-i : tie.Need-overflow_add-i invariant-loop decreases-loop
 add-i c = omega arith
 
-loop-less : tie.Need-loop-smaller invariant-loop decreases-loop
+loop-less : tie.Need-loop-i-smaller invariant-loop decreases-loop
 loop-less c = omega arith
 
-loop-again : tie.Need-loop-preserved invariant-loop decreases-loop
+loop-again : tie.Need-loop-i-preserved invariant-loop decreases-loop
 loop-again c =
-    let at-if2 = c.before.before in
-    (omega arith, omega arith, taken at-if2.before.before.before at-if2.before.if1.false at-if2.if2.false)
+    let at-if2 = c in
+    (omega arith, omega arith, taken at-if2.before.before.before.before.before at-if2.if-byte-lt48.false at-if2.if-byte-gt57.false)
 
-returns-5 : tie.Need-returns-5 invariant-loop decreases-loop
+returns-5 : tie.Need-returns invariant-loop decreases-loop
 returns-5 c =
-    let k = c.before in
-    let e : k.loop.i ≡ length k.before.args.digits.now = omega arith in
-    sym (k.loop.invariant.2 ∙ value-whole _ _ _ _ e k.loop.invariant.1)
+    let k = c in
+    let e : k.loop-i.i ≡ length k.args.digits.now = omega arith in
+    sym (k.loop-i.invariant.2 ∙ value-whole _ _ _ _ e k.loop-i.invariant.1)
 
-pub value-of-spec : {M : Type 1} → statement M
-value-of-spec =
+pub value_of_spec : {M : Type 1} → statement M
+value_of_spec =
     tie.close
     (tie.spec
     invariant-loop

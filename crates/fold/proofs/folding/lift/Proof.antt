@@ -20,18 +20,18 @@ module _ (s : tie.Start) where
   C = num w64 _ s.requires.0 tt
 
   X : Num w64 (2 ^ 34) (of_z w64 s.args.x) s.args.x
-  X = num w64 _ s.pre.1 tt
+  X = num w64 _ s.requires.1 tt
 
   Y : Num w64 (2 ^ 61) (of_z w64 s.args.y) s.args.y
-  Y = num w64 _ s.pre.2 tt
+  Y = num w64 _ s.requires.2 tt
 
-amount : (c : tie.After-rounded) → Num w64 (2 ^ 34) (of_z w64 c.rounded.result) (round 28 (c.before.args.c *ℤ c.before.args.x))
+amount : (c : tie.After-rounded) → Num w64 (2 ^ 34) (of_z w64 c.rounded.result) (round 28 (c.args.c *ℤ c.args.x))
 amount c =
     let s = c.before in
     let p = num-mul (C s) (X s) tt in
-    num-call w64 _ c.rounded.type-inv (c.rounded.ensures ∙ ap (round 28) p.holds.is) (round-within 28 (2 ^ 34) _ p.size)
+    num-call w64 _ c.rounded.type_inv (c.rounded.ensures ∙ ap (round 28) p.holds.is) (round-within 28 (2 ^ 34) _ p.size)
 
-mul-rounded : tie.Need-overflow-mul-rounded
+mul-rounded : tie.Need-overflow_mul-c
 mul-rounded c = mul-asks (C c) (X c) tt
 
 rounded-requires : tie.Need-rounded-requires
@@ -43,7 +43,7 @@ moved-requires c κs = (bits-size (Y c.before), omega (arith, bits-size (amount 
 returns : tie.Need-returns
 returns c =
     let s = c.before.before in
-    (held-ok w64 _ c.moved.type-inv).is ∙ c.moved.ensures ∙ ap₂ (moved s.args.undo) (Y s).holds.is (amount c.before).holds.is
+    (held-ok w64 _ c.moved.type_inv).is ∙ c.moved.ensures ∙ ap₂ (moved s.args.undo) (Y s).holds.is (amount c.before).holds.is
 
-pub lift-spec : {M : Type 1} → statement M
-lift-spec = tie.close (tie.spec mul-rounded rounded-requires moved-requires returns)
+pub lift_spec : {M : Type 1} → statement M
+lift_spec = tie.close (tie.spec mul-rounded rounded-requires moved-requires returns)

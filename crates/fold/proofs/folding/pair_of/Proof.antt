@@ -38,59 +38,59 @@ module _ (s : tie.Start) where
   x = s.args.block.now
 
   below : (n < M) × (M ≤ 64) × (M + M ≡ N)
-  below = let l = s.pre.0 in (l, half-width-le N, width-half N (omega arith))
+  below = let l = s.requires.0 in (l, half-width-le N, width-half N (omega arith))
 
   lengths : (length s.args.tangents.now ≡ M) × (length s.args.sines.now ≡ M) × (length x ≡ N)
-  lengths = (tangents-long N _ s.pre.1.0, sines-long N _ s.pre.1.1.0, s.pre.1.1.1.0)
+  lengths = (tangents-long N _ s.requires.1.0, sines-long N _ s.requires.1.1.0, s.requires.1.1.1.0)
 
   T : Num w64 (2 ^ 28) (of_z w64 (at s.args.tangents.now n)) (neg_ℤ (tangent N n))
-  T = tangent-num N _ n s.pre.0 s.pre.1.0
+  T = tangent-num N _ n s.requires.0 s.requires.1.0
 
   S : Num w64 (2 ^ 28) (of_z w64 (at s.args.sines.now n)) (sine N n)
-  S = sine-num N _ n s.pre.0 s.pre.1.1.0
+  S = sine-num N _ n s.requires.0 s.requires.1.1.0
 
-A : (c : tie.After-rotated-arg3) → let s = c.before.before.before in Num w64 50000 (of_z w64 (to_z w32 (of_z w32 (at (x s) (n s))))) (at (x s) (n s))
-A c = let s = c.before.before.before in record { holds = h-wide _ c.rotated-arg3.given; size = s.requires.1.1.1.1.size (n s) }
+A : (c : tie.After-rotated-arg-3-1) → let s = c.before.before.before in Num w64 50000 (of_z w64 (to_z w32 (of_z w32 (at (x s) (n s))))) (at (x s) (n s))
+A c = let s = c.before.before.before in record { holds = h-wide _ c.rotated-arg-3-1.given; size = s.requires.1.1.1.1.size (n s) }
 
-B : (c : tie.After-rotated-arg4) → let s = c.before.before.before.before in Num w64 50000 (of_z w64 (to_z w32 (of_z w32 (at (x s) (mirrored s))))) (at (x s) (mirrored s))
-B c = let s = c.before.before.before.before in record { holds = h-wide _ c.rotated-arg4.given; size = s.requires.1.1.1.1.size (mirrored s) }
+B : (c : tie.After-rotated-arg-4-1) → let s = c.before.before.before.before in Num w64 50000 (of_z w64 (to_z w32 (of_z w32 (at (x s) (mirrored s))))) (at (x s) (mirrored s))
+B c = let s = c.before.before.before.before in record { holds = h-wide _ c.rotated-arg-4-1.given; size = s.requires.1.1.1.1.size (mirrored s) }
 
-sub-mirrored : tie.Need-overflow-sub-mirrored
+sub-mirrored : tie.Need-overflow_sub-mirrored
 sub-mirrored c = omega (arith, below c)
 
-sub-mirrored-2 : tie.Need-overflow-sub-mirrored-2
+sub-mirrored-2 : tie.Need-overflow_sub-mirrored-2
 sub-mirrored-2 c = omega (arith, below c)
 
-mul-rotated : tie.Need-overflow-mul-rotated
+mul-rotated : tie.Need-offset_bounds-tangents-n
 mul-rotated c = record { fits = omega (arith, below c) }
 
-shared-slice-copy-out-rotated : tie.Need-shared-slice-copy-out-rotated
+shared-slice-copy-out-rotated : tie.Need-bounds-tangents-n
 shared-slice-copy-out-rotated c = omega (arith, below c, lengths c)
 
-mul-rotated-2 : tie.Need-overflow-mul-rotated-2
+mul-rotated-2 : tie.Need-offset_bounds-sines-n
 mul-rotated-2 c = record { fits = omega (arith, below c.before) }
 
-shared-slice-copy-out-rotated-2 : tie.Need-shared-slice-copy-out-rotated-2
+shared-slice-copy-out-rotated-2 : tie.Need-bounds-sines-n
 shared-slice-copy-out-rotated-2 c = omega (arith, below c.before, lengths c.before)
 
-mul-rotated-3 : tie.Need-overflow-mul-rotated-3
+mul-rotated-3 : tie.Need-offset_bounds-block-n
 mul-rotated-3 c = record { fits = omega (arith, below c.before.before) }
 
-shared-slice-copy-out-rotated-3 : tie.Need-shared-slice-copy-out-rotated-3
+shared-slice-copy-out-rotated-3 : tie.Need-bounds-block-n
 shared-slice-copy-out-rotated-3 c = omega (arith, below c.before.before, lengths c.before.before)
 
-cast-rotated : tie.Need-overflow-cast-rotated
-cast-rotated c = let s = c.before.before.before in asks-wide (at (x s) (n s)) c.rotated-arg3.given
+cast-rotated : tie.Need-overflow_cast-block
+cast-rotated c = let s = c.before.before.before in asks-wide (at (x s) (n s)) c.rotated-arg-3-1.given
 
-shared-slice-copy-out-rotated-4 : tie.Need-shared-slice-copy-out-rotated-4
+shared-slice-copy-out-rotated-4 : tie.Need-bounds-block-mirrored
 shared-slice-copy-out-rotated-4 c = let s = c.before.before.before in omega (arith, below s, lengths s)
 
-cast-rotated-2 : tie.Need-overflow-cast-rotated-2
-cast-rotated-2 c = let s = c.before.before.before.before in asks-wide (at (x s) (mirrored s)) c.rotated-arg4.given
+cast-rotated-2 : tie.Need-overflow_cast-block-2
+cast-rotated-2 c = let s = c.before.before.before.before in asks-wide (at (x s) (mirrored s)) c.rotated-arg-4-1.given
 
 rotated-requires : tie.Need-rotated-requires
 rotated-requires c κs =
-    let start = c.before.before.before.before in
+    let start = c in
     let p = start.requires.1 in
     (entry-size (tangents-within _ _ p.0) tt _, entry-size (sines-within _ _ p.1.0) tt _, bits-size (A c.before), bits-size (B c))
 
@@ -101,8 +101,8 @@ returns c =
     let a = c.rotated.ensures.0 in
     (a-rotated (N s) (n s) false (T s) (S s) (A b.before) (B b) a, b-rotated (N s) (n s) false (T s) (S s) (A b.before) (B b) a c.rotated.ensures.1)
 
-pub pair-of-spec : {M : Type 1} → statement M
-pair-of-spec =
+pub pair_of_spec : {M : Type 1} → statement M
+pair_of_spec =
     tie.close
     (tie.spec
     sub-mirrored

@@ -16,13 +16,13 @@ module _ (s : tie.Start) where
   T = num w64 _ s.requires.0 tt
 
   S : Num w64 (2 ^ 28) (of_z w64 s.args.s) s.args.s
-  S = num w64 _ s.pre.1 tt
+  S = num w64 _ s.requires.1 tt
 
   A : Num w64 50000 (of_z w64 s.args.a) s.args.a
-  A = num w64 _ s.pre.2 tt
+  A = num w64 _ s.requires.2 tt
 
   B : Num w64 50000 (of_z w64 s.args.b) s.args.b
-  B = num w64 _ s.pre.3 tt
+  B = num w64 _ s.requires.3 tt
 
   sizes : (nat_abs (to_z w64 (of_z w64 s.args.t)) ≤ 2 ^ 28) × (nat_abs (to_z w64 (of_z w64 s.args.s)) ≤ 2 ^ 28) × (nat_abs (to_z w64 (of_z w64 s.args.a)) ≤ 50000) × (nat_abs (to_z w64 (of_z w64 s.args.b)) ≤ 50000)
   sizes = (bits-size T, bits-size S, bits-size A, bits-size B)
@@ -37,26 +37,26 @@ module _ (s : tie.Start) where
   a₁ = lifted undo s.args.s b₁ s.args.a
 
 -- what each lift leaves
-B₁ : (c : tie.After-lift) → Num w64 (50000 + 50000) (of_z w64 c.lift.result) (b₁ c.before)
-B₁ c = let s = c.before in num-lifted (undo s) (T s) (A s) (B s) _ c.lift.type-inv c.lift.ensures
+B₁ : (c : tie.After-lift-b1) → Num w64 (50000 + 50000) (of_z w64 c.lift-b1.result) (b₁ c.before)
+B₁ c = let s = c.before in num-lifted (undo s) (T s) (A s) (B s) _ c.lift-b1.type_inv c.lift-b1.ensures
 
-A₁ : (c : tie.After-lift2) → Num w64 (50000 + (50000 + 50000)) (of_z w64 c.lift2.result) (a₁ c.before.before)
-A₁ c = let s = c.before.before in num-lifted (undo s) (S s) (B₁ c.before) (A s) _ c.lift2.type-inv c.lift2.ensures
+A₁ : (c : tie.After-lift-a1) → Num w64 (50000 + (50000 + 50000)) (of_z w64 c.lift-a1.result) (a₁ c.before.before)
+A₁ c = let s = c.before.before in num-lifted (undo s) (S s) (B₁ c.before) (A s) _ c.lift-a1.type_inv c.lift-a1.ensures
 
-lift-requires : tie.Need-lift-requires
+lift-requires : tie.Need-lift-b1-requires
 lift-requires c κs = let g = sizes c in (omega (arith, g), omega (arith, g), omega (arith, g))
 
-lift-requires-2 : tie.Need-lift-requires-2
+lift-requires-2 : tie.Need-lift-a1-requires
 lift-requires-2 c κs = let g = sizes c.before in (omega (arith, g), omega (arith, bits-size (B₁ c)), omega (arith, g))
 
-lift-requires-3 : tie.Need-lift-requires-3
+lift-requires-3 : tie.Need-lift-requires
 lift-requires-3 c κs = (omega (arith, sizes c.before.before), omega (arith, bits-size (A₁ c)), omega (arith, bits-size (B₁ c.before)))
 
 returns : tie.Need-returns
 returns c =
     let s = c.before.before.before in
     let a = (A₁ c.before).holds.is in
-    (a, (num-lifted (undo s) (T s) (A₁ c.before) (B₁ c.before.before) _ c.lift3.type-inv c.lift3.ensures).holds.is ∙ ap (λ z. lifted (undo s) s.args.t z (b₁ s)) (sym a))
+    (a, (num-lifted (undo s) (T s) (A₁ c.before) (B₁ c.before.before) _ c.lift.type_inv c.lift.ensures).holds.is ∙ ap (λ z. lifted (undo s) s.args.t z (b₁ s)) (sym a))
 
-pub rotated-spec : {M : Type 1} → statement M
-rotated-spec = tie.close (tie.spec lift-requires lift-requires-2 lift-requires-3 returns)
+pub rotated_spec : {M : Type 1} → statement M
+rotated_spec = tie.close (tie.spec lift-requires lift-requires-2 lift-requires-3 returns)

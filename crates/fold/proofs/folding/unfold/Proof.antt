@@ -21,10 +21,10 @@ use Rattle.fold.proofs.FoldLaws.{entry-size, Ends, ends-none, ends-front, ends-b
 use Rattle.fold.proofs.folding.unfold.Statement.{statement}
 use Rattle.fold.proofs.folding.unfold.Tie as tie
 
-abbrev invariant-loop : tie.invariant-loop
+abbrev invariant-loop : tie.invariant-loop-n
 invariant-loop width tangents sines lower held block₀ half n₀ block n = (n ≤ half_width width) × Ends (block_at width lower held) width n (width - n) block
 
-abbrev decreases-loop : tie.decreases-loop
+abbrev decreases-loop : tie.decreases-loop-n
 decreases-loop width tangents sines lower held block₀ half n₀ block n = half_width width - n
 
 module _ (s : tie.Start invariant-loop decreases-loop) where
@@ -41,18 +41,18 @@ module _ (s : tie.Start invariant-loop decreases-loop) where
   high = s.args.held.now
 
   twice : M + M ≡ N
-  twice = width-half N s.pre.0
+  twice = width-half N s.requires.0
 
   lengths : (length s.args.tangents.now ≡ M) × (length s.args.sines.now ≡ M) × (length low ≡ M) × (length high ≡ M) × (M ≤ 64)
-  lengths = let h = s.pre.1.1.1.0 in (tangents-long N _ s.pre.1.0, sines-long N _ s.pre.1.1.0, h.top-long, h.bottom-long, half-width-le N)
+  lengths = let h = s.requires.1.1.1.0 in (tangents-long N _ s.requires.1.0, sines-long N _ s.requires.1.1.0, h.top-long, h.bottom-long, half-width-le N)
 
 -- a turn
-module _ (c : tie.In-loop invariant-loop decreases-loop) where
+module _ (c : tie.In-loop-n invariant-loop decreases-loop) where
   abbrev s : tie.Start invariant-loop decreases-loop
   s = c.before.before
 
   abbrev n : ℕ
-  n = c.before.loop.n
+  n = c.loop-n.n
 
   below : n < M s
   below = omega (arith, lengths s)
@@ -64,107 +64,107 @@ module _ (c : tie.In-loop invariant-loop decreases-loop) where
   mirrored-is = omega (arith, lengths s)
 
   T : Num w64 (2 ^ 28) (of_z w64 (at s.args.tangents.now n)) (neg_ℤ (tangent (N s) n))
-  T = tangent-num (N s) _ n below s.pre.1.0
+  T = tangent-num (N s) _ n below s.requires.1.0
 
   S : Num w64 (2 ^ 28) (of_z w64 (at s.args.sines.now n)) (sine (N s) n)
-  S = sine-num (N s) _ n below s.pre.1.1.0
+  S = sine-num (N s) _ n below s.requires.1.1.0
 
   A : Num w64 50000 (of_z w64 (at (low s) mirrored)) (at (low s) (M s - 1 - n))
-  A = subst (Num w64 50000 (of_z w64 (at (low s) mirrored))) (ap (at (low s)) mirrored-is) (num w64 _ (s.pre.1.1.1.1.1.0.size mirrored) tt)
+  A = subst (Num w64 50000 (of_z w64 (at (low s) mirrored))) (ap (at (low s)) mirrored-is) (num w64 _ (s.requires.1.1.1.1.1.0.size mirrored) tt)
 
   B : Num w64 50000 (of_z w64 (at (high s) n)) (at (high s) n)
-  B = num w64 _ (s.pre.1.1.1.1.1.1.size n) tt
+  B = num w64 _ (s.requires.1.1.1.1.1.1.size n) tt
 
 -- the pair rotated back
-module _ (c : tie.After-struct-told2 invariant-loop decreases-loop) where
-  abbrev r : tie.After-rotated invariant-loop decreases-loop
+module _ (c : tie.After-struct_told-in-loop-n-1 invariant-loop decreases-loop) where
+  abbrev r : tie.After-rotated-pair invariant-loop decreases-loop
   r = c.before.before
 
-  abbrev t : tie.In-loop invariant-loop decreases-loop
+  abbrev t : tie.In-loop-n invariant-loop decreases-loop
   t = r.before.before.before.before.before
 
   abbrev a : ℤ
-  a = to_z w64 (of_z w64 r.rotated.result.a)
+  a = to_z w64 (of_z w64 r.rotated-pair.result.a)
 
   a-is : a ≡ unrotated_a (N (s t)) (n t) (at (low (s t)) (M (s t) - 1 - n t)) (at (high (s t)) (n t))
-  a-is = (held-ok w64 _ c.before.struct_told.given.0.1).is ∙ a-rotated (N (s t)) (n t) true (T t) (S t) (A t) (B t) r.rotated.ensures.0
+  a-is = (held-ok w64 _ c.struct_told-1.given.0.1).is ∙ a-rotated (N (s t)) (n t) true (T t) (S t) (A t) (B t) r.rotated-pair.ensures.0
 
-  b-is : to_z w64 (of_z w64 r.rotated.result.b) ≡ unrotated_b (N (s t)) (n t) (at (low (s t)) (M (s t) - 1 - n t)) (at (high (s t)) (n t))
-  b-is = (held-ok w64 _ c.struct-told2.given.1.0.1).is ∙ b-rotated (N (s t)) (n t) true (T t) (S t) (A t) (B t) r.rotated.ensures.0 r.rotated.ensures.1
+  b-is : to_z w64 (of_z w64 r.rotated-pair.result.b) ≡ unrotated_b (N (s t)) (n t) (at (low (s t)) (M (s t) - 1 - n t)) (at (high (s t)) (n t))
+  b-is = (held-ok w64 _ c.struct_told-in-loop-n-1.given.1.0.1).is ∙ b-rotated (N (s t)) (n t) true (T t) (S t) (A t) (B t) r.rotated-pair.ensures.0 r.rotated-pair.ensures.1
 
-loop-holds : tie.Need-loop-init invariant-loop decreases-loop
+loop-holds : tie.Need-loop-n-init invariant-loop decreases-loop
 loop-holds c = (omega arith, ends-none _ _ _ _ (omega arith) c.requires.1.1.1.1.0)
 
-sub-mirrored : tie.Need-overflow-sub-mirrored invariant-loop decreases-loop
+sub-mirrored : tie.Need-overflow_sub-mirrored invariant-loop decreases-loop
 sub-mirrored c = omega arith
 
-sub-mirrored-2 : tie.Need-overflow-sub-mirrored-2 invariant-loop decreases-loop
+sub-mirrored-2 : tie.Need-overflow_sub-mirrored-in-loop-n invariant-loop decreases-loop
 sub-mirrored-2 c = omega arith
 
-shared-slice-copy-out-rotated : tie.Need-shared-slice-copy-out-rotated invariant-loop decreases-loop
+shared-slice-copy-out-rotated : tie.Need-bounds-tangents-n invariant-loop decreases-loop
 shared-slice-copy-out-rotated c = omega arith
 
-mul-rotated-2 : tie.Need-overflow-mul-rotated-2 invariant-loop decreases-loop
+mul-rotated-2 : tie.Need-offset_bounds-sines-n invariant-loop decreases-loop
 mul-rotated-2 c = let t = c.before in record { fits = omega (arith, below t, lengths (s t)) }
 
-shared-slice-copy-out-rotated-2 : tie.Need-shared-slice-copy-out-rotated-2 invariant-loop decreases-loop
+shared-slice-copy-out-rotated-2 : tie.Need-bounds-sines-n invariant-loop decreases-loop
 shared-slice-copy-out-rotated-2 c = let t = c.before in omega (arith, below t, lengths (s t))
 
-mul-rotated-3 : tie.Need-overflow-mul-rotated-3 invariant-loop decreases-loop
+mul-rotated-3 : tie.Need-offset_bounds-lower-mirrored invariant-loop decreases-loop
 mul-rotated-3 c = let t = c.before.before in record { fits = omega (arith, lengths (s t)) }
 
-shared-slice-copy-out-rotated-3 : tie.Need-shared-slice-copy-out-rotated-3 invariant-loop decreases-loop
+shared-slice-copy-out-rotated-3 : tie.Need-bounds-lower-mirrored invariant-loop decreases-loop
 shared-slice-copy-out-rotated-3 c = let t = c.before.before in omega (arith, below t, lengths (s t))
 
-shared-slice-copy-out-rotated-4 : tie.Need-shared-slice-copy-out-rotated-4 invariant-loop decreases-loop
+shared-slice-copy-out-rotated-4 : tie.Need-bounds-held-n invariant-loop decreases-loop
 shared-slice-copy-out-rotated-4 c = let t = c.before.before.before in omega (arith, below t, lengths (s t))
 
-rotated-requires : tie.Need-rotated-requires invariant-loop decreases-loop
+rotated-requires : tie.Need-rotated-pair-requires invariant-loop decreases-loop
 rotated-requires c κs =
     let in-loop = c.before.before.before.before in
     let p = (s in-loop).requires.1 in
     (entry-size (tangents-within _ _ p.0) tt _, entry-size (sines-within _ _ p.1.0) tt _, entry-size p.1.1.1.1.0 tt _, entry-size p.1.1.1.1.1 tt _)
 
-slice-set-from-a : tie.Need-slice-set-from-a invariant-loop decreases-loop
-slice-set-from-a c = let u = t c in omega (arith, below u, twice (s u), u.before.loop.inv.1.long)
+slice-set-from-a : tie.Need-bounds-block-n invariant-loop decreases-loop
+slice-set-from-a c = let u = t c in omega (arith, below u, twice (s u), u.loop-n.invariant.1.long)
 
-sub-b : tie.Need-overflow-sub-b invariant-loop decreases-loop
+sub-b : tie.Need-overflow_sub-b invariant-loop decreases-loop
 sub-b c = let u = t c in omega (arith, below u, twice (s u))
 
-sub-b-2 : tie.Need-overflow-sub-b-2 invariant-loop decreases-loop
+sub-b-2 : tie.Need-overflow_sub-b-in-loop-n invariant-loop decreases-loop
 sub-b-2 c = let u = t c in omega (arith, below u, twice (s u))
 
-mul-b : tie.Need-overflow-mul-b invariant-loop decreases-loop
+mul-b : tie.Need-offset_bounds-block-width invariant-loop decreases-loop
 mul-b c = let u = t c in record { fits = omega (arith, twice (s u), lengths (s u)) }
 
-slice-set-from-b : tie.Need-slice-set-from-b invariant-loop decreases-loop
-slice-set-from-b c = let u = t c in omega (arith, below u, twice (s u), u.before.loop.inv.1.long, length-set u.before.loop.block (n u) (a c))
+slice-set-from-b : tie.Need-bounds-block-width invariant-loop decreases-loop
+slice-set-from-b c = let u = t c in omega (arith, below u, twice (s u), u.loop-n.invariant.1.long, length-set u.loop-n.block (n u) (a c))
 
-add-n : tie.Need-overflow-add-n invariant-loop decreases-loop
+add-n : tie.Need-overflow_add-n invariant-loop decreases-loop
 add-n c = omega arith
 
-loop-less : tie.Need-loop-smaller invariant-loop decreases-loop
+loop-less : tie.Need-loop-n-smaller invariant-loop decreases-loop
 loop-less c = omega (arith, below (t c))
 
-loop-again : tie.Need-loop-preserved invariant-loop decreases-loop
+loop-again : tie.Need-loop-n-preserved invariant-loop decreases-loop
 loop-again c =
     let u = t c in
     let N = N (s u) in
     let w = twice (s u) in
-    let front = ends-front u.before.loop.inv.1 (omega (arith, below u, w)) (a-is c ∙ sym (front_at N (n u) (below u) (low (s u)) (high (s u)))) in (
+    let front = ends-front u.loop-n.invariant.1 (omega (arith, below u, w)) (a-is c ∙ sym (front_at N (n u) (below u) (low (s u)) (high (s u)))) in (
       omega (arith, below u),
       ends-back front (N - 1 - n u) (N - (n u + 1)) (omega (arith, below u, w)) (omega (arith, below u, w)) (omega arith) (b-is c ∙ sym (back_at N (n u) (below u) (low (s u)) (high (s u)) w)),
     )
 
-same_length : tie.Need-same-length invariant-loop decreases-loop
-same_length c = omega (arith, c.before.before.requires.1.1.1.1.0)
+same_length : tie.Need-shape_of-block invariant-loop decreases-loop
+same_length c = omega (arith, c.requires.1.1.1.1.0)
 
 returns : tie.Need-returns invariant-loop decreases-loop
 unfolding unfolded
-returns c = let l = c.before in ends-all l.loop.invariant.1 (omega (arith, lengths l.before, twice l.before))
+returns c = let l = c in ends-all l.loop-n.invariant.1 (omega (arith, lengths l.before.before, twice l.before.before))
 
-pub unfold-spec : {M : Type 1} → statement M
-unfold-spec =
+pub unfold_spec : {M : Type 1} → statement M
+unfold_spec =
     tie.close
     (tie.spec
     invariant-loop

@@ -41,15 +41,15 @@ module _ (s : tie.Start) where
   folded = lower N block ++ previous
 
   halved : half ≡ half_width N
-  halved = half_is N s.pre.0
+  halved = half_is N s.requires.0
 
   within : Within folded_limit folded
-  within = folded-within N previous block s.pre.1.1.1.1.1.0 s.pre.1.1.1.1.1.1
+  within = folded-within N previous block s.requires.1.1.1.1.1.0 s.requires.1.1.1.1.1.1
 
 -- the halves of the folded values
 module _ (f : tie.After-fold) where
   abbrev source : tie.Start
-  source = f.before.before.before.before.before.before
+  source = f.before.before.before.before.before
 
   abbrev evens : List ℤ
   evens = top_of (N source) (folded source)
@@ -58,10 +58,10 @@ module _ (f : tie.After-fold) where
   odds = bottom_of (N source) (folded source)
 
   abbrev top : List ℤ
-  top = f.fold.last.1.1.1.1.1.0
+  top = f.fold.new.top
 
   abbrev bottom : List ℤ
-  bottom = f.fold.last.1.1.1.1.1.1.0
+  bottom = f.fold.new.bottom
 
   folded-top : top ≡ evens
   folded-top = f.fold.ensures.1.0
@@ -89,26 +89,26 @@ module _ (g : tie.After-forward) where
   abbrev start : tie.Start
   start = source made
 
-  top-is : g.forward.last.1.1.0 ≡ top4 (N start) (evens made) (odds made)
+  top-is : g.forward.new.top ≡ top4 (N start) (evens made) (odds made)
   top-is = g.forward.ensures.0 ∙ ap₂ (top4 (N start)) (folded-top made) (folded-bottom made)
 
-  bottom-is : g.forward.last.1.1.1.0 ≡ bottom5 (N start) (evens made) (odds made)
+  bottom-is : g.forward.new.bottom ≡ bottom5 (N start) (evens made) (odds made)
   bottom-is = g.forward.ensures.1 ∙ ap₂ (bottom5 (N start)) (folded-top made) (folded-bottom made)
 
 -- and where they are written from
-module _ (c : tie.After-z) where
+module _ (c : tie.After-z-1) where
   abbrev through : tie.After-forward
   through = c.before.before.before.before
 
-slice-aggregate-fold : tie.Need-slice-aggregate-fold
-slice-aggregate-fold c = let s = c.before in part-long _ s.args.t.now (omega (arith, halved s, width-half (N s) s.requires.0, lifts-in (N s) s.requires.0 s.args.t.now s.requires.1.0))
+slice-aggregate-fold : tie.Need-slice_bounds-fold-end
+slice-aggregate-fold c = let s = c in part-long _ s.args.t.now (omega (arith, halved s, width-half (N s) s.requires.0, lifts-in (N s) s.requires.0 s.args.t.now s.requires.1.0))
 
-part-fold-end : tie.Need-slice-bounds-fold-end
-part-fold-end c = let s = c.before in lifts-in (N s) s.requires.0 s.args.t.now s.requires.1.0
+part-fold-end : tie.Need-slice_bounds-fold-end-2
+part-fold-end c = let s = c in lifts-in (N s) s.requires.0 s.args.t.now s.requires.1.0
 
 fold-requires : tie.Need-fold-requires
 fold-requires c κs =
-    let s = c.before.before.before.before.before in
+    let s = c.before.before.before.before in
     let t = s.args.t.now in
     let long = s.requires.1.1.0 in (
       s.requires.0,
@@ -122,16 +122,16 @@ forward-requires : tie.Need-forward-requires
 forward-requires c κs =
     let f = c.before.before.before.before.before.before.before in
     let s = source f in
-    (s.pre.0, (s.pre.1.0, (halves f, (s.pre.1.1.1.1.0, halves-within f))))
+    (s.requires.0, (s.requires.1.0, (halves f, (s.requires.1.1.1.1.0, halves-within f))))
 
 write-requires : tie.Need-write-requires
 write-requires c κs =
-    let g = through c.before.before.before in
+    let g = through c.before in
     let s = start g in
     let m = made g in
     let top-long = ap length (top-is g) ∙ long4 (N s) _ _ in
     let bottom-long = ap length (bottom-is g) ∙ long5 (N s) _ _ in (
-      omega (arith, s.pre.1.1.0.2, width-half (N s) s.pre.0, top-long, bottom-long),
+      omega (arith, s.requires.1.1.0.2, width-half (N s) s.requires.0, top-long, bottom-long),
       (
         (ap (λ n. n % 4) top-long ∙ half-in-fours (N s), ap (λ n. n % 4) bottom-long ∙ half-in-fours (N s)),
         (
@@ -141,14 +141,14 @@ write-requires c κs =
       ),
     )
 
-abbrev lent : tie.After-frame → tie.After-z
-lent c = let writing = c.before.before in writing.before.before.before
+abbrev lent : tie.After-frame-1 → tie.After-z-1
+lent c = let writing = c in writing.before.before.before
 
 returns : tie.Need-returns
 returns c =
     let g = through (lent c) in
     let s = start g in
-    ((made g).fold.ensures.0, c.before.write.ensures ∙ ap₂ ◌++◌ (top-is g) (bottom-is g) ∙ stages-halves (N s) (folded s) ∙ frame_is (N s) (previous s) (block s))
+    ((made g).fold.ensures.0, c.write.ensures ∙ ap₂ ◌++◌ (top-is g) (bottom-is g) ∙ stages-halves (N s) (folded s) ∙ frame_is (N s) (previous s) (block s))
 
 pub step_spec : {M : Type 1} → statement M
 step_spec =
@@ -162,10 +162,10 @@ step_spec =
     fold-requires
     forward-requires
     write-requires
-    (λ c. let at_top = (through (lent c)).before.before.before.before.before.before in at_top.before.held.given)
-    (λ c. c.frame.given)
-    (λ c. let z = lent c in let at_top = (through z).before.before.before.before.before.before in z.before.before.before.top2.given ∙ at_top.top.given)
-    (λ c. let z = lent c in let at-bottom = (through z).before.before.before.before.before in z.before.before.bottom2.given ∙ at-bottom.bottom.given)
-    (λ c. (lent c).before.y.given)
-    (λ c. (lent c).z.given)
+    (λ c. let at_top = (through (lent c)) in at_top.held-1.given)
+    (λ c. c.frame-1.given)
+    (λ c. let z = lent c in let at_top = (through z) in z.top-2-1.given ∙ at_top.top-1.given)
+    (λ c. let z = lent c in let at-bottom = (through z) in z.bottom-2-1.given ∙ at-bottom.bottom-1.given)
+    (λ c. (lent c).y-1.given)
+    (λ c. (lent c).z-1.given)
     returns)

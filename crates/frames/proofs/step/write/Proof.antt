@@ -18,7 +18,7 @@ module _ (s : tie.Start) where
   out = s.args.frame.now
 
   half_le : half ≤ length out
-  half_le = omega (arith, s.pre.0)
+  half_le = omega (arith, s.requires.0)
 
 -- top is in front
 module _ (k : tie.After-narrow) where
@@ -26,7 +26,7 @@ module _ (k : tie.After-narrow) where
   from = k.before.before
 
   abbrev front_of : List ℤ
-  front_of = k.narrow.last.1.0
+  front_of = k.narrow.new.out
 
   abbrev behind : List ℤ
   behind = drop (half from) (out from)
@@ -35,24 +35,24 @@ module _ (k : tie.After-narrow) where
   front-is = ap length k.narrow.ensures
 
   behind-long : length behind ≡ length from.args.bottom.now
-  behind-long = omega (arith, length-drop (half from) (out from), from.pre.0)
+  behind-long = omega (arith, length-drop (half from) (out from), from.requires.0)
 
-sub_narrow : tie.Need-overflow-sub-narrow
+sub_narrow : tie.Need-slice_bounds-narrow-count
 sub_narrow c = let k = c.before in front-le _ (front_of k) (behind k) (front-is k)
 
-part-narrow-start : tie.Need-slice-bounds-narrow-start
+part-narrow-start : tie.Need-slice_bounds-narrow-start
 part-narrow-start c = let k = c.before in front-le _ (front_of k) (behind k) (front-is k)
 
 narrow-requires-2 : tie.Need-narrow-requires-2
 narrow-requires-2 c κs =
     let k = c.before.before in
     let s = from k in
-    ((sym (behind-long k) ∙ sym (rest-long (half s) (front_of k) (behind k) (front-is k)), s.pre.1.0.1), s.pre.1.1.1)
+    ((sym (behind-long k) ∙ sym (rest-long (half s) (front_of k) (behind k) (front-is k)), s.requires.1.0.1), s.requires.1.1.1)
 
 returns : tie.Need-returns
 returns c =
     let k = c.before.before.before.before in
-    rest_put (half (from k)) (front_of k) (behind k) (front-is k) _ ∙ ap₂ ◌++◌ k.narrow.ensures c.before.narrow2.ensures
+    rest_put (half (from k)) (front_of k) (behind k) (front-is k) _ ∙ ap₂ ◌++◌ k.narrow.ensures c.narrow-2.ensures
 
 pub write_spec : {M : Type 1} → statement M
 write_spec =

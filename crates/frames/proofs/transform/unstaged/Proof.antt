@@ -31,109 +31,109 @@ module _ (s : tie.Start) where
   y = s.args.y.now
 
   room : WideRoom N s.args.top.now s.args.bottom.now y s.args.z.now
-  room = s.pre.1.1.0
+  room = s.requires.1.1.0
 
   long : length frame ≡ N
-  long = s.pre.1.1.1
+  long = s.requires.1.1.1
 
 -- what question 9 finds, in the front of y
-module _ (f : tie.After-seldom-beyond) where
+module _ (f : tie.After-seldom_beyond-coefficient) where
   abbrev from : tie.Start
   from = f.before.before
 
-  seen : first_beyond (pos coefficient_limit) (frame from) 0 ≡ f.seldom-beyond.result
-  seen = sym f.seldom-beyond.ensures
+  seen : first_beyond (pos coefficient_limit) (frame from) 0 ≡ f.seldom_beyond-coefficient.result
+  seen = sym f.seldom_beyond-coefficient.ensures
 
-module _ (c : tie.After-y) where
+module _ (c : tie.After-y-1) where
   abbrev asked : tie.Start
   asked = from c.before
 
-  y-same : length (c.before.seldom-beyond.new.1.1.0 ++ drop (N asked) (y asked)) ≡ length (y asked)
-  y-same = c.y.given.1
+  y-same : length (c.seldom_beyond-coefficient.new.wide ++ drop (N asked) (y asked)) ≡ length (y asked)
+  y-same = c.y-1.given.1
 
-none : (c : tie.After-enum-told) → first_beyond (pos coefficient_limit) (frame (from c.before.before.before)) 0 ≡ Nothing
-none c = seen c.before.before.before ∙ c.enum_told.given.1
+none : (c : tie.In_default) → first_beyond (pos coefficient_limit) (frame (from c.before.before)) 0 ≡ Nothing
+none c = seen c.before.before ∙ c.in_default.is
 
 -- the folded values, and what question 10 finds
-module _ (c : tie.After-z) where
+module _ (c : tie.After-z-1) where
   abbrev step : tie.After-unstages
   step = c.before.before.before.before
 
-  abbrev passed : tie.After-enum-told
+  abbrev passed : tie.In_default
   passed = step.before.before.before.before.before
 
   abbrev source : tie.Start
-  source = from passed.before.before.before
+  source = from passed.before.before
 
   abbrev values-in : List ℤ
-  values-in = step.unstages.last.1.1.1.1.1.0
+  values-in = step.unstages.new.y
 
   made : take (N source) values-in ≡ unstages (N source) (frame source)
   made = step.unstages.ensures
 
   y_kept : length values-in ≡ length (y source)
-  y_kept = c.before.y2.given ∙ y-same passed.before.before
+  y_kept = c.y-2-1.given ∙ y-same passed.before
 
   y-wide : N source ≤ length values-in
   y-wide = omega (arith, y_kept, (room source).y-wide)
 
-module _ (h : tie.After-first-beyond) where
-  abbrev at-z : tie.After-z
-  at-z = h.before.before
+module _ (h : tie.After-first_beyond-value) where
+  abbrev at-z : tie.After-z-1
+  at-z = h.before
 
-  seen2 : let s = source at-z in first_beyond (pos folded_limit) (unstages (N s) (frame s)) 0 ≡ h.first-beyond.result
-  seen2 = sym (h.first-beyond.ensures ∙ ap (λ (l : List ℤ). first_beyond (pos folded_limit) l 0) (made at-z))
+  seen2 : let s = source at-z in first_beyond (pos folded_limit) (unstages (N s) (frame s)) 0 ≡ h.first_beyond-value.result
+  seen2 = sym (h.first_beyond-value.ensures ∙ ap (λ (l : List ℤ). first_beyond (pos folded_limit) l 0) (made at-z))
 
-seldom-beyond-requires : tie.Need-seldom-beyond-requires
+seldom-beyond-requires : tie.Need-seldom_beyond-coefficient-requires
 seldom-beyond-requires c κs =
     let s = c.before in
     ((omega (arith, long s, width-le (N s) s.requires.0), ap (λ n. n % 4) (long s) ∙ width-in-fours (N s) s.requires.0, long s ∙ part-long _ _ (room s).y-wide), record { le = tt })
 
-returns : tie.Need-returns
-returns c = let f = c.before.before.before.before in let s = from f in unstages-refused (N s) (frame s) _ _ (seen f ∙ c.before.coefficient.given.1)
+returns : tie.Need-returns-in-At
+returns c = let f = c.before.before in let s = from f in unstages-refused (N s) (frame s) _ _ (seen f ∙ c.in-At.is)
 
 unstages-requires : tie.Need-unstages-requires
 unstages-requires c κs =
     let n = c.before.before.before.before in
-    let s = from n.before.before.before in
-    (s.pre.0, (s.pre.1.0, (same-room (room s) (y-same n.before.before), (long s, none_within coefficient_limit _ (none n)))))
+    let s = from n.before.before in
+    (s.requires.0, (s.requires.1.0, (same-room (room s) (y-same n.before), (long s, none_within coefficient_limit _ (none n)))))
 
-returns-2 : tie.Need-returns-2
+returns-2 : tie.Need-returns-in-At-value
 returns-2 c =
-    let h = c.before.before.before in
+    let h = c.before in
     let s = source (at-z h) in
-    unstaged-refused (N s) (frame s) _ (none (passed (at-z h))) _ (seen2 h ∙ c.before.value.given.1)
+    unstaged-refused (N s) (frame s) _ (none (passed (at-z h))) _ (seen2 h ∙ c.in-At-value.is)
 
-returns-3 : tie.Need-returns-3
+returns-3 : tie.Need-returns
 returns-3 c =
-    let h = c.before.before in
+    let h = c.before in
     let s = source (at-z h) in
-    ap (λ (l : List ℤ). (told Done, l)) (made (at-z h)) ∙ unstages-done (N s) (frame s) _ (none (passed (at-z h))) (seen2 h ∙ c.enum-told2.given.1)
+    ap (λ (l : List ℤ). (told Done, l)) (made (at-z h)) ∙ unstages-done (N s) (frame s) _ (none (passed (at-z h))) (seen2 h ∙ c.in_default-value.is)
 
-pub unstaged-spec : {M : Type 1} → statement M
-unstaged-spec =
+pub unstaged_spec : {M : Type 1} → statement M
+unstaged_spec =
     tie.close
     (tie.spec
     (λ c. (room c).y-wide)
     (λ c. part-long _ _ (room c.before).y-wide)
     seldom-beyond-requires
     (λ c. search rules)
-    (λ c. y-same c.before.before.before)
+    (λ c. y-same c.before)
     returns
     (λ c. search rules)
     unstages-requires
     (λ c. y-wide c)
-    (λ c. part-long _ _ (y-wide c.before))
+    (λ c. part-long _ _ (y-wide c))
     (λ c κs. record { le = tt })
     (λ c. search rules)
-    (λ c. let end = at-z c.before.before.before in end.before.before.before.top.given)
-    (λ c. let end = at-z c.before.before.before in end.before.before.bottom.given)
-    (λ c. y_kept (at-z c.before.before.before))
-    (λ c. (at-z c.before.before.before).z.given)
+    (λ c. let end = at-z c.before in end.top-1.given)
+    (λ c. let end = at-z c.before in end.bottom-1.given)
+    (λ c. y_kept (at-z c.before))
+    (λ c. (at-z c.before).z-1.given)
     returns-2
     (λ c. search rules)
-    (λ c. let end = at-z c.before.before in end.before.before.before.top.given)
-    (λ c. let end = at-z c.before.before in end.before.before.bottom.given)
-    (λ c. y_kept (at-z c.before.before))
-    (λ c. (at-z c.before.before).z.given)
+    (λ c. let end = at-z c.before in end.top-1.given)
+    (λ c. let end = at-z c.before in end.bottom-1.given)
+    (λ c. y_kept (at-z c.before))
+    (λ c. (at-z c.before).z-1.given)
     returns-3)

@@ -27,7 +27,7 @@ module _ (s : tie.Start) where
   half = N / 2
 
   half-wide : half ≡ half_width N
-  half-wide = half_is N s.pre.0
+  half-wide = half_is N s.requires.0
 
   abbrev folded : List ℤ
   folded = s.args.folded.now
@@ -36,17 +36,17 @@ module _ (s : tie.Start) where
   upper_is = rest_part (length folded) half _ folded refl half-wide
 
   upper_long : length (drop (half_width N) folded) ≡ half_width N
-  upper_long = omega (arith, length-drop (half_width N) folded, s.pre.1.1.0.0, width-half N s.pre.0)
+  upper_long = omega (arith, length-drop (half_width N) folded, s.requires.1.1.0.0, width-half N s.requires.0)
 
-slice-aggregate-unfold : tie.Need-slice-aggregate-unfold
-slice-aggregate-unfold c = let s = c.before in part-long _ s.args.t.now (omega (arith, lifts-in (N s) s.requires.0 _ s.requires.1.0))
+slice-aggregate-unfold : tie.Need-slice_bounds-unfold-end
+slice-aggregate-unfold c = let s = c in part-long _ s.args.t.now (omega (arith, lifts-in (N s) s.requires.0 _ s.requires.1.0))
 
-part-unfold-end : tie.Need-slice-bounds-unfold-end
-part-unfold-end c = let s = c.before in lifts-in (N s) s.requires.0 _ s.requires.1.0
+part-unfold-end : tie.Need-slice_bounds-unfold-end-2
+part-unfold-end c = let s = c in lifts-in (N s) s.requires.0 _ s.requires.1.0
 
 unfold-requires : tie.Need-unfold-requires
 unfold-requires c κs =
-    let s = c.before.before.before.before in (
+    let s = c.before.before.before in (
       s.requires.0,
       (
         tangents-lent (N s) s.requires.0 _ s.requires.1.0,
@@ -64,10 +64,10 @@ unfold-requires c κs =
     )
 
 returns : tie.Need-returns
-returns c = let s = c.before.before.before.before.before.before in c.before.unfold.ensures ∙ ap (unfolded (N s) s.args.held.now) (upper_is s)
+returns c = let s = c.before.before.before.before.before in c.unfold.ensures ∙ ap (unfolded (N s) s.args.held.now) (upper_is s)
 
-pub block-between-spec : {M : Type 1} → statement M
-block-between-spec =
+pub block_between_spec : {M : Type 1} → statement M
+block_between_spec =
     tie.close
     (tie.spec
     slice-aggregate-unfold
@@ -80,5 +80,5 @@ block-between-spec =
     (λ c. search rules)
     (λ c. search rules)
     unfold-requires
-    (λ c. c.wide.given)
+    (λ c. c.wide-1.given)
     returns)

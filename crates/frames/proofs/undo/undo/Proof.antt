@@ -36,103 +36,103 @@ module _ (s : tie.Start) where
   out = s.args.block.now
 
   room : WideRoom N s.args.top.now s.args.bottom.now s.args.y.now s.args.z.now
-  room = s.pre.1.1.1.0
+  room = s.requires.1.1.1.0
 
 -- 9, the stages undone, 10
-module _ (c : tie.After-z) where
-  abbrev step : tie.After-unstaged
+module _ (c : tie.After-z-1) where
+  abbrev step : tie.After-unstaged-asked
   step = c.before.before.before.before
 
   abbrev from : tie.Start
   from = step.before.before.before.before.before
 
   abbrev values : List ℤ
-  values = take (N from) step.unstaged.last.1.1.1.1.1.0
+  values = take (N from) step.unstaged-asked.new.y
 
   abbrev z-after : List ℤ
-  z-after = step.unstaged.last.1.1.1.1.1.1.0
+  z-after = step.unstaged-asked.new.z
 
-  asked : (told step.unstaged.result, values) ≡ unstages_asked (N from) (frame from) values
-  asked = step.unstaged.ensures
+  asked : (told step.unstaged-asked.result, values) ≡ unstages_asked (N from) (frame from) values
+  asked = step.unstaged-asked.ensures
 
-  y-wide : N from ≤ length step.unstaged.last.1.1.1.1.1.0
-  y-wide = omega (arith, c.before.y.given, (room from).y-wide)
+  y-wide : N from ≤ length step.unstaged-asked.new.y
+  y-wide = omega (arith, c.y-1.given, (room from).y-wide)
 
   z-wide : N from ≤ length z-after
-  z-wide = omega (arith, c.z.given, (room from).z-wide)
+  z-wide = omega (arith, c.z-1.given, (room from).z-wide)
 
 -- nothing is refused
-module _ (e : tie.Else1) where
-  abbrev undone : tie.After-z
+module _ (e : tie.Else-number-ne0) where
+  abbrev undone : tie.After-z-1
   undone = e.before.before
 
-  zero : (told (step undone).unstaged.result).0 ≡ 0
-  zero = sym e.before.number.ensures ∙ e.if1.left
+  zero : (told (step undone).unstaged-asked.result).0 ≡ 0
+  zero = sym e.number.ensures ∙ e.if-number-ne0.false
 
   made : values undone ≡ unstages (N (from undone)) (frame (from undone))
-  made = unstaged-made (N (from undone)) (frame (from undone)) (values undone) (step undone).unstaged.result (asked undone) zero
+  made = unstaged-made (N (from undone)) (frame (from undone)) (values undone) (step undone).unstaged-asked.result (asked undone) zero
 
   inside : Within folded_limit (values undone)
-  inside = subst (Within folded_limit) (sym made) (none_within folded_limit _ (unstaged-inside (N (from undone)) (frame (from undone)) (values undone) (step undone).unstaged.result (asked undone) zero))
+  inside = subst (Within folded_limit) (sym made) (none_within folded_limit _ (unstaged-inside (N (from undone)) (frame (from undone)) (values undone) (step undone).unstaged-asked.result (asked undone) zero))
 
-returns : tie.Need-returns
+returns : tie.Need-returns-then-number-ne0
 returns c =
     let u = c.before.before in
     let s = from u in
-    λ total. undo-refused (N s) s.args.count total (low s) (frame s) (out s) (values u) (step u).unstaged.result (asked u) (λ z. c.if1.true (c.before.number.ensures ∙ z))
+    λ total. undo-refused (N s) s.args.count total (low s) (frame s) (out s) (values u) (step u).unstaged-asked.result (asked u) (λ z. c.if-number-ne0.true (c.number.ensures ∙ z))
 
-unfolded-in-requires : tie.Need-unfolded-in-requires
+unfolded-in-requires : tie.Need-unfolded_in-requires
 unfolded-in-requires c κs =
-    let e = c.before.before.before.before in
+    let e = c.before.before.before in
     let u = undone e in
     let s = from u in
-    let l = s.pre.1.1.0 in (
-      s.pre.0,
+    let l = s.requires.1.1.0 in (
+      s.requires.0,
       (
-        s.pre.1.0,
-        ((ap length (made e) ∙ length-unstages (N s) (frame s), l.1, sym (part-long _ _ (z-wide u)), l.2), (inside e, s.pre.1.1.1.1)),
+        s.requires.1.0,
+        ((ap length (made e) ∙ length-unstages (N s) (frame s), l.1, sym (part-long _ _ (z-wide u)), l.2), (inside e, s.requires.1.1.1.1)),
       ),
     )
 
 -- at the end
-module _ (c : tie.After-block) where
-  abbrev called : tie.After-unfolded-in
+module _ (c : tie.After-block-1) where
+  abbrev called : tie.After-unfolded_in
   called = c.before.before.before
 
-  abbrev passed : tie.Else1
-  passed = called.before.before.before.before.before
+  abbrev passed : tie.Else-number-ne0
+  passed = called.before.before.before.before
 
-  abbrev lent : tie.After-z
+  abbrev lent : tie.After-z-1
   lent = undone passed
 
-returns-2 : tie.Need-returns-2
+returns-2 : tie.Need-returns
 returns-2 c =
     let u = lent c in
     let s = from u in
-    λ total. (called c).unfolded-in.ensures total
+    λ total. (called c).unfolded_in.ensures total
     ∙ ap (λ (l : List ℤ). unfolded_in (opened (N s) s.args.count total (low s)) l (out s)) (made (passed c))
-    ∙ undo-passed (N s) s.args.count total (low s) (frame s) (out s) (values u) (step u).unstaged.result (asked u) (zero (passed c))
+    ∙ undo-passed (N s) s.args.count total (low s) (frame s) (out s) (values u) (step u).unstaged-asked.result (asked u) (zero (passed c))
 
-pub undo-spec : {M : Type 1} → statement M
-undo-spec =
+pub undo_spec : {M : Type 1} → statement M
+undo_spec =
     tie.close
     (tie.spec
     (λ c κs. let s = c.before.before.before.before in (s.requires.0, (s.requires.1.0, (room s, s.requires.1.1.0.0))))
     (λ c κs. tt)
-    (λ c. let u = c.before.before in u.before.before.before.top.given)
-    (λ c. let u = c.before.before in u.before.before.bottom.given)
-    (λ c. c.before.before.before.y.given)
-    (λ c. c.before.before.z.given)
+    (λ c. let u = c in u.top-1.given)
+    (λ c. let u = c in u.bottom-1.given)
+    (λ c. c.y-1.given)
+    (λ c. c.z-1.given)
     returns
     (λ c. y-wide (undone c))
-    (λ c. part-long _ _ (y-wide (undone c.before)))
-    (λ c. z-wide (undone c.before.before))
-    (λ c. part-long _ _ (z-wide (undone c.before.before.before)))
+    (λ c. part-long _ _ (y-wide (undone c)))
+    (λ c. z-wide (undone c.before))
+    (λ c. part-long _ _ (z-wide (undone c.before.before)))
     unfolded-in-requires
-    (λ c. c.before.before.held.given)
-    (λ c. c.block.given)
-    (λ c. (lent c).before.before.before.top.given)
-    (λ c. (lent c).before.before.bottom.given)
-    (λ c. (lent c).before.y.given)
-    (λ c. c.before.z2.given.1 ∙ (lent c).z.given)
+    (λ c. c.held-1.given)
+    (λ c. c.block-1.given)
+    (λ c. (lent c).top-1.given)
+    (λ c. (lent c).bottom-1.given)
+    (λ c. (lent c).y-1.given)
+    (λ c. c.z-2-1.given.1 ∙ (lent c).z-1.given)
     returns-2)

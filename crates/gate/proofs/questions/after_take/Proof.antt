@@ -11,12 +11,12 @@ use Rattle.gate.proofs.questions.after_take.Tie as tie
 
 returns : tie.Need-returns
 returns c =
-    let n = c.before.before in
-    let s = n.before in
+    let n = c in
+    let s = n in
     let run = s.args.run in
-    c.hand-back.ensures
-    ∙ ap (λ (r : Run). outcome_of r s.args.answer) c.before.make.ensures
-    ∙ ap₂ (λ (k : ℕ) (t : ℤ). outcome_of (record_of run.width k s.args.held run.finished t) s.args.answer) n.next-count.ensures (held w64 _ s.ranges.total).is
+    c.hand_back.ensures
+    ∙ ap (λ (r : Run). outcome_of r s.args.answer) c.make.ensures
+    ∙ ap₂ (λ (k : ℕ) (t : ℤ). outcome_of (record_of run.width k s.args.held run.finished t) s.args.answer) n.next_count-count.ensures (held w64 _ s.ranges.total).is
 
-pub after-take-spec : {M : Type 1} → statement M
-after-take-spec = tie.close (tie.spec (λ c κs. c.requires) (λ c κs. tt) (λ c κs. tt) returns)
+pub after_take_spec : {M : Type 1} → statement M
+after_take_spec = tie.close (tie.spec (λ c κs. c.requires) (λ c κs. tt) (λ c κs. tt) returns)

@@ -6,14 +6,14 @@ use Rattle.gate.proofs.BlockLaws.{range_clear}
 use Rattle.gate.proofs.questions.fault_of.Statement.{statement}
 use Rattle.gate.proofs.questions.fault_of.Tie as tie
 
-in-range-requires : tie.Need-in-range-requires
+in-range-requires : tie.Need-in_range-requires
 in-range-requires c κs = (omega (arith, c.requires.0), record { le = tt })
 
-returns : tie.Need-returns
-returns c = range_clear _ (sym c.before.in-range.ensures ∙ c.if1.true)
+returns : tie.Need-returns-then-in_range
+returns c = range_clear _ (sym c.in_range.ensures ∙ c.if-in_range.true)
 
-returns-2 : tie.Need-returns-2
+returns-2 : tie.Need-returns
 returns-2 c = search rules
 
-pub fault-of-spec : {M : Type 1} → statement M
-fault-of-spec = tie.close (tie.spec in-range-requires returns (λ c κs. search rules) (λ c. search rules))
+pub fault_of_spec : {M : Type 1} → statement M
+fault_of_spec = tie.close (tie.spec in-range-requires returns (λ c κs. search rules) (λ c. search rules))

@@ -17,10 +17,10 @@ use Rattle.gate.proofs.GateLaws.{Counted, counted_none, counted_next, counted-en
 use Rattle.gate.proofs.questions.in_range.Statement.{statement}
 use Rattle.gate.proofs.questions.in_range.Tie as tie
 
-abbrev invariant-loop : tie.invariant-loop
+abbrev invariant-loop : tie.invariant-loop-i
 invariant-loop x limit out₀ i₀ out i = (i ≤ length x) × (out ≤ i) × Counted (to_z w32 limit) x i out
 
-abbrev decreases-loop : tie.decreases-loop
+abbrev decreases-loop : tie.decreases-loop-i
 decreases-loop x limit out₀ i₀ out i = length x - i
 
 one_at_most : (b : Bool) → cond b 1 0 ≤ 1
@@ -28,50 +28,50 @@ one_at_most true = omega arith
 one_at_most false = omega arith
 
 -- what a turn counts
-module _ (c : tie.After-out-of-range invariant-loop decreases-loop) where
+module _ (c : tie.After-out_of_range-out invariant-loop decreases-loop) where
   abbrev limit : ℤ
-  limit = let start = c.before.before.before.before in to_z w32 (of_z w32 start.args.limit)
+  limit = let start = c in to_z w32 (of_z w32 start.args.limit)
 
   abbrev value : ℤ
-  value = let start = c.before.before.before.before in at start.args.x.now c.before.before.before.loop.i
+  value = let start = c in at start.args.x.now c.loop-i.i
 
-  told : c.out_of_range.result ≡ cond (beyond limit value) 1 0
-  told = c.out_of_range.ensures ∙ ap (λ v. cond (beyond limit v) 1 0) (held-ok w32 value c.before.out-of-range-arg.given).is
+  told : c.out_of_range-out.result ≡ cond (beyond limit value) 1 0
+  told = c.out_of_range-out.ensures ∙ ap (λ v. cond (beyond limit v) 1 0) (held-ok w32 value c.out_of_range-arg-1.given).is
 
-  one : c.out_of_range.result ≤ 1
+  one : c.out_of_range-out.result ≤ 1
   one = omega (arith, told, one_at_most (beyond limit value))
 
-loop-holds : tie.Need-loop-init invariant-loop decreases-loop
+loop-holds : tie.Need-loop-i-init invariant-loop decreases-loop
 loop-holds c = (omega arith, omega arith, counted_none _ _)
 
-shared-slice-copy-out-out-of-range : tie.Need-shared-slice-copy-out-out-of-range invariant-loop decreases-loop
+shared-slice-copy-out-out-of-range : tie.Need-bounds-x-i invariant-loop decreases-loop
 shared-slice-copy-out-out-of-range c = omega arith
 
-out-of-range-requires : tie.Need-out-of-range-requires invariant-loop decreases-loop
-out-of-range-requires c κs = let s = c.before.before.before in subst (λ z. pos 0 ≤ℤ z) (sym (held w32 _ s.ranges.limit).is) s.requires.1
+out-of-range-requires : tie.Need-out_of_range-out-requires invariant-loop decreases-loop
+out-of-range-requires c κs = let s = c in subst (λ z. pos 0 ≤ℤ z) (sym (held w32 _ s.ranges.limit).is) s.requires.1
 
-add-out : tie.Need-overflow-add-out invariant-loop decreases-loop
+add-out : tie.Need-overflow_add-out invariant-loop decreases-loop
 add-out c =
-    let l = c.before.before.before in
-    record { fits = omega (arith, one c, l.loop.invariant.1, c.before.before.loop-test.true, l.before.requires.0) }
+    let l = c in
+    record { fits = omega (arith, one c, l.loop-i.invariant.1, c.loop-i-test.true, l.requires.0) }
 
-add-i : tie.Need-overflow-add-i invariant-loop decreases-loop
+add-i : tie.Need-overflow_add-i invariant-loop decreases-loop
 add-i c = omega arith
 
-loop-less : tie.Need-loop-smaller invariant-loop decreases-loop
+loop-less : tie.Need-loop-i-smaller invariant-loop decreases-loop
 loop-less c = omega arith
 
-loop-again : tie.Need-loop-preserved invariant-loop decreases-loop
+loop-again : tie.Need-loop-i-preserved invariant-loop decreases-loop
 loop-again c =
-    let l = c.before.before.before in
-    let readings = l.before.args.x.now in
-    (omega arith, omega (arith, one c), counted_next (limit c) readings l.loop.i l.loop.out c.out_of_range.result c.before.before.loop-test.true (told c) l.loop.invariant.2)
+    let l = c in
+    let readings = l.args.x.now in
+    (omega arith, omega (arith, one c), counted_next (limit c) readings l.loop-i.i l.loop-i.out c.out_of_range-out.result c.loop-i-test.true (told c) l.loop-i.invariant.2)
 
 returns : tie.Need-returns invariant-loop decreases-loop
-returns c = let s = c.before.before in counted-end _ _ _ _ (omega arith) c.before.loop.invariant.2 ∙ ap (λ z. inside z s.args.x.now) (held w32 _ s.ranges.limit).is
+returns c = let s = c in counted-end _ _ _ _ (omega arith) c.loop-i.invariant.2 ∙ ap (λ z. inside z s.args.x.now) (held w32 _ s.ranges.limit).is
 
-pub in-range-spec : {M : Type 1} → statement M
-in-range-spec =
+pub in_range_spec : {M : Type 1} → statement M
+in_range_spec =
     tie.close
     (tie.spec
     invariant-loop

@@ -15,27 +15,27 @@ module _ (s : tie.Start) where
   value = held w32 _ s.ranges.value
 
   limit : Held w32 (of_z w32 s.args.limit) s.args.limit
-  limit = held w32 _ s.fits.limit
+  limit = held w32 _ s.ranges.limit
 
   low_fits : SFits w32 (pos 0 -ℤ s.args.limit)
-  low_fits = minus-fits w32 s.args.limit s.pre s.fits.limit
+  low_fits = minus-fits w32 s.args.limit s.requires s.ranges.limit
 
   low : Held w32 (of_z w32 (pos 0 -ℤ to_z w32 (of_z w32 s.args.limit))) (neg_ℤ s.args.limit)
   low = h-minus limit low_fits
 
-returns : tie.Need-returns
-returns c = let s = c.before in sym (ap (λ b. cond b 1 0) (above _ s.args.value s.requires (h-lt (limit s) (value s) c.if1.true)))
+returns : tie.Need-returns-then-limit-value
+returns c = let s = c.before in sym (ap (λ b. cond b 1 0) (above _ s.args.value s.requires (h-lt (limit s) (value s) c.if-limit-value.true)))
 
-sub-if2 : tie.Need-overflow-sub-if2
+sub-if2 : tie.Need-overflow_sub-limit
 sub-if2 c = let s = c.before in asks-minus (limit s) (low_fits s)
 
-returns-2 : tie.Need-returns-2
-returns-2 c = let s = c.before.before in sym (ap (λ b. cond b 1 0) (below _ s.args.value s.requires (h-lt (value s) (low s) c.if2.true)))
+returns-2 : tie.Need-returns-then-value-limit
+returns-2 c = let s = c.before.before in sym (ap (λ b. cond b 1 0) (below _ s.args.value s.requires (h-lt (value s) (low s) c.if-value-limit.true)))
 
-returns-3 : tie.Need-returns-3
+returns-3 : tie.Need-returns
 returns-3 c =
     let s = c.before.before in
-    sym (ap (λ b. cond b 1 0) (neither _ s.args.value s.requires (h-lt (limit s) (value s) c.before.if1.false) (h-lt (value s) (low s) c.if2.false)))
+    sym (ap (λ b. cond b 1 0) (neither _ s.args.value s.requires (h-lt (limit s) (value s) c.if-limit-value.false) (h-lt (value s) (low s) c.if-value-limit.false)))
 
-pub out-of-range-spec : {M : Type 1} → statement M
-out-of-range-spec = tie.close (tie.spec returns sub-if2 returns-2 returns-3)
+pub out_of_range_spec : {M : Type 1} → statement M
+out_of_range_spec = tie.close (tie.spec returns sub-if2 returns-2 returns-3)

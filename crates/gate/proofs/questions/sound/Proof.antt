@@ -26,7 +26,7 @@ use Rattle.gate.proofs.questions.sound.Tie as tie
 abbrev run : tie.Start → Run
 run s = record_of s.args.width s.args.count s.args.held.now s.args.finished s.args.total
 
-module _ (e : tie.Else1) where
+module _ (e : tie.Else-half-eq0) where
   abbrev start : tie.Start
   start = e.before.before
 
@@ -37,23 +37,23 @@ module _ (e : tie.Else1) where
   held-values = start.args.held.now
 
   abbrev half : ℕ
-  half = e.before.half-width.result
+  half = e.half_width-half.result
 
   has_width : half_width N ≡ 0 → ⊥
-  has_width h = e.if1.left (e.before.half-width.ensures ∙ h)
+  has_width h = e.if-half-eq0.false (e.half_width-half.ensures ∙ h)
 
   half_le : half ≤ length held-values
-  half_le = omega (arith, start.pre.1, e.before.half-width.ensures, half-width-le N)
+  half_le = omega (arith, start.requires.1, e.half_width-half.ensures, half-width-le N)
 
   front-is : (limit : ℤ) → inside limit (take half held-values) ≡ inside limit (take (half_width N) held-values)
-  front-is limit = ap (λ (n : ℕ). inside limit (take n held-values)) e.before.half-width.ensures
+  front-is limit = ap (λ (n : ℕ). inside limit (take n held-values)) e.half_width-half.ensures
 
   rest-is : take (length held-values - half) (drop half held-values) ≡ drop (half_width N) held-values
-  rest-is = rest_part (length held-values) half _ held-values refl e.before.half-width.ensures
+  rest-is = rest_part (length held-values) half _ held-values refl e.half_width-half.ensures
 
 -- the count is one that a run can have: what is asked of the total
-module _ (t : tie.After-total-beyond) where
-  abbrev few : tie.Else2
+module _ (t : tie.After-total_beyond) where
+  abbrev few : tie.Else-top-count
   few = t.before.before
 
   abbrev from : tie.Start
@@ -62,91 +62,91 @@ module _ (t : tie.After-total-beyond) where
   abbrev most : ℕ
   most = blocks_behind from.args.top from.args.count * from.args.width * reading_limit
 
-  total-asked : t.total-beyond.result ≡ beyond (pos most) from.args.total
-  total-asked = t.total-beyond.ensures ∙ ap₂ (λ (n : ℕ) (x : ℤ). beyond (pos n) x) t.before.greatest-total.ensures.0 (held w64 _ from.fits.total).is
+  total-asked : t.total_beyond.result ≡ beyond (pos most) from.args.total
+  total-asked = t.total_beyond.ensures ∙ ap₂ (λ (n : ℕ) (x : ℤ). beyond (pos n) x) t.greatest_total.ensures.0 (held w64 _ from.ranges.total).is
 
 -- what the places from half on are found to be
 module _ (i : tie.After-clear) where
-  abbrev fitting : tie.Else3
+  abbrev fitting : tie.Else-total_beyond
   fitting = i.before.before
 
-  abbrev counted : tie.Else2
+  abbrev counted : tie.Else-top-count
   counted = few fitting.before
 
-  abbrev first : tie.Else1
+  abbrev first : tie.Else-half-eq0
   first = counted.before
 
   total-fits : beyond (pos (most fitting.before)) (start first).args.total ≡ false
-  total-fits = sym (total-asked fitting.before) ∙ fitting.if3.left
+  total-fits = sym (total-asked fitting.before) ∙ fitting.if-total_beyond.false
 
   rest-seen : inside (pos 0) (drop (half_width (N first)) (held-values first)) ≡ i.clear.result
   rest-seen = sym (i.clear.ensures ∙ ap (inside (pos 0)) (rest-is first))
 
-greatest-total-requires : tie.Need-greatest-total-requires
-greatest-total-requires c κs = let e = c.before in (c.if2.false, (start e).requires.0, width-le (N e) (omega (arith, has_width e)))
+greatest-total-requires : tie.Need-greatest_total-requires
+greatest-total-requires c κs = let e = c.before in (c.if-top-count.false, (start e).requires.0, width-le (N e) (omega (arith, has_width e)))
 
-total-beyond-requires : tie.Need-total-beyond-requires
-total-beyond-requires c κs = c.greatest-total.ensures.1
+total-beyond-requires : tie.Need-total_beyond-requires
+total-beyond-requires c κs = c.greatest_total.ensures.1
 
-returns : tie.Need-returns
-returns c = let s = c.before.before in no-width s.args.top (run s) (sym c.before.half-width.ensures ∙ c.if1.true)
+returns : tie.Need-returns-then-half-eq0
+returns c = let s = c.before.before in no-width s.args.top (run s) (sym c.half_width-half.ensures ∙ c.if-half-eq0.true)
 
-returns-2 : tie.Need-returns-2
-returns-2 c = let e = c.before in no-count (start e).args.top (run (start e)) (has_width e) c.if2.true
+returns-2 : tie.Need-returns-then-top-count
+returns-2 c = let e = c.before in no-count (start e).args.top (run (start e)) (has_width e) c.if-top-count.true
 
-returns-3 : tie.Need-returns-3
+returns-3 : tie.Need-returns-then-total_beyond
 returns-3 c =
     let t = c.before in
     let e = (few t).before in
-    no-total (start e).args.top (run (start e)) (has_width e) (few t).if2.false (sym (total-asked t) ∙ c.if3.true)
+    no-total (start e).args.top (run (start e)) (has_width e) (few t).if-top-count.false (sym (total-asked t) ∙ c.if-total_beyond.true)
 
-mul-clear : tie.Need-overflow-mul-clear
-mul-clear c = let e = (few c.before).before in record { fits = omega (arith, half_le e, (start e).pre.1) }
+mul-clear : tie.Need-offset_bounds-held-half
+mul-clear c = let e = (few c.before).before in record { fits = omega (arith, half_le e, (start e).requires.1) }
 
-sub-clear : tie.Need-overflow-sub-clear
+sub-clear : tie.Need-slice_bounds-clear-count
 sub-clear c = half_le (few c.before).before
 
-part-clear-start : tie.Need-slice-bounds-clear-start
+part-clear-start : tie.Need-slice_bounds-clear-start
 part-clear-start c = half_le (few c.before).before
 
-returns-4 : tie.Need-returns-4
+returns-4 : tie.Need-returns-then-not-clear
 returns-4 c =
     let i = c.before in
     let e = first i in
-    rest-held (start e).args.top (run (start e)) (has_width e) (counted i).if2.false (total-fits i) (rest-seen i ∙ not-true _ c.if4.true)
+    rest-held (start e).args.top (run (start e)) (has_width e) (counted i).if-top-count.false (total-fits i) (rest-seen i ∙ c.if-not-clear.true)
 
-slice-aggregate-clear : tie.Need-slice-aggregate-clear
-slice-aggregate-clear c = let e = first c.before.before.before in part-long _ (held-values e) (half_le e)
+slice-aggregate-clear : tie.Need-slice_bounds-clear-end-then-count-eq0
+slice-aggregate-clear c = let e = first c.before.before in part-long _ (held-values e) (half_le e)
 
-returns-5 : tie.Need-returns-5
+returns-5 : tie.Need-returns-then-count-eq0
 returns-5 c =
-    let f = c.before.before.before in
-    let i = f.before in
+    let f = c in
+    let i = f.before.before.before in
     let e = first i in
-    c.clear2.ensures ∙ front-is e _ ∙ none-taken (start e).args.top (run (start e)) (has_width e) (counted i).if2.false (total-fits i) (rest-seen i ∙ not-false _ f.if4.false) c.before.before.if5.true
+    c.clear-then-count-eq0.ensures ∙ front-is e _ ∙ none-taken (start e).args.top (run (start e)) (has_width e) (counted i).if-top-count.false (total-fits i) (rest-seen i ∙ f.if-not-clear.false) c.if-count-eq0.true
 
-slice-aggregate-clear-2 : tie.Need-slice-aggregate-clear-2
-slice-aggregate-clear-2 c = let at_clear = c.before.before.before.before in let e = first at_clear in part-long _ (held-values e) (half_le e)
+slice-aggregate-clear-2 : tie.Need-slice_bounds-clear-end-then-finished
+slice-aggregate-clear-2 c = let at_clear = c.before.before.before in let e = first at_clear in part-long _ (held-values e) (half_le e)
 
-returns-6 : tie.Need-returns-6
+returns-6 : tie.Need-returns-then-finished
 returns-6 c =
-    let f = c.before.before.before.before in
-    let i = f.before in
+    let f = c in
+    let i = f.before.before.before.before in
     let e = first i in
-    c.clear3.ensures ∙ front-is e _ ∙ run-over (start e).args.top (run (start e)) (has_width e) (counted i).if2.false (total-fits i) (rest-seen i ∙ not-false _ f.if4.false) c.before.before.before.if5.false c.before.before.if6.true
+    c.clear-then-finished.ensures ∙ front-is e _ ∙ run-over (start e).args.top (run (start e)) (has_width e) (counted i).if-top-count.false (total-fits i) (rest-seen i ∙ f.if-not-clear.false) c.if-count-eq0.false c.if-finished.true
 
-slice-aggregate-inside : tie.Need-slice-aggregate-inside
-slice-aggregate-inside c = let at_clear = c.before.before.before.before in let e = first at_clear in part-long _ (held-values e) (half_le e)
+slice-aggregate-inside : tie.Need-slice_bounds-inside-end
+slice-aggregate-inside c = let at_clear = c.before.before.before in let e = first at_clear in part-long _ (held-values e) (half_le e)
 
-returns-7 : tie.Need-returns-7
+returns-7 : tie.Need-returns
 returns-7 c =
-    let f = c.before.before.before.before in
-    let i = f.before in
+    let f = c in
+    let i = f.before.before.before.before in
     let e = first i in
-    c.inside.ensures ∙ front-is e _ ∙ run-open (start e).args.top (run (start e)) (has_width e) (counted i).if2.false (total-fits i) (rest-seen i ∙ not-false _ f.if4.false) c.before.before.before.if5.false c.before.before.if6.false
+    c.inside.ensures ∙ front-is e _ ∙ run-open (start e).args.top (run (start e)) (has_width e) (counted i).if-top-count.false (total-fits i) (rest-seen i ∙ f.if-not-clear.false) c.if-count-eq0.false c.if-finished.false
 
-pub sound-spec : {M : Type 1} → statement M
-sound-spec =
+pub sound_spec : {M : Type 1} → statement M
+sound_spec =
     tie.close
     (tie.spec
     (λ c κs. search rules)

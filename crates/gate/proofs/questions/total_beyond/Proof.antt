@@ -22,7 +22,7 @@ module _ (s : tie.Start) where
   total = held w64 _ s.ranges.total
 
   high : Held w64 s.args.limit (pos s.args.limit)
-  high = held w64 (pos s.args.limit) (record { sfits = omega (arith, s.pre) })
+  high = held w64 (pos s.args.limit) (record { sfits = omega (arith, s.requires) })
 
   from_zero : pos 0 ≤ℤ pos s.args.limit
   from_zero = record { le = subst T (sym (le-leb 0 s.args.limit zero-le)) tt }
@@ -35,17 +35,17 @@ by-sides : (l x : ℤ) → pos 0 ≤ℤ l → lt_z l x ≡ false → {t : Bool} 
 by-sides l x k e {t = true} f = sym (below l x k f)
 by-sides l x k e {t = false} f = sym (neither l x k e f)
 
-returns : tie.Need-returns
-returns c = let s = c.before in sym (above _ s.args.total (from_zero s) (h-lt (high s) (total s) c.if1.true))
+returns : tie.Need-returns-then-high-total
+returns c = let s = c.before in sym (above _ s.args.total (from_zero s) (h-lt (high s) (total s) c.if-high-total.true))
 
-sub-result : tie.Need-overflow-sub-result
+sub-result : tie.Need-overflow_sub-result
 sub-result c = asks-minus (high c.before) (low_fits c.before)
 
-returns-2 : tie.Need-returns-2
+returns-2 : tie.Need-returns
 returns-2 c =
     let s = c.before in
     let low = h-minus (high s) (low_fits s) in
-    by-sides (pos s.args.limit) s.args.total (from_zero s) (h-lt (high s) (total s) c.if1.false) (h-lt (total s) low refl)
+    by-sides (pos s.args.limit) s.args.total (from_zero s) (h-lt (high s) (total s) c.if-high-total.false) (h-lt (total s) low refl)
 
-pub total-beyond-spec : {M : Type 1} → statement M
-total-beyond-spec = tie.close (tie.spec (λ c. search rules) returns sub-result returns-2)
+pub total_beyond_spec : {M : Type 1} → statement M
+total_beyond_spec = tie.close (tie.spec (λ c. search rules) returns sub-result returns-2)

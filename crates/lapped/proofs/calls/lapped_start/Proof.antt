@@ -14,32 +14,32 @@ use Rattle.lapped.proofs.calls.lapped_start.Tie as tie
 abbrev numbers : tie.Start → List ℤ
 numbers s = s.args.run.now
 
-returns : tie.Need-returns
+returns : tie.Need-returns-then-run-eq68
 returns c =
-    let p = c.before.before.before in
-    let f = p.before.before.before.before in
-    start-packed f.before.args.width (numbers f.before) _ _ _ f.start.ensures _ p.before.before.before.if1.true c.tell.ensures p.pack.ensures
+    let p = c in
+    let f = p in
+    start-packed f.args.width (numbers f.before.before.before.before.before.before.before.before) _ _ _ f.start-fresh.ensures _ p.if-run-eq68.true c.tell.ensures p.pack.ensures
 
 pack-requires : tie.Need-pack-requires
 pack-requires c κs =
-    let f = c.before.before.before in
-    subst (λ (r : Run). Packable r (numbers f.before)) (sym (ap (λ (g : (ℕ × ℕ) × Run). g.1) f.start.ensures)) (start_fits f.before.args.width (numbers f.before) c.before.before.if1.true)
+    let f = c in
+    subst (λ (r : Run). Packable r (numbers f.before.before.before.before)) (sym (ap (λ (g : (ℕ × ℕ) × Run). g.1) f.start-fresh.ensures)) (start_fits f.args.width (numbers f.before.before.before.before) c.if-run-eq68.true)
 
-returns-2 : tie.Need-returns-2
+returns-2 : tie.Need-returns-then-number-eq0
 unfolding told
 returns-2 c =
-    let n = c.before.before.before in
-    let f = n.before.before in
-    start-no-room f.before.args.width (numbers f.before) _ _ _ f.start.ensures n.before.if1.false (sym n.number.ensures ∙ c.before.before.if2.true) c.tell2.ensures
+    let n = c in
+    let f = n in
+    start-no-room f.args.width (numbers f.before.before.before.before.before.before) _ _ _ f.start-fresh.ensures n.if-run-eq68.false (sym n.number.ensures ∙ c.if-number-eq0.true) c.tell-then-number-eq0.ensures
 
-returns-3 : tie.Need-returns-3
+returns-3 : tie.Need-returns
 returns-3 c =
-    let n = c.before.before.before in
-    let f = n.before.before in
-    start-refused f.before.args.width (numbers f.before) _ _ _ f.start.ensures n.before.if1.false (λ e. c.before.before.if2.false (n.number.ensures ∙ e)) c.tell3.ensures
+    let n = c in
+    let f = n in
+    start-refused f.args.width (numbers f.before.before.before.before.before.before) _ _ _ f.start-fresh.ensures n.if-run-eq68.false (λ e. c.if-number-eq0.false (n.number.ensures ∙ e)) c.tell-2.ensures
 
-pub lapped-start-spec : {M : Type 1} → statement M
-lapped-start-spec =
+pub lapped_start_spec : {M : Type 1} → statement M
+lapped_start_spec =
     tie.close
     (tie.spec
     (λ c κs. search rules)

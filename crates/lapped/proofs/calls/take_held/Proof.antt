@@ -8,25 +8,25 @@ use Rattle.c_record.specs.Ready.{readings_of}
 use Rattle.lapped.proofs.calls.take_held.Statement.{statement}
 use Rattle.lapped.proofs.calls.take_held.Tie as tie
 
-total-is : (t : tie.After-struct-told) → to_z w64 (of_z w64 t.before.args.head.total) ≡ t.before.args.head.total
-total-is t = (held-ok w64 _ t.struct_told.given.1.1.1.0.1).is
+total-is : (t : tie.After-struct_told-1) → to_z w64 (of_z w64 t.args.head.total) ≡ t.args.head.total
+total-is t = (held-ok w64 _ t.struct_told-1.given.1.1.1.0.1).is
 
-returns : tie.Need-returns
+returns : tie.Need-returns-then-back
 unfolding readings_of
 returns c =
-    let called = c.before.before in
-    let way = called.before.before.before in
-    rw way.if1.true (rw (total-is way.before) at called.take.ensures)
+    let called = c in
+    let way = called in
+    rw way.if-back.true (rw (total-is way.before.before.before.before.before.before) at called.take.ensures)
 
-returns-2 : tie.Need-returns-2
+returns-2 : tie.Need-returns
 unfolding readings_of
 returns-2 c =
-    let called = c.before.before in
-    let way = called.before.before.before in
-    rw way.if1.false (rw (total-is way.before) at called.take2.ensures)
+    let called = c in
+    let way = called in
+    rw way.if-back.false (rw (total-is way.before.before.before.before.before.before) at called.take-2.ensures)
 
-pub take-held-spec : {M : Type 1} → statement M
-take-held-spec =
+pub take_held_spec : {M : Type 1} → statement M
+take_held_spec =
     tie.close
     (tie.spec
     (λ c κs. search rules)

@@ -7,28 +7,28 @@ use Rattle.c_record.specs.Ready.{readings_of}
 use Rattle.lapped.proofs.calls.total_after.Statement.{statement}
 use Rattle.lapped.proofs.calls.total_after.Tie as tie
 
-total-is : (t : tie.After-struct-told) → to_z w64 (of_z w64 t.before.args.head.total) ≡ t.before.args.head.total
-total-is t = (held-ok w64 _ t.struct_told.given.1.1.1.0.1).is
+total-is : (t : tie.After-struct_told-1) → to_z w64 (of_z w64 t.args.head.total) ≡ t.args.head.total
+total-is t = (held-ok w64 _ t.struct_told-1.given.1.1.1.0.1).is
 
-total-after-requires : tie.Need-total-after-requires
+total-after-requires : tie.Need-total_after-requires
 unfolding readings_of
-total-after-requires c κs z = let t = c.before in let h = t.before.requires z in (h.1, rw (total-is t) (rw c.if1.true at h.2))
+total-after-requires c κs z = let t = c.before in let h = t.requires z in (h.1, rw (total-is t) (rw c.if-back.true at h.2))
 
-returns : tie.Need-returns
+returns : tie.Need-returns-then-back
 unfolding readings_of
 returns c =
     let t = c.before.before in
-    (held-ok w64 _ c.total-after.type-inv).is ∙ (rw (total-is t) at c.total-after.ensures) ∙ rw c.before.if1.true
+    (held-ok w64 _ c.total_after.type_inv).is ∙ (rw (total-is t) at c.total_after.ensures) ∙ rw c.if-back.true
 
-next-total-requires : tie.Need-next-total-requires
+next-total-requires : tie.Need-next_total-requires
 unfolding readings_of
-next-total-requires c κs z = let t = c.before in let h = t.before.requires z in (h.0, rw (total-is t) (rw c.if1.false at h.2))
+next-total-requires c κs z = let t = c.before in let h = t.requires z in (h.0, rw (total-is t) (rw c.if-back.false at h.2))
 
-returns-2 : tie.Need-returns-2
+returns-2 : tie.Need-returns
 unfolding readings_of
 returns-2 c =
     let t = c.before.before in
-    (held-ok w64 _ c.next-total.type-inv).is ∙ (rw (total-is t) at c.next-total.ensures) ∙ rw c.before.if1.false
+    (held-ok w64 _ c.next_total.type_inv).is ∙ (rw (total-is t) at c.next_total.ensures) ∙ rw c.if-back.false
 
-pub total-after-spec : {M : Type 1} → statement M
-total-after-spec = tie.close (tie.spec total-after-requires returns next-total-requires returns-2)
+pub total_after_spec : {M : Type 1} → statement M
+total_after_spec = tie.close (tie.spec total-after-requires returns next-total-requires returns-2)

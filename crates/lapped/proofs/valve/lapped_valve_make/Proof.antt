@@ -10,35 +10,35 @@ use Rattle.lapped.proofs.ValveLaws.{record-written, make-leaves}
 use Rattle.lapped.proofs.valve.lapped_valve_make.Statement.{statement}
 use Rattle.lapped.proofs.valve.lapped_valve_make.Tie as tie
 
-module _ (m : tie.After-make) where
-  abbrev read : tie.After-valve-of-arg
+module _ (m : tie.After-make-made) where
+  abbrev read : tie.After-valve_of-arg-1
   read = m.before.before.before
 
   abbrev from : tie.Start
   from = read.before.before
 
-  made-is : m.make.result ≡ made (valve_of from.args.position.now from.args.count.now) (ticket_of from.args.steps from.args.stamp)
+  made-is : m.make-made.result ≡ made (valve_of from.args.position.now from.args.count.now) (ticket_of from.args.steps from.args.stamp)
   made-is =
-      m.make.ensures
+      m.make-made.ensures
       ∙ ap₂ made
-      (m.before.valve-of.ensures ∙ ap₂ valve_of (held-ok w32 _ read.valve-of-arg.given).is (held-ok w32 _ m.before.before.valve-of-arg2.given).is)
-      (read.before.ticket-of.ensures ∙ ap₂ ticket_of (held w32 _ from.fits.steps).is (held w32 _ from.fits.stamp).is)
+      (m.valve_of.ensures ∙ ap₂ valve_of (held-ok w32 _ read.valve_of-arg-1.given).is (held-ok w32 _ m.valve_of-arg-2-1.given).is)
+      (read.ticket_of-ticket.ensures ∙ ap₂ ticket_of (held w32 _ from.ranges.steps).is (held w32 _ from.ranges.stamp).is)
 
-returns : tie.Need-returns
+returns : tie.Need-returns-then-number-ne0
 returns c =
-    let t = c.before.before in
-    let n = t.before in
-    make-leaves _ _ _ _ _ (made-is n.before) c.tell.ensures (λ z. t.if1.true (n.number.ensures ∙ z))
+    let t = c in
+    let n = t in
+    make-leaves _ _ _ _ _ (made-is n.before.before.before.before) c.tell.ensures (λ z. t.if-number-ne0.true (n.number.ensures ∙ z))
 
-returns-2 : tie.Need-returns-2
+returns-2 : tie.Need-returns
 returns-2 c =
-    let t = c.before.before in
-    let e = t.before.before.before in
-    let n = e.before in
-    record-written _ _ _ _ _ (made-is n.before) c.tell2.ensures (held-ok w32 _ t.struct-told2.given.0.1).is (held-ok w32 _ t.struct-told2.given.1.0.1).is
+    let t = c in
+    let e = t in
+    let n = e in
+    record-written _ _ _ _ _ (made-is n.before.before.before.before.before.before.before) c.tell-2.ensures (held-ok w32 _ t.struct_told-2-1.given.0.1).is (held-ok w32 _ t.struct_told-2-1.given.1.0.1).is
 
-pub lapped-valve-make-spec : {M : Type 1} → statement M
-lapped-valve-make-spec =
+pub lapped_valve_make_spec : {M : Type 1} → statement M
+lapped_valve_make_spec =
     tie.close
     (tie.spec
     (λ c κs. search rules)

@@ -7,8 +7,8 @@ use Rattle.lapped.proofs.whole.lapped_back.Tie as tie
 
 returns : tie.Need-returns
 returns c =
-    let g = c.before.before.before in
-    ap (λ (a : ℕ × ℕ). (a, g.back.new.1.1.0)) c.tell.ensures ∙ g.back.ensures
+    let g = c in
+    ap (λ (a : ℕ × ℕ). (a, g.back-answer.new.readings)) c.tell.ensures ∙ g.back-answer.ensures
 
-pub lapped-back-spec : {M : Type 1} → statement M
-lapped-back-spec = tie.close (tie.spec (λ c κs. search rules) (λ c κs. search rules) (λ c. search rules) returns)
+pub lapped_back_spec : {M : Type 1} → statement M
+lapped_back_spec = tie.close (tie.spec (λ c κs. search rules) (λ c κs. search rules) (λ c. search rules) returns)

@@ -8,8 +8,8 @@ use Rattle.lapped.proofs.whole.lapped_forward.Tie as tie
 
 returns : tie.Need-returns
 returns c =
-    let g = c.before.before.before in
-    (ap (λ (a : ℕ × ℕ). (a, g.forward.new.1.1.0)) c.tell.ensures ∙ g.forward.ensures.0, λ e. g.forward.ensures.1 (told-done g.forward.result (sym (ap (λ (a : ℕ × ℕ). a.0) c.tell.ensures) ∙ e)))
+    let g = c in
+    (ap (λ (a : ℕ × ℕ). (a, g.forward-answer.new.frames)) c.tell.ensures ∙ g.forward-answer.ensures.0, λ e. g.forward-answer.ensures.1 (told-done g.forward-answer.result (sym (ap (λ (a : ℕ × ℕ). a.0) c.tell.ensures) ∙ e)))
 
-pub lapped-forward-spec : {M : Type 1} → statement M
-lapped-forward-spec = tie.close (tie.spec (λ c κs. search rules) (λ c κs. search rules) (λ c. search rules) returns)
+pub lapped_forward_spec : {M : Type 1} → statement M
+lapped_forward_spec = tie.close (tie.spec (λ c κs. search rules) (λ c κs. search rules) (λ c. search rules) returns)

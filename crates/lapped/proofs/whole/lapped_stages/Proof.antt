@@ -7,8 +7,8 @@ use Rattle.lapped.proofs.whole.lapped_stages.Tie as tie
 
 returns : tie.Need-returns
 returns c =
-    let g = c.before.before.before in
-    ap (λ (a : ℕ × ℕ). (a, g.stages.new.1.1.0)) c.tell.ensures ∙ g.stages.ensures
+    let g = c in
+    ap (λ (a : ℕ × ℕ). (a, g.stages-answer.new.frame)) c.tell.ensures ∙ g.stages-answer.ensures
 
-pub lapped-stages-spec : {M : Type 1} → statement M
-lapped-stages-spec = tie.close (tie.spec (λ c κs. search rules) (λ c κs. search rules) (λ c. search rules) returns)
+pub lapped_stages_spec : {M : Type 1} → statement M
+lapped_stages_spec = tie.close (tie.spec (λ c κs. search rules) (λ c κs. search rules) (λ c. search rules) returns)

@@ -7,8 +7,8 @@ use Rattle.lapped.proofs.whole.lapped_unstages.Tie as tie
 
 returns : tie.Need-returns
 returns c =
-    let g = c.before.before.before in
-    ap (λ (a : ℕ × ℕ). (a, g.unstages.new.1.1.0)) c.tell.ensures ∙ g.unstages.ensures
+    let g = c in
+    ap (λ (a : ℕ × ℕ). (a, g.unstages-answer.new.folded)) c.tell.ensures ∙ g.unstages-answer.ensures
 
-pub lapped-unstages-spec : {M : Type 1} → statement M
-lapped-unstages-spec = tie.close (tie.spec (λ c κs. search rules) (λ c κs. search rules) (λ c. search rules) returns)
+pub lapped_unstages_spec : {M : Type 1} → statement M
+lapped_unstages_spec = tie.close (tie.spec (λ c κs. search rules) (λ c κs. search rules) (λ c. search rules) returns)

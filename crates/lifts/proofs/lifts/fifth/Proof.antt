@@ -16,69 +16,69 @@ use Rattle.lifts.proofs.lifts.fifth.Tie as tie
 abbrev place : ℕ → ℕ → ℕ
 place n j = n - 1 - j
 
-abbrev invariant-loop : tie.invariant-loop
+abbrev invariant-loop : tie.invariant-loop-i
 invariant-loop undo c x y₀ i₀ y i = Turns (λ n j z. moved undo z (product_at place c x n j)) y₀ i y
 
-abbrev decreases-loop : tie.decreases-loop
+abbrev decreases-loop : tie.decreases-loop-i
 decreases-loop undo c x y₀ i₀ y i = length y₀ - i
 
-long : (k : tie.At-loop invariant-loop decreases-loop) → length k.loop.y ≡ length k.before.args.y.now
-long k = turns-long k.loop.invariant
+long : (k : tie.At-loop-i invariant-loop decreases-loop) → length k.loop-i.y ≡ length k.args.y.now
+long k = turns-long k.loop-i.invariant
 
-left : (b : tie.In-loop invariant-loop decreases-loop) → b.before.loop.i + 4 ≤ length b.before.loop.y
-left b = turns-left b.before.loop.invariant b.before.before.requires.0 b.loop-test.true
+left : (b : tie.In-loop-i invariant-loop decreases-loop) → b.loop-i.i + 4 ≤ length b.loop-i.y
+left b = turns-left b.loop-i.invariant b.requires.0 b.loop-i-test.true
 
 -- the factors of a turn
-factors : (c : tie.After-reversed invariant-loop decreases-loop) → let k = c.before.before.before in listed c.reversed.result ≡ places 4 (λ j. at k.before.args.c.now (place (length k.loop.y) (k.loop.i + j)))
+factors : (c : tie.After-reversed-factors invariant-loop decreases-loop) → let k = c.before.before.before in listed c.reversed-factors.result ≡ places 4 (λ j. at k.args.c.now (place (length k.loop-i.y) (k.loop-i.i + j)))
 factors c =
     let b = c.before.before in
-    reversed-is b.before.before.args.c.now _ _ _ _ c.before.four-at.ensures c.reversed.ensures (λ j l. ap (at b.before.before.args.c.now) (omega (arith, left b)))
+    reversed-is b.args.c.now _ _ _ _ c.four_at.ensures c.reversed-factors.ensures (λ j l. ap (at b.args.c.now) (omega (arith, left b)))
 
-loop-holds : tie.Need-loop-init invariant-loop decreases-loop
+loop-holds : tie.Need-loop-i-init invariant-loop decreases-loop
 loop-holds c = turns-none _ _
 
-sub-far : tie.Need-overflow-sub-far invariant-loop decreases-loop
+sub-far : tie.Need-overflow_sub-far invariant-loop decreases-loop
 sub-far c = omega (arith, left c)
 
-sub-far-2 : tie.Need-overflow-sub-far-2 invariant-loop decreases-loop
+sub-far-2 : tie.Need-overflow_sub-far-in-loop-i invariant-loop decreases-loop
 sub-far-2 c = omega (arith, left c)
 
-four-at-requires : tie.Need-four-at-requires invariant-loop decreases-loop
-four-at-requires c κs = omega (arith, left c, long c.before, c.before.before.requires.1.0)
+four-at-requires : tie.Need-four_at-requires invariant-loop decreases-loop
+four-at-requires c κs = omega (arith, left c, long c.before, c.requires.1.0)
 
-four-at-requires-2 : tie.Need-four-at-requires-2 invariant-loop decreases-loop
-four-at-requires-2 c κs = let b = c.before.before in omega (arith, left b, long b.before, b.before.before.requires.1.0)
+four-at-requires-2 : tie.Need-four_at-requires-in-loop-i invariant-loop decreases-loop
+four-at-requires-2 c κs = let b = c.before.before in omega (arith, left b, long b.before, b.requires.1.0)
 
-move-by-products-requires : tie.Need-move-by-products-requires invariant-loop decreases-loop
+move-by-products-requires : tie.Need-move_by_products-requires invariant-loop decreases-loop
 move-by-products-requires c κs =
-    let x = c.before in
-    let b = x.before.before.before in
-    let k = b.before in
-    let s = k.before in
-    products-asked k.loop.invariant s.requires.0 b.loop-test.true s.args.c.now s.args.x.now s.requires.1 _ _ _ _ (factors x.before) x.four-at2.ensures
+    let x = c in
+    let b = x in
+    let k = b in
+    let s = k in
+    products-asked k.loop-i.invariant s.requires.0 b.loop-i-test.true s.args.c.now s.args.x.now s.requires.1 _ _ _ _ (factors x.before.before) x.four_at-in-loop-i.ensures
 
-add-i : tie.Need-overflow-add-i invariant-loop decreases-loop
+add-i : tie.Need-overflow_add-i invariant-loop decreases-loop
 add-i c = let in-loop = c.before.before.before.before.before.before in record { fits = omega (arith, left in-loop) }
 
-loop-less : tie.Need-loop-smaller invariant-loop decreases-loop
-loop-less c = let in-loop = c.before.before.before.before.before.before in omega (arith, long in-loop.before, in-loop.loop-test.true)
+loop-less : tie.Need-loop-i-smaller invariant-loop decreases-loop
+loop-less c = let in-loop = c in omega (arith, long in-loop.before.before.before.before.before.before.before, in-loop.loop-i-test.true)
 
-loop-again : tie.Need-loop-preserved invariant-loop decreases-loop
+loop-again : tie.Need-loop-i-preserved invariant-loop decreases-loop
 loop-again c =
-    let x = c.before.before.before in
-    let b = x.before.before.before in
-    let k = b.before in
-    let s = k.before in
-    products-next s.args.undo place s.args.c.now s.args.x.now k.loop.y k.loop.invariant s.requires.0 b.loop-test.true _ _ (factors x.before) x.four-at2.ensures c.before.move-by-products.ensures
+    let x = c in
+    let b = x in
+    let k = b in
+    let s = k in
+    products-next s.args.undo place s.args.c.now s.args.x.now k.loop-i.y k.loop-i.invariant s.requires.0 b.loop-i-test.true _ _ (factors x.before.before.before.before) x.four_at-in-loop-i.ensures c.move_by_products.ensures
 
-same_length : tie.Need-same-length invariant-loop decreases-loop
+same_length : tie.Need-shape_of-y invariant-loop decreases-loop
 same_length c = long c.before
 
 returns : tie.Need-returns invariant-loop decreases-loop
-returns c = turns-all c.before.loop.invariant (omega arith)
+returns c = turns-all c.loop-i.invariant (omega arith)
 
-pub fifth-spec : {M : Type 1} → statement M
-fifth-spec =
+pub fifth_spec : {M : Type 1} → statement M
+fifth_spec =
     tie.close
     (tie.spec
     invariant-loop

@@ -16,14 +16,14 @@ x s = held w64 _ s.ranges.x
 negative : (s : tie.Start) → SFits w64 (pos 0 -ℤ s.args.x)
 negative s = minus-small w64 s.args.x (omega (arith, s.requires))
 
-returns : tie.Need-returns
-returns c = let s = c.before in (x s).is ∙ sym (flipped-odd s.args.i s.args.x c.if1.true)
+returns : tie.Need-returns-then-i-eq1
+returns c = let s = c.before in (x s).is ∙ sym (flipped-odd s.args.i s.args.x c.if-i-eq1.true)
 
-sub-result : tie.Need-overflow-sub-result
+sub-result : tie.Need-overflow_sub-result
 sub-result c = let s = c.before in asks-minus (x s) (negative s)
 
-returns-2 : tie.Need-returns-2
-returns-2 c = let s = c.before in (h-minus (x s) (negative s)).is ∙ sym (flipped-even s.args.i s.args.x c.if1.false)
+returns-2 : tie.Need-returns
+returns-2 c = let s = c.before in (h-minus (x s) (negative s)).is ∙ sym (flipped-even s.args.i s.args.x c.if-i-eq1.false)
 
-pub flipped-spec : {M : Type 1} → statement M
-flipped-spec = tie.close (tie.spec returns sub-result returns-2)
+pub flipped_spec : {M : Type 1} → statement M
+flipped_spec = tie.close (tie.spec returns sub-result returns-2)

@@ -16,10 +16,10 @@ use Rattle.lifts.specs.Own.Moves.{moved_four}
 use Rattle.lifts.proofs.lifts.move_four.Statement.{statement}
 use Rattle.lifts.proofs.lifts.move_four.Tie as tie
 
-sum-or-difference-requires : tie.Need-sum-or-difference-requires
+sum-or-difference-requires : tie.Need-sum_or_difference-made-requires
 sum-or-difference-requires c κs =
-    let s = c.before.before in
-    (listed-within _ _ (2 ^ 62 - 1) c.four-at.ensures (λ j l. omega (arith, s.requires.1.0 j)), within-up s.requires.1.1 (omega arith))
+    let s = c in
+    (listed-within _ _ (2 ^ 62 - 1) c.four_at.ensures (λ j l. omega (arith, s.requires.1.0 j)), within-up s.requires.1.1 (omega arith))
 
 -- four numbers that are listed alike are stored alike
 stored_same : (l : List ℤ) (p : ℕ) (f g : Four) → listed f ≡ listed g → stored l p f ≡ stored l p g
@@ -40,9 +40,9 @@ joined_is undo y i f x e =
 
 returns : tie.Need-returns
 returns c =
-    let s = c.before.before.before.before.before.before in
-    let j = c.before.before.before in
-    c.before.put.ensures ∙ stored_same _ _ _ _ (j.sum-or-difference.ensures ∙ joined_is s.args.undo s.args.y.now s.args.i s.args.amounts _ j.before.four-at.ensures)
+    let s = c in
+    let j = c in
+    c.put.ensures ∙ stored_same _ _ _ _ (j.sum_or_difference-made.ensures ∙ joined_is s.args.undo s.args.y.now s.args.i s.args.amounts _ j.four_at.ensures)
 
-pub move-four-spec : {M : Type 1} → statement M
-move-four-spec = tie.close (tie.spec (λ c κs. search rules) sum-or-difference-requires (λ c κs. search rules) (λ c. search rules) returns)
+pub move_four_spec : {M : Type 1} → statement M
+move_four_spec = tie.close (tie.spec (λ c κs. search rules) sum-or-difference-requires (λ c κs. search rules) (λ c. search rules) returns)

@@ -16,9 +16,9 @@ module _ (s : tie.Start) where
   hc = num w64 _ s.requires.0 tt
 
   hx : Num w64 (2 ^ 34) (of_z w64 s.args.x) s.args.x
-  hx = num w64 _ s.pre.1 tt
+  hx = num w64 _ s.requires.1 tt
 
-mul-rounded : tie.Need-overflow-mul-rounded
+mul-rounded : tie.Need-overflow_mul-c
 mul-rounded c = mul-asks (hc c) (hx c) tt
 
 rounded-requires : tie.Need-rounded-requires
@@ -28,8 +28,8 @@ returns : tie.Need-returns
 returns c =
     let s = c.before in
     let product = num-mul (hc s) (hx s) tt in
-    let r = num-call w64 _ c.rounded.type-inv (c.rounded.ensures ∙ ap (round 28) product.holds.is) (round-within 28 (2 ^ 34) _ product.size) in
+    let r = num-call w64 _ c.rounded.type_inv (c.rounded.ensures ∙ ap (round 28) product.holds.is) (round-within 28 (2 ^ 34) _ product.size) in
     (r.holds.is, num-within r (omega arith))
 
-pub rounded-product-spec : {M : Type 1} → statement M
-rounded-product-spec = tie.close (tie.spec mul-rounded rounded-requires returns)
+pub rounded_product_spec : {M : Type 1} → statement M
+rounded_product_spec = tie.close (tie.spec mul-rounded rounded-requires returns)

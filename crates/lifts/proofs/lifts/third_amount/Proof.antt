@@ -17,27 +17,27 @@ module _ (s : tie.Start) where
   times = num w64 _ s.requires.0 tt
 
   secants : Num w64 (2 ^ 60) (of_z w64 s.args.secants) s.args.secants
-  secants = num w64 _ s.pre.1 tt
+  secants = num w64 _ s.requires.1 tt
 
   cosines : Num w64 (2 ^ 56) (of_z w64 s.args.cosines) s.args.cosines
-  cosines = num w64 _ s.pre.2 tt
+  cosines = num w64 _ s.requires.2 tt
 
   tangent : Num w64 (2 ^ 54) (of_z w64 s.args.tangent) s.args.tangent
-  tangent = num w64 _ s.pre.3 tt
+  tangent = num w64 _ s.requires.3 tt
 
-sub-result : tie.Need-overflow-sub-result
+sub-result : tie.Need-overflow_sub-result
 sub-result c = sub-asks (num_lit w64 0 tt) (secants c) tt
 
-mul-result : tie.Need-overflow-mul-result
+mul-result : tie.Need-overflow_mul-result
 mul-result c = mul-asks (times c) (cosines c) tt
 
-sub-result-2 : tie.Need-overflow-sub-result-2
+sub-result-2 : tie.Need-overflow_sub-result-2
 sub-result-2 c = sub-asks (num-sub (num_lit w64 0 tt) (secants c) tt) (num-mul (times c) (cosines c) tt) tt
 
-mul-result-2 : tie.Need-overflow-mul-result-2
+mul-result-2 : tie.Need-overflow_mul-result-2
 mul-result-2 c = mul-asks (num_lit w64 64 tt) (tangent c) tt
 
-add-result : tie.Need-overflow-add-result
+add-result : tie.Need-overflow_add-result
 add-result c = add-asks (num-sub (num-sub (num_lit w64 0 tt) (secants c) tt) (num-mul (times c) (cosines c) tt) tt) (num-mul (num_lit w64 64 tt) (tangent c) tt) tt
 
 returns : tie.Need-returns
@@ -48,8 +48,8 @@ returns c =
       num-within sum (omega arith),
     )
 
-pub third-amount-spec : {M : Type 1} → statement M
-third-amount-spec =
+pub third_amount_spec : {M : Type 1} → statement M
+third_amount_spec =
     tie.close
     (tie.spec
     sub-result

@@ -9,75 +9,75 @@ use Rattle.products.proofs.TableLaws.{nines_of, nines-next, nines-laid}
 use Rattle.products.proofs.lists.nines.Statement.{statement}
 use Rattle.products.proofs.lists.nines.Tie as tie
 
-abbrev invariant-loop : tie.invariant-loop
+abbrev invariant-loop : tie.invariant-loop-v
 invariant-loop lists out₀ k v₀ out v = (v ≤ k) × AllWritten (nines_of lists) 0 9 v out₀ out
 
-abbrev decreases-loop : tie.decreases-loop
+abbrev decreases-loop : tie.decreases-loop-v
 decreases-loop lists out₀ k v₀ out v = k - v
 
-loop-holds : tie.Need-loop-init invariant-loop decreases-loop
+loop-holds : tie.Need-loop-v-init invariant-loop decreases-loop
 loop-holds c = (omega arith, all-written-none _ _ _ _)
 
-mul-four-at : tie.Need-overflow-mul-four-at invariant-loop decreases-loop
-mul-four-at c = omega (arith, c.before.before.requires.0, c.loop-test.true, c.before.loop.invariant.1.long)
+mul-four-at : tie.Need-overflow_mul-v invariant-loop decreases-loop
+mul-four-at c = omega (arith, c.requires.0, c.loop-v-test.true, c.loop-v.invariant.1.long)
 
-four-at-requires : tie.Need-four-at-requires invariant-loop decreases-loop
-four-at-requires c κs = omega (arith, c.before.before.requires.0, c.loop-test.true, c.before.loop.invariant.1.long)
+four-at-requires : tie.Need-four_at-x-requires invariant-loop decreases-loop
+four-at-requires c κs = omega (arith, c.requires.0, c.loop-v-test.true, c.loop-v.invariant.1.long)
 
-mul-four-at-2 : tie.Need-overflow-mul-four-at-2 invariant-loop decreases-loop
-mul-four-at-2 c = omega (arith, c.before.before.before.requires.0, c.before.loop-test.true, c.before.before.loop.invariant.1.long)
+mul-four-at-2 : tie.Need-overflow_mul-v-in-loop-v invariant-loop decreases-loop
+mul-four-at-2 c = omega (arith, c.requires.0, c.loop-v-test.true, c.loop-v.invariant.1.long)
 
-add-four-at : tie.Need-overflow-add-four-at invariant-loop decreases-loop
-add-four-at c = omega (arith, c.before.before.before.requires.0, c.before.loop-test.true, c.before.before.loop.invariant.1.long)
+add-four-at : tie.Need-overflow_add-v invariant-loop decreases-loop
+add-four-at c = omega (arith, c.requires.0, c.loop-v-test.true, c.loop-v.invariant.1.long)
 
-four-at-requires-2 : tie.Need-four-at-requires-2 invariant-loop decreases-loop
-four-at-requires-2 c κs = omega (arith, c.before.before.before.requires.0, c.before.loop-test.true, c.before.before.loop.invariant.1.long)
+four-at-requires-2 : tie.Need-four_at-y-requires invariant-loop decreases-loop
+four-at-requires-2 c κs = omega (arith, c.requires.0, c.loop-v-test.true, c.loop-v.invariant.1.long)
 
-mul-put-nine : tie.Need-overflow-mul-put-nine invariant-loop decreases-loop
-mul-put-nine c = let in-loop = c.before.before.before in omega (arith, in-loop.before.before.requires.0, in-loop.loop-test.true, in-loop.before.loop.invariant.1.long)
+mul-put-nine : tie.Need-overflow_mul-v-in-loop-v-2 invariant-loop decreases-loop
+mul-put-nine c = let in-loop = c in omega (arith, in-loop.requires.0, in-loop.loop-v-test.true, in-loop.loop-v.invariant.1.long)
 
-put-nine-requires : tie.Need-put-nine-requires invariant-loop decreases-loop
+put-nine-requires : tie.Need-put_nine-requires invariant-loop decreases-loop
 put-nine-requires c κs =
-    let x = c.before.before.four-at in
-    let y = c.before.four-at2 in
-    let in-loop = c.before.before.before in
-    let s = in-loop.before.before in
-    let l = in-loop.loop-test.true in
-    (omega (arith, s.requires.0, l, in-loop.before.loop.invariant.1.long), listed-within x.result _ (2 ^ 60) x.ensures (λ j q. s.requires.1 _ (omega arith)), listed-within y.result _ (2 ^ 60) y.ensures (λ j q. s.requires.1 _ (omega arith)))
+    let x = c.four_at-x in
+    let y = c.four_at-y in
+    let in-loop = c in
+    let s = in-loop in
+    let l = in-loop.loop-v-test.true in
+    (omega (arith, s.requires.0, l, in-loop.loop-v.invariant.1.long), listed-within x.result _ (2 ^ 60) x.ensures (λ j q. s.requires.1 _ (omega arith)), listed-within y.result _ (2 ^ 60) y.ensures (λ j q. s.requires.1 _ (omega arith)))
 
 -- the beginning of a turn, from its end
-module _ (c : tie.After-out invariant-loop decreases-loop) where
-  abbrev second : tie.After-four-at2 invariant-loop decreases-loop
+module _ (c : tie.After-out-1 invariant-loop decreases-loop) where
+  abbrev second : tie.After-four_at-y invariant-loop decreases-loop
   second = c.before.before.before
 
-  abbrev turn : tie.In-loop invariant-loop decreases-loop
+  abbrev turn : tie.In-loop-v invariant-loop decreases-loop
   turn = second.before.before
 
-add-v : tie.Need-overflow-add-v invariant-loop decreases-loop
-add-v c = omega (arith, (turn c).before.before.requires.0, (turn c).loop-test.true, (turn c).before.loop.invariant.1.long)
+add-v : tie.Need-overflow_add-v-in-loop-v invariant-loop decreases-loop
+add-v c = omega (arith, (turn c).requires.0, (turn c).loop-v-test.true, (turn c).loop-v.invariant.1.long)
 
-loop-less : tie.Need-loop-smaller invariant-loop decreases-loop
+loop-less : tie.Need-loop-v-smaller invariant-loop decreases-loop
 loop-less c = omega arith
 
-loop-again : tie.Need-loop-preserved invariant-loop decreases-loop
+loop-again : tie.Need-loop-v-preserved invariant-loop decreases-loop
 loop-again c =
-    let x = (second c).before.four-at in
-    let y = (second c).four-at2 in
-    let k = (turn c).before in
-    let l = (turn c).loop-test.true in
-    (omega arith, nines-next k.before.args.lists.now k.loop.inv.1 x.result y.result x.ensures y.ensures c.before.put-nine.ensures)
+    let x = (second c).four_at-x in
+    let y = (second c).four_at-y in
+    let k = (turn c) in
+    let l = (turn c).loop-v-test.true in
+    (omega arith, nines-next k.args.lists.now k.loop-v.invariant.1 x.result y.result x.ensures y.ensures c.put_nine.ensures)
 
-same_length : tie.Need-same-length invariant-loop decreases-loop
-same_length c = c.before.loop.invariant.1.long
+same_length : tie.Need-shape_of-out invariant-loop decreases-loop
+same_length c = c.loop-v.invariant.1.long
 
 returns : tie.Need-returns invariant-loop decreases-loop
 returns c L d =
-    let k = c.before in
-    let e : k.loop.v ≡ k.before.args.k = omega arith in
-    nines-laid k.before.args.k k.before.args.lists.now k.before.args.out.now k.loop.out (subst (λ n. AllWritten (nines_of k.before.args.lists.now) 0 9 n k.before.args.out.now k.loop.out) e k.loop.invariant.1) k.before.requires.0.1 L d
+    let k = c in
+    let e : k.loop-v.v ≡ k.args.k = omega arith in
+    nines-laid k.args.k k.args.lists.now k.args.out.now k.loop-v.out (subst (λ n. AllWritten (nines_of k.args.lists.now) 0 9 n k.args.out.now k.loop-v.out) e k.loop-v.invariant.1) k.requires.0.1 L d
 
-pub nines-spec : {M : Type 1} → statement M
-nines-spec =
+pub nines_spec : {M : Type 1} → statement M
+nines_spec =
     tie.close
     (tie.spec
     invariant-loop

@@ -6,16 +6,16 @@ use Rattle.reel_lines.proofs.frame.end_run.Statement.{statement}
 use Rattle.reel_lines.proofs.frame.end_run.Tie as tie
 
 by-requires : tie.Need-by-requires
-by-requires c κs = c.before.before.requires
+by-requires c κs = c.requires
 
-returns : tie.Need-returns
-returns c = c.by.ensures ∙ sym (none-ended _ _ c.before.if1.true)
+returns : tie.Need-returns-then-reel-eq0
+returns c = c.by.ensures ∙ sym (none-ended _ _ c.if-reel-eq0.true)
 
-to-phase-requires : tie.Need-to-phase-requires
+to-phase-requires : tie.Need-to_phase-requires
 to-phase-requires c κs = tt
 
-returns-2 : tie.Need-returns-2
-returns-2 c = c.to-phase.ensures ∙ sym (some-ended _ _ (λ e. omega (arith, c.before.if1.false)))
+returns-2 : tie.Need-returns
+returns-2 c = c.to_phase.ensures ∙ sym (some-ended _ _ (λ e. omega (arith, c.if-reel-eq0.false)))
 
-pub end-run-spec : {M : Type 1} → statement M
-end-run-spec = tie.close (tie.spec by-requires returns to-phase-requires returns-2)
+pub end_run_spec : {M : Type 1} → statement M
+end_run_spec = tie.close (tie.spec by-requires returns to-phase-requires returns-2)

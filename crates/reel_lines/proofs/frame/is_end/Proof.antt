@@ -5,17 +5,17 @@ use Rattle.reel_lines.specs.Own.Totals.{is_total}
 use Rattle.reel_lines.proofs.frame.is_end.Statement.{statement}
 use Rattle.reel_lines.proofs.frame.is_end.Tie as tie
 
-returns : tie.Need-returns
+returns : tie.Need-returns-in-Number
 unfolding is_total
 returns c =
-    let read = c.before.before.before in
-    sym (ap is_total (sym read.end-total.ensures ∙ c.before.end.given.1))
+    let read = c in
+    sym (ap is_total (sym read.end_total-end.ensures ∙ c.in-Number.is))
 
-returns-2 : tie.Need-returns-2
+returns-2 : tie.Need-returns-in-Bad
 unfolding is_total
 returns-2 c =
-    let read = c.before.before in
-    sym (ap is_total (sym read.end-total.ensures ∙ c.enum_told.given.1))
+    let read = c in
+    sym (ap is_total (sym read.end_total-end.ensures ∙ c.in-Bad.is))
 
-pub is-end-spec : {M : Type 1} → statement M
-is-end-spec = tie.close (tie.spec (λ c κs. search rules) (λ c. search rules) (λ c. search rules) returns returns-2)
+pub is_end_spec : {M : Type 1} → statement M
+is_end_spec = tie.close (tie.spec (λ c κs. search rules) (λ c. search rules) (λ c. search rules) returns returns-2)

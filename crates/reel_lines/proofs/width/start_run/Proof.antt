@@ -10,28 +10,28 @@ use Rattle.reel_lines.proofs.LineLaws.{refused-by, goes_on}
 use Rattle.reel_lines.proofs.width.start_run.Statement.{statement}
 use Rattle.reel_lines.proofs.width.start_run.Tie as tie
 
-asked-requires : tie.Need-asked-requires
+asked-requires : tie.Need-asked-verdict-requires
 asked-requires c κs = tt
 
-told-by-requires : tie.Need-told-by-requires
+told-by-requires : tie.Need-told_by-told-requires
 told-by-requires c κs = tt
 
 by-requires : tie.Need-by-requires
-by-requires c κs = let start = c.before.before.before.before in start.requires
+by-requires c κs = let start = c in start.requires
 
-returns : tie.Need-returns
+returns : tie.Need-returns-then-told-ne0
 returns c =
-    let at_told = c.before.before.before in
-    c.by.ensures ∙ refused-by _ _ _ _ _ _ at_told.before.asked.ensures at_told.told-by.ensures (λ e. omega (arith, c.before.if1.true))
+    let at_told = c in
+    c.by.ensures ∙ refused-by _ _ _ _ _ _ at_told.asked-verdict.ensures at_told.told_by-told.ensures (λ e. omega (arith, c.if-told-ne0.true))
 
-to-phase-requires : tie.Need-to-phase-requires
+to-phase-requires : tie.Need-to_phase-begun-requires
 to-phase-requires c κs = tt
 
-add-begun : tie.Need-overflow-add-begun
+add-begun : tie.Need-overflow_add-begun
 unfolding to_phase
 add-begun c =
-    let start = c.before.before.before.before.before.before in
-    omega (arith, start.requires.runs, ap (λ (r : Reel). r.runs) c.before.to-phase.ensures)
+    let start = c in
+    omega (arith, start.requires.runs, ap (λ (r : Reel). r.runs) c.to_phase-begun.ensures)
 
 -- the width and the counts of a run that begins
 begun-as : (width : ℕ) (r : Reel) → Reel
@@ -41,15 +41,15 @@ run-begun : (s : Reel) (width : ℕ) → begun-as width (to_phase Frames s) ≡ 
 unfolding begun-as to_phase run_begun
 run-begun s width = rw add-one
 
-returns-2 : tie.Need-returns-2
+returns-2 : tie.Need-returns
 unfolding begun-as
 returns-2 c =
-    let at-if = c.before.before in
-    let at_told = at-if.before.before in
-    let start = at_told.before.before in
-    ap (begun-as start.args.width) c.before.to-phase.ensures
+    let at-if = c in
+    let at_told = at-if in
+    let start = at_told in
+    ap (begun-as start.args.width) c.to_phase-begun.ensures
     ∙ run-begun start.args.reel start.args.width
-    ∙ sym (goes_on _ _ _ _ _ _ at_told.before.asked.ensures at_told.told-by.ensures (omega (arith, at-if.if1.false)))
+    ∙ sym (goes_on _ _ _ _ _ _ at_told.asked-verdict.ensures at_told.told_by-told.ensures (omega (arith, at-if.if-told-ne0.false)))
 
-pub start-run-spec : {M : Type 1} → statement M
-start-run-spec = tie.close (tie.spec asked-requires told-by-requires by-requires returns to-phase-requires add-begun returns-2)
+pub start_run_spec : {M : Type 1} → statement M
+start_run_spec = tie.close (tie.spec asked-requires told-by-requires by-requires returns to-phase-requires add-begun returns-2)

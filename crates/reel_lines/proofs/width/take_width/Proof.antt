@@ -27,48 +27,48 @@ unfolding width_line
 from s = if-from (λ (x : ℤ). started s (nat_abs x) ≡ width_line s (Field.Number x)) (λ (n : ℕ). refl)
 
 -- the number that was read
-abbrev x : tie.After-known-told → ℤ
-x k = k.before.field.given.0.0
+abbrev x : tie.In-Number → ℤ
+x k = k.in-Number.width
 
-enum-known-field : tie.Need-enum-known-field
+enum-known-field : tie.Need-enum_known-field
 enum-known-field c = search rules
 
-enum_told : tie.Need-enum-told
+enum_told : tie.Need-enum_told-1
 enum_told c = search rules
 
 by-requires : tie.Need-by-requires
-by-requires c κs = c.before.before.requires
+by-requires c κs = c.requires
 
-returns : tie.Need-returns
+returns : tie.Need-returns-in_default
 unfolding width_line
-returns c = c.by.ensures ∙ sym (ap (width_line c.before.before.before.args.reel) c.before.enum_told.given.1)
+returns c = c.by.ensures ∙ sym (ap (width_line c.args.reel) c.in_default.is)
 
-by-requires-2 : tie.Need-by-requires-2
-by-requires-2 c κs = let start = c.before.before.before.before in start.requires
+by-requires-2 : tie.Need-by-requires-then-width-lt0
+by-requires-2 c κs = let start = c in start.requires
 
-returns-2 : tie.Need-returns-2
+returns-2 : tie.Need-returns-then-width-lt0
 returns-2 c =
     let k = c.before.before in
-    let s = k.before.before.before.args in
-    c.by2.ensures ∙ below s.reel (x k) (sign-told (x k) k.known-told.given.0.1 c.before.if1.true) ∙ sym (ap (width_line s.reel) k.before.field.given.1)
+    let s = k.args in
+    c.by-then-width-lt0.ensures ∙ below s.reel (x k) (sign-told (x k) k.known_told-1.given.0.1 c.if-width-lt0.true) ∙ sym (ap (width_line s.reel) k.in-Number.is)
 
-cast-start-run : tie.Need-overflow-cast-start-run
-cast-start-run c = asks-usize (x c.before) c.before.known-told.given.0.1 c.if1.false
+cast-start-run : tie.Need-overflow_cast-width
+cast-start-run c = asks-usize (x c.before) c.known_told-1.given.0.1 c.if-width-lt0.false
 
-start-run-requires : tie.Need-start-run-requires
-start-run-requires c κs = let start = c.before.before.before.before in start.requires
+start-run-requires : tie.Need-start_run-requires
+start-run-requires c κs = let start = c in start.requires
 
-returns-3 : tie.Need-returns-3
+returns-3 : tie.Need-returns
 returns-3 c =
     let k = c.before.before in
-    let s = k.before.before.before.args in
-    let fits = k.known-told.given.0.1 in
-    c.start-run.ensures
+    let s = k.args in
+    let fits = k.known_told-1.given.0.1 in
+    c.start_run.ensures
     ∙ ap (started s.reel) (usize-is (x k) fits)
-    ∙ from s.reel (x k) (sign-told (x k) fits c.before.if1.false)
-    ∙ sym (ap (width_line s.reel) k.before.field.given.1)
+    ∙ from s.reel (x k) (sign-told (x k) fits c.if-width-lt0.false)
+    ∙ sym (ap (width_line s.reel) k.in-Number.is)
 
-pub take-width-spec : {M : Type 1} → statement M
-take-width-spec =
+pub take_width_spec : {M : Type 1} → statement M
+take_width_spec =
     tie.close
     (tie.spec enum-known-field enum_told by-requires returns by-requires-2 returns-2 cast-start-run start-run-requires returns-3)

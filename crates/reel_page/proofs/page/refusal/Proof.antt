@@ -8,45 +8,42 @@ use Rattle.reel_page.specs.Own.Refusal.{refusal_in}
 use Rattle.reel_page.proofs.page.refusal.Statement.{statement}
 use Rattle.reel_page.proofs.page.refusal.Tie as tie
 
-refusal-requires : tie.Need-refusal-requires
+refusal-requires : tie.Need-refusal-n-requires
 refusal-requires c κs = search rules
-
-slice-aggregate-bytes : tie.Need-slice-aggregate-bytes
-slice-aggregate-bytes c = search rules
 
 bytes-requires : tie.Need-bytes-requires
 bytes-requires c κs = search rules
 
-returns : tie.Need-returns
+returns : tie.Need-returns-in-FirstRun
 unfolding refusal_in
-returns c = (put_as _ _ _ _ (ap refusal_in (sym c.enum_told.given.1)) (put-none _ _), omega arith)
+returns c = (put_as _ _ _ _ (ap refusal_in (sym c.in-FirstRun.is)) (put-none _ _), omega arith)
 
-returns-2 : tie.Need-returns-2
+returns-2 : tie.Need-returns-in-Frames
 unfolding refusal_in
-returns-2 c = (put_as _ _ _ _ (ap refusal_in (sym c.enum-told2.given.1)) (put-none _ _), omega arith)
+returns-2 c = (put_as _ _ _ _ (ap refusal_in (sym c.in-Frames.is)) (put-none _ _), omega arith)
 
-returns-3 : tie.Need-returns-3
+returns-3 : tie.Need-returns-in-NextRun
 unfolding refusal_in
-returns-3 c = (put_as _ _ _ _ (ap refusal_in (sym c.enum-told3.given.1)) (put-none _ _), omega arith)
+returns-3 c = (put_as _ _ _ _ (ap refusal_in (sym c.in-NextRun.is)) (put-none _ _), omega arith)
 
-returns-4 : tie.Need-returns-4
+returns-4 : tie.Need-returns-in-Whole
 unfolding refusal_in
-returns-4 c = (put_as _ _ _ _ (ap refusal_in (sym c.enum-told4.given.1)) (put-none _ _), omega arith)
+returns-4 c = (put_as _ _ _ _ (ap refusal_in (sym c.in-Whole.is)) (put-none _ _), omega arith)
 
-same_length : tie.Need-same-length
+same_length : tie.Need-shape_of-out
 same_length c = search rules
 
-returns-5 : tie.Need-returns-5
+returns-5 : tie.Need-returns-in-Refused
 unfolding refusal_in refusal_line
 returns-5 c =
-    let at-refusal = c.before.before.before.before.before.before.before in
-    let at-phase = at-refusal.before.before.before in
-    let p = at-refusal.refusal.ensures in
-    let q = c.before.before.bytes.ensures in
-    (put_as _ _ _ _ (ap refusal_in (sym at-phase.phase.given.1)) (put_then p.0 q), omega (arith, p.1, q.count))
+    let at-refusal = c in
+    let at-phase = at-refusal in
+    let p = at-refusal.refusal-n.ensures in
+    let q = c.bytes.ensures in
+    (put_as _ _ _ _ (ap refusal_in (sym at-phase.in-Refused.is)) (put_then p.0 q), omega (arith, p.1, q.count))
 
-pub refusal-spec : {M : Type 1} → statement M
-refusal-spec =
+pub refusal_spec : {M : Type 1} → statement M
+refusal_spec =
     tie.close
     (tie.spec
     (λ c. search rules)
@@ -55,7 +52,6 @@ refusal-spec =
     (λ c. search rules)
     (λ c. search rules)
     refusal-requires
-    slice-aggregate-bytes
     bytes-requires
     returns
     returns-2

@@ -16,13 +16,13 @@ use Rattle.reel_page.proofs.page.sum_line.Statement.{statement}
 use Rattle.reel_page.proofs.page.sum_line.Tie as tie
 
 -- ---- the places of the walk, from the last call on
-abbrev second : tie.After-last-natural-arg → tie.After-bytes
+abbrev second : tie.After-last_natural-arg-1 → tie.After-bytes-m
 second c = c.before.before.before
 
-abbrev first : tie.After-bytes-arg2 → tie.After-natural
+abbrev first : tie.After-bytes-arg-2-1 → tie.After-natural-n
 first c = c.before.before.before.before
 
-abbrev start : tie.After-natural-arg → tie.Start
+abbrev start : tie.After-natural-arg-1 → tie.Start
 start c = c.before.before
 
 -- the sum as the code holds it
@@ -34,48 +34,44 @@ module _ (s : tie.Start) where
   digits = nat_abs (to_z w64 (of_z w64 s.args.sum))
 
   room : s.args.at + (length (decimal s.args.number) + (length (decimal digits) + 2)) ≤ length s.args.out.now
-  room = omega (arith, s.pre.1, sum-line-long _ s.args.number s.args.sum s.pre.0, ap (λ z. length (decimal (nat_abs z))) kept.is)
+  room = omega (arith, s.requires.1, sum-line-long _ s.args.number s.args.sum s.requires.0, ap (λ z. length (decimal (nat_abs z))) kept.is)
 
-natural-requires : tie.Need-natural-requires
+natural-requires : tie.Need-natural-n-requires
 natural-requires c κs = omega (arith, room (start c))
 
-slice-aggregate-bytes : tie.Need-slice-aggregate-bytes
-slice-aggregate-bytes c = search rules
+bytes-requires : tie.Need-bytes-m-requires
+bytes-requires c κs = let f = first c.before in let s = start f.before in omega (arith, room s, f.natural-n.ensures.count, c.out-1.given)
 
-bytes-requires : tie.Need-bytes-requires
-bytes-requires c κs = let f = first c in let s = start f.before in omega (arith, room s, f.natural.ensures.count, c.before.before.before.out.given)
-
-cast-last-natural : tie.Need-overflow-cast-last-natural
+cast-last-natural : tie.Need-overflow_cast-sum
 cast-last-natural c =
-    let s = start (first (second c).before).before in
-    asks-nat w64 (kept s) (sum-from-zero _ s.args.sum s.pre.0) (omega (arith, sum-size _ s.args.sum s.pre.0))
+    let s = start (first (second c).before.before).before in
+    asks-nat w64 (kept s) (sum-from-zero _ s.args.sum s.requires.0) (omega (arith, sum-size _ s.args.sum s.requires.0))
 
-last-natural-requires : tie.Need-last-natural-requires
+last-natural-requires : tie.Need-last_natural-requires
 last-natural-requires c κs =
     let b = second c in
-    let f = first b.before in
+    let f = first b.before.before in
     let s = start f.before in
     let at_out = b.before.before.before.before in
-    omega (arith, room s, f.natural.ensures.count, b.bytes.ensures.count, c.before.before.out2.given, at_out.out.given)
+    omega (arith, room s, f.natural-n.ensures.count, b.bytes-m.ensures.count, c.out-2-1.given, at_out.out-1.given)
 
-same_length : tie.Need-same-length
+same_length : tie.Need-shape_of-out
 same_length c = search rules
 
 returns : tie.Need-returns
 returns c =
-    let l = c.before.before in
-    let b = second l.before in
-    let f = first b.before in
+    let l = c in
+    let b = second l.before.before.before in
+    let f = first b.before.before in
     let s = start f.before in
-    put_as _ _ _ _ (ap (λ z. sum_digits s.args.number (nat_abs z)) (kept s).is ∙ sum-line-is _ s.args.number s.args.sum s.pre.0)
-    (put_then f.natural.ensures (put_then b.bytes.ensures l.last-natural.ensures))
+    put_as _ _ _ _ (ap (λ z. sum_digits s.args.number (nat_abs z)) (kept s).is ∙ sum-line-is _ s.args.number s.args.sum s.requires.0)
+    (put_then f.natural-n.ensures (put_then b.bytes-m.ensures l.last_natural.ensures))
 
-pub sum-line-spec : {M : Type 1} → statement M
-sum-line-spec =
+pub sum_line_spec : {M : Type 1} → statement M
+sum_line_spec =
     tie.close
     (tie.spec
     natural-requires
-    slice-aggregate-bytes
     bytes-requires
     cast-last-natural
     last-natural-requires

@@ -9,30 +9,30 @@ use Rattle.reel_stream.proofs.ReelLaws.{over-says, going-says}
 use Rattle.reel_stream.proofs.piece.put.Statement.{statement}
 use Rattle.reel_stream.proofs.piece.put.Tie as tie
 
-is-over-requires : tie.Need-is-over-requires
+is-over-requires : tie.Need-is_over-requires
 is-over-requires c κs = tt
 
-returns : tie.Need-returns
+returns : tie.Need-returns-then-is_over
 unfolding reel_given
 returns c =
-    let s = c.before.before.before.args in
-    let e = over-says s.progress.reel s.given (sym c.before.is-over.ensures ∙ c.if1.true) in
+    let s = c.args in
+    let e = over-says s.progress.reel s.given (sym c.is_over.ensures ∙ c.if-is_over.true) in
     record { state = refl; put = put_as _ _ _ _ e (put-none _ _); short = omega (arith, ap length e); none = refl; place = refl }
 
-says-requires : tie.Need-says-requires
-says-requires c κs = let start = c.before.before.before.before in start.requires
+says-requires : tie.Need-says-behind-requires
+says-requires c κs = let start = c in start.requires
 
-same_length : tie.Need-same-length
-same_length c = c.before.out.given
+same_length : tie.Need-shape_of-out
+same_length c = c.out-1.given
 
-returns-2 : tie.Need-returns-2
+returns-2 : tie.Need-returns
 unfolding reel_given
 returns-2 c =
-    let at-if = c.before.before.before.before in
-    let start = at-if.before.before.before in
+    let at-if = c in
+    let start = at-if in
     let s = start.args in
-    let e = going-says s.progress.reel s.given (sym at-if.before.is-over.ensures ∙ at-if.if1.false) in
-    record { state = refl; put = put_as _ _ _ _ e c.before.before.says.ensures; short = omega (arith, ap length e, says-few s.given.phase s.given start.requires.0); none = refl; place = refl }
+    let e = going-says s.progress.reel s.given (sym at-if.is_over.ensures ∙ at-if.if-is_over.false) in
+    record { state = refl; put = put_as _ _ _ _ e c.says-behind.ensures; short = omega (arith, ap length e, says-few s.given.phase s.given start.requires.0); none = refl; place = refl }
 
 pub put_spec : {M : Type 1} → statement M
 put_spec = tie.close (tie.spec is-over-requires returns says-requires same_length returns-2)

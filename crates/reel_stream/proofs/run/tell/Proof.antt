@@ -5,11 +5,11 @@ use Rattle.pieces.proofs.SliceLaws.{part-long}
 use Rattle.reel_stream.proofs.run.tell.Statement.{statement}
 use Rattle.reel_stream.proofs.run.tell.Tie as tie
 
-slice-aggregate-write-all : tie.Need-slice-aggregate-write-all
+slice-aggregate-write-all : tie.Need-slice_bounds-write_all-end
 slice-aggregate-write-all c = part-long _ _ (omega arith)
 
-pub tell-spec : {M : Type 1} → statement M
-tell-spec =
+pub tell_spec : {M : Type 1} → statement M
+tell_spec =
     tie.close
     (tie.spec
     (λ c. search rules)

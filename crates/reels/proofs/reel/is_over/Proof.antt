@@ -5,9 +5,9 @@ use Rattle.reels.specs.Reel.{reel_over}
 use Rattle.reels.proofs.reel.is_over.Statement.{statement}
 use Rattle.reels.proofs.reel.is_over.Tie as tie
 
-pub is-over-spec : {M : Type 1} → statement M
+pub is_over_spec : {M : Type 1} → statement M
 unfolding reel_over
-is-over-spec =
+is_over_spec =
     tie.close
     (tie.spec
     (λ c. search rules)
@@ -15,8 +15,8 @@ is-over-spec =
     (λ c. search rules)
     (λ c. search rules)
     (λ c. search rules)
-    (λ c. sym (ap reel_over c.enum_told.given.1))
-    (λ c. sym (ap reel_over c.enum-told2.given.1))
-    (λ c. sym (ap reel_over c.enum-told3.given.1))
-    (λ c. sym (ap reel_over c.enum-told4.given.1))
-    (λ c. sym (ap reel_over c.enum-told5.given.1)))
+    (λ c. sym (ap reel_over c.in-FirstRun.is))
+    (λ c. sym (ap reel_over c.in-Frames.is))
+    (λ c. sym (ap reel_over c.in-NextRun.is))
+    (λ c. sym (ap reel_over c.in-Whole.is))
+    (λ c. sym (ap reel_over c.in-Refused.is)))

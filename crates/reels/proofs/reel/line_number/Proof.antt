@@ -6,28 +6,28 @@ use Rattle.reels.specs.Reel.{reel_line_number}
 use Rattle.reels.proofs.reel.line_number.Statement.{statement}
 use Rattle.reels.proofs.reel.line_number.Tie as tie
 
-returns : tie.Need-returns
+returns : tie.Need-returns-in-FirstRun
 unfolding reel_line_number
-returns c = let start = c.before.before in omega arith ∙ sym (ap (λ p. reel_line_number p start.args.runs start.args.frames) c.enum_told.given.1)
+returns c = let start = c in omega arith ∙ sym (ap (λ p. reel_line_number p start.args.runs start.args.frames) c.in-FirstRun.is)
 
-returns-2 : tie.Need-returns-2
+returns-2 : tie.Need-returns-in-Frames
 unfolding reel_line_number
-returns-2 c = let start = c.before.before in sym (ap (λ p. reel_line_number p start.args.runs start.args.frames) c.enum-told2.given.1)
+returns-2 c = let start = c in sym (ap (λ p. reel_line_number p start.args.runs start.args.frames) c.in-Frames.is)
 
-returns-3 : tie.Need-returns-3
+returns-3 : tie.Need-returns-in-NextRun
 unfolding reel_line_number
-returns-3 c = let start = c.before.before in omega arith ∙ sym (ap (λ p. reel_line_number p start.args.runs start.args.frames) c.enum-told3.given.1)
+returns-3 c = let start = c in omega arith ∙ sym (ap (λ p. reel_line_number p start.args.runs start.args.frames) c.in-NextRun.is)
 
-returns-4 : tie.Need-returns-4
+returns-4 : tie.Need-returns-in-Whole
 unfolding reel_line_number
-returns-4 c = let start = c.before.before in omega arith ∙ sym (ap (λ p. reel_line_number p start.args.runs start.args.frames) c.enum-told4.given.1)
+returns-4 c = let start = c in omega arith ∙ sym (ap (λ p. reel_line_number p start.args.runs start.args.frames) c.in-Whole.is)
 
-returns-5 : tie.Need-returns-5
+returns-5 : tie.Need-returns-in-Refused
 unfolding reel_line_number
-returns-5 c = let start = c.before.before in omega arith ∙ sym (ap (λ p. reel_line_number p start.args.runs start.args.frames) c.enum-told5.given.1)
+returns-5 c = let start = c in omega arith ∙ sym (ap (λ p. reel_line_number p start.args.runs start.args.frames) c.in-Refused.is)
 
-pub line-number-spec : {M : Type 1} → statement M
-line-number-spec =
+pub line_number_spec : {M : Type 1} → statement M
+line_number_spec =
     tie.close
     (tie.spec
     (λ c. search rules)

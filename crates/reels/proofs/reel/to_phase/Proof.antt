@@ -8,5 +8,5 @@ returns : tie.Need-returns
 unfolding to_phase
 returns c = refl
 
-pub to-phase-spec : {M : Type 1} → statement M
-to-phase-spec = tie.close (tie.spec returns)
+pub to_phase_spec : {M : Type 1} → statement M
+to_phase_spec = tie.close (tie.spec returns)

@@ -5,9 +5,9 @@ use Rattle.reels.specs.Verdicts.{verdict_told}
 use Rattle.reels.proofs.verdict.told_by.Statement.{statement}
 use Rattle.reels.proofs.verdict.told_by.Tie as tie
 
-pub told-by-spec : {M : Type 1} → statement M
+pub told_by_spec : {M : Type 1} → statement M
 unfolding verdict_told
-told-by-spec =
+told_by_spec =
     tie.close
     (tie.spec
     (λ c. search rules)
@@ -19,12 +19,12 @@ told-by-spec =
     (λ c. search rules)
     (λ c. search rules)
     (λ c. search rules)
-    (λ c. sym (ap verdict_told c.enum_told.given.1))
-    (λ c. sym (ap verdict_told c.enum-told2.given.1))
-    (λ c. sym (ap verdict_told c.enum-told3.given.1))
-    (λ c. sym (ap verdict_told c.enum-told4.given.1))
-    (λ c. sym (ap verdict_told c.enum-told5.given.1))
-    (λ c. sym (ap verdict_told c.before.verdict.given.1))
-    (λ c. sym (ap verdict_told c.enum-told6.given.1))
-    (λ c. sym (ap verdict_told c.enum-told7.given.1))
-    (λ c. sym (ap verdict_told c.enum-told8.given.1)))
+    (λ c. sym (ap verdict_told c.in-Taken.is))
+    (λ c. sym (ap verdict_told c.in-Width.is))
+    (λ c. sym (ap verdict_told c.in-Full.is))
+    (λ c. sym (ap verdict_told c.in-Empty.is))
+    (λ c. sym (ap verdict_told c.in-Length.is))
+    (λ c. sym (ap verdict_told c.in-Range.is))
+    (λ c. sym (ap verdict_told c.in-Form.is))
+    (λ c. sym (ap verdict_told c.in-OtherWidth.is))
+    (λ c. sym (ap verdict_told c.in-RunTooMany.is)))

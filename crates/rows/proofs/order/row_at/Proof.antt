@@ -18,7 +18,7 @@ use Rattle.rows.proofs.order.row_at.Statement.{statement}
 use Rattle.rows.proofs.order.row_at.Tie as tie
 
 -- the place that is read
-module _ (p : tie.After-from) where
+module _ (p : tie.After-from-1) where
   abbrev s : tie.Start
   s = p.before
 
@@ -26,10 +26,10 @@ module _ (p : tie.After-from) where
   place = at s.args.places.now s.args.m
 
   natural : place ≡ pos (above place)
-  natural = s.pre.1.0.natural s.args.m s.pre.0
+  natural = s.requires.1.0.natural s.args.m s.requires.0
 
   read : Held w64 (of_z w64 place) place
-  read = held-ok w64 place p.from.given
+  read = held-ok w64 place p.from-1.given
 
   abbrev from : ℕ
   from = nat_abs (to_z w64 (of_z w64 place))
@@ -38,11 +38,11 @@ module _ (p : tie.After-from) where
   from_is = ap nat_abs (read.is ∙ natural)
 
   inside : from < length s.args.x.now
-  inside = rw from_is (s.pre.1.0.inside s.args.m s.pre.0)
+  inside = rw from_is (s.requires.1.0.inside s.args.m s.requires.0)
 
 -- the product
-module _ (c : tie.After-result2) where
-  abbrev p : tie.After-from
+module _ (c : tie.After-result-2-1) where
+  abbrev p : tie.After-from-1
   p = c.before.before
 
   abbrev sign : ℤ
@@ -55,31 +55,31 @@ module _ (c : tie.After-result2) where
   is_row = ap (λ i. sign *ℤ at (s p).args.x.now i) (from_is p)
 
   fits : SFits w64 (sign *ℤ number)
-  fits = small w64 (sign *ℤ number) (rw is_row (omega (arith, (s p).pre.1.1)))
+  fits = small w64 (sign *ℤ number) (rw is_row (omega (arith, (s p).requires.1.1)))
 
   sign_read : Held w64 (of_z w64 sign) sign
-  sign_read = held-ok w64 sign c.before.result.given
+  sign_read = held-ok w64 sign c.result-1.given
 
   number_read : Held w64 (of_z w64 number) number
-  number_read = held-ok w64 number c.result2.given
+  number_read = held-ok w64 number c.result-2-1.given
 
-cast-from : tie.Need-overflow-cast-from
-cast-from c = asks-nat w64 (read c) (subst (λ z. T (non_neg z)) (sym (natural c)) tt) (omega (arith, nat_abs-le (place c) c.from.given))
+cast-from : tie.Need-overflow_cast-from
+cast-from c = asks-nat w64 (read c) (subst (λ z. T (non_neg z)) (sym (natural c)) tt) (omega (arith, nat_abs-le (place c) c.from-1.given))
 
-mul-result-2 : tie.Need-overflow-mul-result-2
-mul-result-2 c = scaled_Fits _ (length c.before.before.args.x.now) 8 (inside c.before) c.before.before.well-formed.1.1.0.1
+mul-result-2 : tie.Need-offset_bounds-x-from
+mul-result-2 c = scaled_Fits _ (length c.args.x.now) 8 (inside c.before) c.well_formed.1.1.0.1
 
-shared-slice-copy-out-result-2 : tie.Need-shared-slice-copy-out-result-2
+shared-slice-copy-out-result-2 : tie.Need-bounds-x-from
 shared-slice-copy-out-result-2 c = inside c.before
 
-mul-result-3 : tie.Need-overflow-mul-result-3
+mul-result-3 : tie.Need-overflow_mul-result
 mul-result-3 c = asks-mul (sign_read c) (number_read c) (fits c)
 
 returns : tie.Need-returns
 returns c = (h-mul (sign_read c) (number_read c) (fits c)).is ∙ is_row c
 
-pub row-at-spec : {M : Type 1} → statement M
-row-at-spec =
+pub row_at_spec : {M : Type 1} → statement M
+row_at_spec =
     tie.close
     (tie.spec
     (λ c. search rules)

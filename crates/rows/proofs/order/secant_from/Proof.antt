@@ -12,19 +12,19 @@ use Rattle.rows.proofs.order.secant_from.Tie as tie
 abbrev odd : tie.Start → ℕ
 odd s = 2 * length s.args.x.now - 1 - 2 * s.args.j
 
-returns : tie.Need-returns
+returns : tie.Need-returns-then-j-x
 unfolding secant_in
-returns c = let s = c.before.before in rw (lt-ltb _ _ c.before.if1.true) (number s.requires.1.1 (2 * s.args.j)).holds.is
+returns c = let s = c in rw (lt-ltb _ _ c.if-j-x.true) (number s.requires.1.1 (2 * s.args.j)).holds.is
 
-sub-result-3 : tie.Need-overflow-sub-result-3
+sub-result-3 : tie.Need-overflow_sub-result-3
 sub-result-3 c = let s = c.before.before in minus-asks s.requires.1.1 (odd s)
 
-returns-2 : tie.Need-returns-2
+returns-2 : tie.Need-returns
 unfolding secant_in
-returns-2 c = let s = c.before.before in rw (le-ltb _ _ c.before.if1.false) (minus_is s.requires.1.1 (odd s))
+returns-2 c = let s = c.before.before in rw (le-ltb _ _ c.if-j-x.false) (minus_is s.requires.1.1 (odd s))
 
-pub secant-from-spec : {M : Type 1} → statement M
-secant-from-spec =
+pub secant_from_spec : {M : Type 1} → statement M
+secant_from_spec =
     tie.close
     (tie.spec
     (λ c. search rules)

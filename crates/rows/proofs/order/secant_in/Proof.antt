@@ -11,41 +11,41 @@ use Rattle.rows.specs.Orders.{secant_in}
 use Rattle.rows.proofs.order.secant_in.Statement.{statement}
 use Rattle.rows.proofs.order.secant_in.Tie as tie
 
-abbrev invariant-loop : tie.invariant-loop
+abbrev invariant-loop : tie.invariant-loop-j
 invariant-loop x out₀ j₀ out j = (j ≤ length out₀) × Filling (secant_in (length x) (at x)) out₀ j out
 
-abbrev decreases-loop : tie.decreases-loop
+abbrev decreases-loop : tie.decreases-loop-j
 decreases-loop x out₀ j₀ out j = length out₀ - j
 
-loop-holds : tie.Need-loop-init invariant-loop decreases-loop
+loop-holds : tie.Need-loop-j-init invariant-loop decreases-loop
 loop-holds c = (omega arith, filling-none _ _)
 
-secant-from-requires : tie.Need-secant-from-requires invariant-loop decreases-loop
-secant-from-requires c κs = let s = c.before.before in (omega (arith, s.requires.0.0), (s.requires.0.1, s.requires.1))
+secant-from-requires : tie.Need-secant_from-requires invariant-loop decreases-loop
+secant-from-requires c κs = let s = c in (omega (arith, s.requires.0.0), (s.requires.0.1, s.requires.1))
 
-mul-t4 : tie.Need-overflow-mul-t4 invariant-loop decreases-loop
+mul-t4 : tie.Need-offset_bounds-out-j invariant-loop decreases-loop
 mul-t4 c = omega arith
 
-slice-set-from-out : tie.Need-slice-set-from-out invariant-loop decreases-loop
+slice-set-from-out : tie.Need-bounds-out-j invariant-loop decreases-loop
 slice-set-from-out c = omega arith
 
-add-j : tie.Need-overflow-add-j invariant-loop decreases-loop
+add-j : tie.Need-overflow_add-j invariant-loop decreases-loop
 add-j c = omega arith
 
-loop-less : tie.Need-loop-smaller invariant-loop decreases-loop
+loop-less : tie.Need-loop-j-smaller invariant-loop decreases-loop
 loop-less c = omega arith
 
-loop-again : tie.Need-loop-preserved invariant-loop decreases-loop
-loop-again c = (omega arith, filling-next c.before.before.loop.invariant.1 ((held-ok w64 c.secant-from.result c.secant-from.type-inv).is ∙ c.secant-from.ensures))
+loop-again : tie.Need-loop-j-preserved invariant-loop decreases-loop
+loop-again c = (omega arith, filling-next c.loop-j.invariant.1 ((held-ok w64 c.secant_from.result c.secant_from.type_inv).is ∙ c.secant_from.ensures))
 
-same_length : tie.Need-same-length invariant-loop decreases-loop
+same_length : tie.Need-shape_of-out invariant-loop decreases-loop
 same_length c = omega arith
 
 returns : tie.Need-returns invariant-loop decreases-loop
-returns c = filling-all c.before.loop.invariant.1 (omega arith)
+returns c = filling-all c.loop-j.invariant.1 (omega arith)
 
-pub secant-in-spec : {M : Type 1} → statement M
-secant-in-spec =
+pub secant_in_spec : {M : Type 1} → statement M
+secant_in_spec =
     tie.close
     (tie.spec
     invariant-loop

@@ -4,5 +4,5 @@ use borrow.Author.Rules.{rules}
 use Rattle.runs.proofs.answer.number.Statement.{statement}
 use Rattle.runs.proofs.answer.number.Tie as tie
 
-pub number-spec : {M : Type 1} → statement M
-number-spec = tie.close (tie.spec (λ c κs. search rules) (λ c. ap (λ p. p.0) c.told_of.ensures))
+pub number_spec : {M : Type 1} → statement M
+number_spec = tie.close (tie.spec (λ c κs. search rules) (λ c. ap (λ p. p.0) c.told_of.ensures))

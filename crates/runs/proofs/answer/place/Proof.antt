@@ -4,5 +4,5 @@ use borrow.Author.Rules.{rules}
 use Rattle.runs.proofs.answer.place.Statement.{statement}
 use Rattle.runs.proofs.answer.place.Tie as tie
 
-pub place-spec : {M : Type 1} → statement M
-place-spec = tie.close (tie.spec (λ c κs. search rules) (λ c. ap (λ p. p.1) c.told_of.ensures))
+pub place_spec : {M : Type 1} → statement M
+place_spec = tie.close (tie.spec (λ c κs. search rules) (λ c. ap (λ p. p.1) c.told_of.ensures))

@@ -5,9 +5,9 @@ use Rattle.runs.specs.Answers.{told}
 use Rattle.runs.proofs.answer.told_of.Statement.{statement}
 use Rattle.runs.proofs.answer.told_of.Tie as tie
 
-pub told-of-spec : {M : Type 1} → statement M
+pub told_of_spec : {M : Type 1} → statement M
 unfolding told
-told-of-spec =
+told_of_spec =
     tie.close
     (tie.spec
     (λ c. search rules)
@@ -23,16 +23,16 @@ told-of-spec =
     (λ c. search rules)
     (λ c. search rules)
     (λ c. search rules)
-    (λ c. ap told (sym c.enum_told.given.1))
-    (λ c. ap told (sym c.enum-told2.given.1))
-    (λ c. ap told (sym c.enum-told3.given.1))
-    (λ c. ap told (sym c.enum-told4.given.1))
-    (λ c. ap told (sym c.enum-told5.given.1))
-    (λ c. ap told (sym c.enum-told6.given.1))
-    (λ c. ap told (sym c.enum-told7.given.1))
-    (λ c. ap told (sym c.enum-told8.given.1))
-    (λ c. ap told (sym c.before.answer.given.1))
-    (λ c. ap told (sym c.before.answer2.given.1))
-    (λ c. ap told (sym c.before.answer3.given.1))
-    (λ c. ap told (sym c.before.answer4.given.1))
-    (λ c. ap told (sym c.before.answer5.given.1)))
+    (λ c. ap told (sym c.in-Done.is))
+    (λ c. ap told (sym c.in-Width.is))
+    (λ c. ap told (sym c.in-Record.is))
+    (λ c. ap told (sym c.in-Closed.is))
+    (λ c. ap told (sym c.in-Full.is))
+    (λ c. ap told (sym c.in-Empty.is))
+    (λ c. ap told (sym c.in-InputLength.is))
+    (λ c. ap told (sym c.in-OutputLength.is))
+    (λ c. ap told (sym c.in-DeadMark.is))
+    (λ c. ap told (sym c.in-Range.is))
+    (λ c. ap told (sym c.in-Folded.is))
+    (λ c. ap told (sym c.in-Halves.is))
+    (λ c. ap told (sym c.in-Unfolded.is)))

@@ -15,18 +15,18 @@ module _ (s : tie.Start) (i : ℕ) where
   left = num w64 (at (listed s.args.x) i) (s.requires.0.size i) tt
 
   right : Num w64 (2 ^ 62 - 1) (of_z w64 (at (listed s.args.y) i)) (at (listed s.args.y) i)
-  right = num w64 (at (listed s.args.y) i) (s.pre.1.size i) tt
+  right = num w64 (at (listed s.args.y) i) (s.requires.1.size i) tt
 
-sub-t3 : tie.Need-overflow-sub-t3
+sub-t3 : tie.Need-overflow_sub-result
 sub-t3 c = let s = c.before.before.before.before in sub-asks (left s 0) (right s 0) tt
 
-sub-t4 : tie.Need-overflow-sub-t4
+sub-t4 : tie.Need-overflow_sub-result-2
 sub-t4 c = let s = c.before.before.before.before.before.before.before.before in sub-asks (left s 1) (right s 1) tt
 
-sub-t5 : tie.Need-overflow-sub-t5
+sub-t5 : tie.Need-overflow_sub-result-3
 sub-t5 c = let s = c.before.before.before.before.before.before.before.before.before.before.before.before in sub-asks (left s 2) (right s 2) tt
 
-sub-t6 : tie.Need-overflow-sub-t6
+sub-t6 : tie.Need-overflow_sub-result-4
 sub-t6 c = let s = c.before.before.before.before.before.before.before.before.before.before.before.before.before.before.before.before in sub-asks (left s 3) (right s 3) tt
 
 returns : tie.Need-returns
@@ -38,5 +38,5 @@ returns c =
     (num-sub (left s 2) (right s 2) tt).holds.is
     (num-sub (left s 3) (right s 3) tt).holds.is
 
-pub minus-spec : {M : Type 1} → statement M
-minus-spec = tie.close (tie.spec sub-t3 sub-t4 sub-t5 sub-t6 returns)
+pub minus_spec : {M : Type 1} → statement M
+minus_spec = tie.close (tie.spec sub-t3 sub-t4 sub-t5 sub-t6 returns)

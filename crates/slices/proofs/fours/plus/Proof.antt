@@ -15,18 +15,18 @@ module _ (s : tie.Start) (i : ℕ) where
   left = num w64 (at (listed s.args.x) i) (s.requires.0.size i) tt
 
   right : Num w64 (2 ^ 62 - 1) (of_z w64 (at (listed s.args.y) i)) (at (listed s.args.y) i)
-  right = num w64 (at (listed s.args.y) i) (s.pre.1.size i) tt
+  right = num w64 (at (listed s.args.y) i) (s.requires.1.size i) tt
 
-add-t3 : tie.Need-overflow-add-t3
+add-t3 : tie.Need-overflow_add-result
 add-t3 c = let s = c.before.before.before.before in add-asks (left s 0) (right s 0) tt
 
-add-t4 : tie.Need-overflow-add-t4
+add-t4 : tie.Need-overflow_add-result-2
 add-t4 c = let s = c.before.before.before.before.before.before.before.before in add-asks (left s 1) (right s 1) tt
 
-add-t5 : tie.Need-overflow-add-t5
+add-t5 : tie.Need-overflow_add-result-3
 add-t5 c = let s = c.before.before.before.before.before.before.before.before.before.before.before.before in add-asks (left s 2) (right s 2) tt
 
-add-t6 : tie.Need-overflow-add-t6
+add-t6 : tie.Need-overflow_add-result-4
 add-t6 c = let s = c.before.before.before.before.before.before.before.before.before.before.before.before.before.before.before.before in add-asks (left s 3) (right s 3) tt
 
 returns : tie.Need-returns
@@ -38,5 +38,5 @@ returns c =
     (num-add (left s 2) (right s 2) tt).holds.is
     (num-add (left s 3) (right s 3) tt).holds.is
 
-pub plus-spec : {M : Type 1} → statement M
-plus-spec = tie.close (tie.spec add-t3 add-t4 add-t5 add-t6 returns)
+pub plus_spec : {M : Type 1} → statement M
+plus_spec = tie.close (tie.spec add-t3 add-t4 add-t5 add-t6 returns)

@@ -8,69 +8,69 @@ use borrow.Author.Rules.{rules}
 use Rattle.slices.proofs.fours.put.Statement.{statement}
 use Rattle.slices.proofs.fours.put.Tie as tie
 
-mul-a : tie.Need-overflow-mul-a
+mul-a : tie.Need-offset_bounds-x-p
 mul-a c =
-    let start = c.before.before.before.before in
+    let start = c in
     record { fits = omega (arith, start.requires) }
 
-slice-set-from-a : tie.Need-slice-set-from-a
+slice-set-from-a : tie.Need-bounds-x-p
 slice-set-from-a c =
-    let start = c.before.before.before.before in
+    let start = c in
     omega (arith, start.requires)
 
-add-b : tie.Need-overflow-add-b
+add-b : tie.Need-overflow_add-b
 add-b c =
-    let start = c.before.before.before.before in
+    let start = c in
     omega (arith, start.requires)
 
-mul-b : tie.Need-overflow-mul-b
+mul-b : tie.Need-offset_bounds-x-p-2
 mul-b c =
-    let start = c.before.before.before.before in
+    let start = c in
     record { fits = omega (arith, start.requires) }
 
-slice-set-from-b : tie.Need-slice-set-from-b
+slice-set-from-b : tie.Need-bounds-x-p-2
 slice-set-from-b c =
-    let start = c.before.before.before.before in
+    let start = c in
     simp length-set (omega (arith, start.requires))
 
-add-c : tie.Need-overflow-add-c
+add-c : tie.Need-overflow_add-c
 add-c c =
-    let start = c.before.before.before.before in
+    let start = c in
     omega (arith, start.requires)
 
-mul-c : tie.Need-overflow-mul-c
+mul-c : tie.Need-offset_bounds-x-p-3
 mul-c c =
-    let start = c.before.before.before.before in
+    let start = c in
     record { fits = omega (arith, start.requires) }
 
-slice-set-from-c : tie.Need-slice-set-from-c
+slice-set-from-c : tie.Need-bounds-x-p-3
 slice-set-from-c c =
-    let start = c.before.before.before.before in
+    let start = c in
     simp length-set (omega (arith, start.requires))
 
-add-d : tie.Need-overflow-add-d
+add-d : tie.Need-overflow_add-d
 add-d c =
-    let start = c.before.before.before.before in
+    let start = c in
     omega (arith, start.requires)
 
-mul-d : tie.Need-overflow-mul-d
+mul-d : tie.Need-offset_bounds-x-p-4
 mul-d c =
-    let start = c.before.before.before.before in
+    let start = c in
     record { fits = omega (arith, start.requires) }
 
-slice-set-from-d : tie.Need-slice-set-from-d
+slice-set-from-d : tie.Need-bounds-x-p-4
 slice-set-from-d c =
-    let start = c.before.before.before.before in
+    let start = c in
     simp length-set (omega (arith, start.requires))
 
 returns : tie.Need-returns
 unfolding stored
 returns c =
-    let s = c.before.before.before.before in
-    let a = (held-ok w64 s.args.f.a c.before.before.before.struct_told.given.0.1).is in
-    let b = (held-ok w64 s.args.f.b c.before.before.struct-told2.given.1.0.1).is in
-    let d = (held-ok w64 s.args.f.c c.before.struct-told3.given.1.1.0.1).is in
-    let e = (held-ok w64 s.args.f.d c.struct-told4.given.1.1.1.0.1).is in
+    let s = c in
+    let a = (held-ok w64 s.args.f.a c.struct_told-1.given.0.1).is in
+    let b = (held-ok w64 s.args.f.b c.struct_told-2-1.given.1.0.1).is in
+    let d = (held-ok w64 s.args.f.c c.struct_told-3-1.given.1.1.0.1).is in
+    let e = (held-ok w64 s.args.f.d c.struct_told-4-1.given.1.1.1.0.1).is in
     rw (a, b, d, e)
 
 pub put_spec : {M : Type 1} → statement M

@@ -10,13 +10,13 @@ use Rattle.slices.proofs.fours.reversed.Tie as tie
 
 returns : tie.Need-returns
 returns c =
-    let x = c.before.args.x in
-    let g = c.struct_told.given in
+    let x = c.args.x in
+    let g = c.struct_told-1.given in
     four-places (λ j. at (listed x) (3 - j))
     (held-ok w64 x.d g.1.1.1.0.1).is
     (held-ok w64 x.c g.1.1.0.1).is
     (held-ok w64 x.b g.1.0.1).is
     (held-ok w64 x.a g.0.1).is
 
-pub reversed-spec : {M : Type 1} → statement M
-reversed-spec = tie.close (tie.spec returns)
+pub reversed_spec : {M : Type 1} → statement M
+reversed_spec = tie.close (tie.spec returns)

@@ -7,13 +7,13 @@ use borrow.Author.Rules.{rules}
 use Rattle.slices.proofs.fours.sum_or_difference.Statement.{statement}
 use Rattle.slices.proofs.fours.sum_or_difference.Tie as tie
 
-returns : tie.Need-returns
+returns : tie.Need-returns-then-less
 unfolding moved
-returns c = let a = c.before.before.args in c.minus.ensures ∙ ap (λ t. places 4 (λ j. moved t (at (listed a.x) j) (at (listed a.y) j))) (sym c.before.if1.true)
+returns c = let a = c.args in c.minus.ensures ∙ ap (λ t. places 4 (λ j. moved t (at (listed a.x) j) (at (listed a.y) j))) (sym c.if-less.true)
 
-returns-2 : tie.Need-returns-2
+returns-2 : tie.Need-returns
 unfolding moved
-returns-2 c = let a = c.before.before.args in c.plus.ensures ∙ ap (λ t. places 4 (λ j. moved t (at (listed a.x) j) (at (listed a.y) j))) (sym c.before.if1.false)
+returns-2 c = let a = c.args in c.plus.ensures ∙ ap (λ t. places 4 (λ j. moved t (at (listed a.x) j) (at (listed a.y) j))) (sym c.if-less.false)
 
-pub sum-or-difference-spec : {M : Type 1} → statement M
-sum-or-difference-spec = tie.close (tie.spec (λ c κs. search rules) returns (λ c κs. search rules) returns-2)
+pub sum_or_difference_spec : {M : Type 1} → statement M
+sum_or_difference_spec = tie.close (tie.spec (λ c κs. search rules) returns (λ c κs. search rules) returns-2)

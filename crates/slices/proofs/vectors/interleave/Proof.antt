@@ -11,38 +11,38 @@ use Rattle.slices.specs.Own.Moves.{woven_at}
 use Rattle.slices.proofs.vectors.interleave.Statement.{statement}
 use Rattle.slices.proofs.vectors.interleave.Tie as tie
 
-abbrev invariant-loop : tie.invariant-loop
+abbrev invariant-loop : tie.invariant-loop-i
 invariant-loop top bottom out₀ i₀ out i = (i ≤ length out₀) × Filling (woven_at top bottom) out₀ i out
 
-abbrev decreases-loop : tie.decreases-loop
+abbrev decreases-loop : tie.decreases-loop-i
 decreases-loop top bottom out₀ i₀ out i = length out₀ - i
 
-loop-holds : tie.Need-loop-init invariant-loop decreases-loop
+loop-holds : tie.Need-loop-i-init invariant-loop decreases-loop
 loop-holds c = (omega arith, filling-none _ _)
 
 woven-requires : tie.Need-woven-requires invariant-loop decreases-loop
-woven-requires c κs = (c.before.before.requires.0, omega (arith, c.before.before.requires.1))
+woven-requires c κs = (c.requires.0, omega (arith, c.requires.1))
 
-slice-set-from-out : tie.Need-slice-set-from-out invariant-loop decreases-loop
+slice-set-from-out : tie.Need-bounds-out-i invariant-loop decreases-loop
 slice-set-from-out c = omega arith
 
-add-i : tie.Need-overflow-add-i invariant-loop decreases-loop
+add-i : tie.Need-overflow_add-i invariant-loop decreases-loop
 add-i c = omega arith
 
-loop-less : tie.Need-loop-smaller invariant-loop decreases-loop
+loop-less : tie.Need-loop-i-smaller invariant-loop decreases-loop
 loop-less c = omega arith
 
-loop-again : tie.Need-loop-preserved invariant-loop decreases-loop
-loop-again c = (omega arith, filling-next c.before.before.loop.invariant.1 ((held-ok w64 _ c.woven.type-inv).is ∙ c.woven.ensures))
+loop-again : tie.Need-loop-i-preserved invariant-loop decreases-loop
+loop-again c = (omega arith, filling-next c.loop-i.invariant.1 ((held-ok w64 _ c.woven.type_inv).is ∙ c.woven.ensures))
 
-same_length : tie.Need-same-length invariant-loop decreases-loop
+same_length : tie.Need-shape_of-out invariant-loop decreases-loop
 same_length c = omega arith
 
 returns : tie.Need-returns invariant-loop decreases-loop
-returns c = filling-all c.before.loop.invariant.1 (omega arith)
+returns c = filling-all c.loop-i.invariant.1 (omega arith)
 
-pub interleave-spec : {M : Type 1} → statement M
-interleave-spec =
+pub interleave_spec : {M : Type 1} → statement M
+interleave_spec =
     tie.close
     (tie.spec
     invariant-loop

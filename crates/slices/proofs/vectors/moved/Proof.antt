@@ -14,19 +14,19 @@ y s = num w64 _ s.requires.0 tt
 amount : (s : tie.Start) → Num w64 (2 ^ 61) (of_z w64 s.args.amount) s.args.amount
 amount s = num w64 _ s.requires.1 tt
 
-sub-result : tie.Need-overflow-sub-result
+sub-result : tie.Need-overflow_sub-result
 sub-result c = sub-asks (y c.before) (amount c.before) tt
 
-returns : tie.Need-returns
+returns : tie.Need-returns-then-undo
 unfolding moved
-returns c = (num-sub (y c.before) (amount c.before) tt).holds.is ∙ ap (λ u. moved u c.before.args.y c.before.args.amount) (sym c.if1.true)
+returns c = (num-sub (y c.before) (amount c.before) tt).holds.is ∙ ap (λ u. moved u c.args.y c.args.amount) (sym c.if-undo.true)
 
-add-result : tie.Need-overflow-add-result
+add-result : tie.Need-overflow_add-result
 add-result c = add-asks (y c.before) (amount c.before) tt
 
-returns-2 : tie.Need-returns-2
+returns-2 : tie.Need-returns
 unfolding moved
-returns-2 c = (num-add (y c.before) (amount c.before) tt).holds.is ∙ ap (λ u. moved u c.before.args.y c.before.args.amount) (sym c.if1.false)
+returns-2 c = (num-add (y c.before) (amount c.before) tt).holds.is ∙ ap (λ u. moved u c.args.y c.args.amount) (sym c.if-undo.false)
 
-pub moved-spec : {M : Type 1} → statement M
-moved-spec = tie.close (tie.spec sub-result returns add-result returns-2)
+pub moved_spec : {M : Type 1} → statement M
+moved_spec = tie.close (tie.spec sub-result returns add-result returns-2)

@@ -11,59 +11,59 @@ use Rattle.slices.proofs.FourLaws.{filling-listed}
 use Rattle.slices.proofs.vectors.narrow.Statement.{statement}
 use Rattle.slices.proofs.vectors.narrow.Tie as tie
 
-abbrev invariant-loop : tie.invariant-loop
+abbrev invariant-loop : tie.invariant-loop-i
 invariant-loop x out₀ i₀ out i = (i ≤ length out₀) × (i % 4 ≡ 0) × Filling (at x) out₀ i out
 
-abbrev decreases-loop : tie.decreases-loop
+abbrev decreases-loop : tie.decreases-loop-i
 decreases-loop x out₀ i₀ out i = length out₀ - i
 
-four-left : (k : tie.At-loop invariant-loop decreases-loop) → k.loop.i < length k.loop.out → k.loop.i + 4 ≤ length k.loop.out
-four-left k l = omega (arith, k.before.requires.0, k.loop.invariant.1, k.loop.invariant.2.long)
+four-left : (k : tie.At-loop-i invariant-loop decreases-loop) → k.loop-i.i < length k.loop-i.out → k.loop-i.i + 4 ≤ length k.loop-i.out
+four-left k l = omega (arith, k.requires.0, k.loop-i.invariant.1, k.loop-i.invariant.2.long)
 
-loop-holds : tie.Need-loop-init invariant-loop decreases-loop
+loop-holds : tie.Need-loop-i-init invariant-loop decreases-loop
 loop-holds c = (omega arith, refl, filling-none _ _)
 
-four-at-requires : tie.Need-four-at-requires invariant-loop decreases-loop
-four-at-requires c κs = let k = c.before.before in omega (arith, k.before.requires.0.0, k.loop.invariant.2.long, four-left k c.before.loop-test.true)
+four-at-requires : tie.Need-four_at-requires invariant-loop decreases-loop
+four-at-requires c κs = let k = c.before.before in omega (arith, k.requires.0.0, k.loop-i.invariant.2.long, four-left k c.loop-i-test.true)
 
-put-narrow-requires : tie.Need-put-narrow-requires invariant-loop decreases-loop
+put-narrow-requires : tie.Need-put_narrow-requires invariant-loop decreases-loop
 put-narrow-requires c κs =
     let k = c.before.before.before in
-    (four-left k c.before.before.loop-test.true, listed-within _ _ (2 ^ 30) c.four-at.ensures (λ j l. k.before.requires.1.size (k.loop.i + j)))
+    (four-left k c.loop-i-test.true, listed-within _ _ (2 ^ 30) c.four_at.ensures (λ j l. k.requires.1.size (k.loop-i.i + j)))
 
-add-i : tie.Need-overflow-add-i invariant-loop decreases-loop
+add-i : tie.Need-overflow_add-i invariant-loop decreases-loop
 add-i c =
-    let in-loop = c.before.before.before.before in
-    let k = in-loop.before in
-    record { fits = omega (arith, four-left k in-loop.loop-test.true) }
+    let in-loop = c in
+    let k = in-loop.before.before.before.before.before in
+    record { fits = omega (arith, four-left k in-loop.loop-i-test.true) }
 
-loop-less : tie.Need-loop-smaller invariant-loop decreases-loop
+loop-less : tie.Need-loop-i-smaller invariant-loop decreases-loop
 loop-less c =
-    let in-loop = c.before.before.before.before in
-    let k = in-loop.before in
-    omega (arith, k.loop.invariant.2.long, in-loop.loop-test.true)
+    let in-loop = c in
+    let k = in-loop in
+    omega (arith, k.loop-i.invariant.2.long, in-loop.loop-i-test.true)
 
-loop-again : tie.Need-loop-preserved invariant-loop decreases-loop
+loop-again : tie.Need-loop-i-preserved invariant-loop decreases-loop
 loop-again c =
-    let in-loop = c.before.before.before.before in
-    let k = in-loop.before in
-    let l = four-left k in-loop.loop-test.true in
-    let x = k.before.args.x.now in (
-      omega (arith, l, k.loop.invariant.2.long),
-      omega (arith, k.loop.invariant.1),
-      subst (Filling (at x) k.before.args.out.now (k.loop.i + 4)) (sym c.before.put-narrow.ensures) (filling-listed k.loop.invariant.2 _ c.before.before.four-at.ensures),
+    let in-loop = c in
+    let k = in-loop.before.before.before.before.before in
+    let l = four-left k in-loop.loop-i-test.true in
+    let x = k.args.x.now in (
+      omega (arith, l, k.loop-i.invariant.2.long),
+      omega (arith, k.loop-i.invariant.1),
+      subst (Filling (at x) k.args.out.now (k.loop-i.i + 4)) (sym c.put_narrow.ensures) (filling-listed k.loop-i.invariant.2 _ c.four_at.ensures),
     )
 
-same_length : tie.Need-same-length invariant-loop decreases-loop
-same_length c = c.before.loop.invariant.2.long
+same_length : tie.Need-shape_of-out invariant-loop decreases-loop
+same_length c = c.loop-i.invariant.2.long
 
 returns : tie.Need-returns invariant-loop decreases-loop
 returns c =
-    let s = c.before.before in
-    filling-all c.before.loop.invariant.2 (omega (arith, c.before.loop.invariant.2.long)) ∙ places-at _ s.args.x.now s.requires.0.0
+    let s = c in
+    filling-all c.loop-i.invariant.2 (omega (arith, c.loop-i.invariant.2.long)) ∙ places-at _ s.args.x.now s.requires.0.0
 
-pub narrow-spec : {M : Type 1} → statement M
-narrow-spec =
+pub narrow_spec : {M : Type 1} → statement M
+narrow_spec =
     tie.close
     (tie.spec
     invariant-loop

@@ -7,14 +7,14 @@ use Rattle.slices.proofs.MoveLaws.{woven-top, woven-bottom}
 use Rattle.slices.proofs.vectors.woven.Statement.{statement}
 use Rattle.slices.proofs.vectors.woven.Tie as tie
 
-returns : tie.Need-returns
-returns c = let a = c.before.before.args in (held-ok w64 _ c.result.given).is ∙ sym (woven-top a.top.now a.bottom.now a.i c.before.if1.true)
+returns : tie.Need-returns-then-i-eq0
+returns c = let a = c.args in (held-ok w64 _ c.result-1.given).is ∙ sym (woven-top a.top.now a.bottom.now a.i c.if-i-eq0.true)
 
-returns-2 : tie.Need-returns-2
-returns-2 c = let a = c.before.before.args in (held-ok w64 _ c.result2.given).is ∙ sym (woven-bottom a.top.now a.bottom.now a.i c.before.if1.false)
+returns-2 : tie.Need-returns
+returns-2 c = let a = c.args in (held-ok w64 _ c.result-2-1.given).is ∙ sym (woven-bottom a.top.now a.bottom.now a.i c.if-i-eq0.false)
 
-pub woven-spec : {M : Type 1} → statement M
-woven-spec =
+pub woven_spec : {M : Type 1} → statement M
+woven_spec =
     tie.close
     (tie.spec
     (λ c. search rules)

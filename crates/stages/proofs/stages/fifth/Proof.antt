@@ -19,14 +19,14 @@ module _ (s : tie.Start) where
   half = half_is s.args.width s.requires.0
 
   tangents : Tangents s.args.width (take (s.args.width / 2) s.args.t.now)
-  tangents = record { is = tangents-part s.pre.1.0 half }
+  tangents = record { is = tangents-part s.requires.1.0 half }
 
-slice-aggregate-fifth : tie.Need-slice-aggregate-fifth
-slice-aggregate-fifth c = let s = c.before in sym (length-take-le (s.args.width / 2) s.args.t.now (omega (arith, tables-room s.requires.1.0 (half s))))
+slice-aggregate-fifth : tie.Need-slice_bounds-fifth-end
+slice-aggregate-fifth c = let s = c in sym (length-take-le (s.args.width / 2) s.args.t.now (omega (arith, tables-room s.requires.1.0 (half s))))
 
 fifth-requires : tie.Need-fifth-requires
 fifth-requires c κs =
-    let s = c.before.before in
+    let s = c.before in
     let h = s.requires.1.1.0 in
     let b = sym h.bottom-long in (
       ap (λ n. n % 4) h.bottom-long ∙ half-in-fours s.args.width,
@@ -35,8 +35,8 @@ fifth-requires c κs =
 
 returns : tie.Need-returns
 returns c =
-    let s = c.before.before.before.before in
-    stage5-is s.args.width s.args.top.now s.args.bottom.now s.requires.1.1.0 _ (tangents s).is s.args.undo c.before.fifth.ensures
+    let s = c.before.before.before in
+    stage5-is s.args.width s.args.top.now s.args.bottom.now s.requires.1.1.0 _ (tangents s).is s.args.undo c.fifth.ensures
 
-pub fifth-spec : {M : Type 1} → statement M
-fifth-spec = tie.close (tie.spec slice-aggregate-fifth fifth-requires (λ c. search rules) returns)
+pub fifth_spec : {M : Type 1} → statement M
+fifth_spec = tie.close (tie.spec slice-aggregate-fifth fifth-requires (λ c. search rules) returns)

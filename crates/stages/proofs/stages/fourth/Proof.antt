@@ -19,12 +19,12 @@ module _ (s : tie.Start) where
   half = half_is s.args.width s.requires.0
 
   sines : Sines s.args.width (take (s.args.width - s.args.width / 2) (drop (s.args.width / 2) s.args.t.now))
-  sines = record { is = sines-part s.pre.1.0 half s.pre.0 }
+  sines = record { is = sines-part s.requires.1.0 half s.requires.0 }
 
-mul-fourth : tie.Need-overflow-mul-fourth
+mul-fourth : tie.Need-offset_bounds-t-half
 mul-fourth c = record { fits = omega (arith, half-small c.requires.1.0 (half c)) }
 
-part-fourth-end : tie.Need-slice-bounds-fourth-end
+part-fourth-end : tie.Need-slice_bounds-fourth-end
 part-fourth-end c = omega (arith, tables-room c.requires.1.0 (half c), half c, width-half c.args.width c.requires.0)
 
 fourth-requires : tie.Need-fourth-requires
@@ -39,7 +39,7 @@ fourth-requires c κs =
 returns : tie.Need-returns
 returns c =
     let s = c.before.before.before.before in
-    stage4-is s.args.width s.args.top.now s.args.bottom.now s.requires.1.1.0 _ (sines s).is s.args.undo c.before.fourth.ensures
+    stage4-is s.args.width s.args.top.now s.args.bottom.now s.requires.1.1.0 _ (sines s).is s.args.undo c.fourth.ensures
 
-pub fourth-spec : {M : Type 1} → statement M
-fourth-spec = tie.close (tie.spec mul-fourth (λ c. search rules) (λ c. search rules) part-fourth-end fourth-requires (λ c. search rules) returns)
+pub fourth_spec : {M : Type 1} → statement M
+fourth_spec = tie.close (tie.spec mul-fourth (λ c. search rules) (λ c. search rules) part-fourth-end fourth-requires (λ c. search rules) returns)

@@ -21,68 +21,68 @@ module _ (s : tie.Start) where
   half = half_is s.args.width s.requires.0
 
   small : s.args.width / 2 ≤ 64
-  small = half-small s.pre.1.0 half
+  small = half-small s.requires.1.0 half
 
   room : 7 * (s.args.width / 2) ≤ length s.args.t.now
-  room = tables-room s.pre.1.0 half
+  room = tables-room s.requires.1.0 half
 
 -- behind the sums
-module _ (q : tie.After-y) where
+module _ (q : tie.After-y-1) where
   abbrev from : tie.Start
   from = q.before.before.before
 
   abbrev sums : List ℤ
-  sums = q.before.cosine-sums.last.1.1.1.1.0
+  sums = q.cosine_sums.new.room
 
   y-long : product_room from.args.width ≤ length sums
-  y-long = omega (arith, q.y.given, from.pre.1.1.1.0)
+  y-long = omega (arith, q.y-1.given, from.requires.1.1.1.0)
 
   rows : CosineRows from.args.width from.args.bottom.now sums
-  rows = q.before.cosine-sums.ensures
+  rows = q.cosine_sums.ensures
 
-mul-back : tie.Need-overflow-mul-back
+mul-back : tie.Need-overflow_mul-back
 mul-back c = record { fits = omega (arith, small c) }
 
-mul-flips : tie.Need-overflow-mul-flips
+mul-flips : tie.Need-overflow_mul-flips
 mul-flips c = record { fits = omega (arith, small c) }
 
-mul-lists : tie.Need-overflow-mul-lists
+mul-lists : tie.Need-overflow_mul-lists
 mul-lists c = record { fits = omega (arith, small c) }
 
-mul-second : tie.Need-overflow-mul-second
+mul-second : tie.Need-offset_bounds-t-back
 mul-second c = record { fits = omega (arith, small c.before.before.before) }
 
-part-second-end : tie.Need-slice-bounds-second-end
+part-second-end : tie.Need-slice_bounds-second-end
 part-second-end c = omega (arith, room c.before.before.before)
 
-mul-second-2 : tie.Need-overflow-mul-second-2
+mul-second-2 : tie.Need-offset_bounds-t-flips
 mul-second-2 c = let start = c.before.before.before.before in record { fits = omega (arith, small start) }
 
-part-second-end-2 : tie.Need-slice-bounds-second-end-2
+part-second-end-2 : tie.Need-slice_bounds-second-end-2
 part-second-end-2 c = let start = c.before.before.before.before in omega (arith, room start)
 
-slice-reshare-prefix-second : tie.Need-slice-reshare-prefix-second
+slice-reshare-prefix-second : tie.Need-slice_bounds-second-end-3
 slice-reshare-prefix-second c = let q = c.before.before in omega (arith, half (from q), room-for-half (from q).args.width, y-long q)
 
-slice-aggregate-second : tie.Need-slice-aggregate-second
-slice-aggregate-second c = let q = c.before.before.before in half (from q) ∙ sym (room-long (from q).requires.1.0 (half (from q)) (sums q) (y-long q))
+slice-aggregate-second : tie.Need-slice_bounds-second-end-4
+slice-aggregate-second c = let q = c.before.before in half (from q) ∙ sym (room-long (from q).requires.1.0 (half (from q)) (sums q) (y-long q))
 
 second-requires : tie.Need-second-requires
 second-requires c κs =
-    let q = c.before.before.before.before in
+    let q = c.before.before.before in
     let s = from q in
-    let f = s.pre.1.0 in
-    let h = s.pre.1.1.0 in (
+    let f = s.requires.1.0 in
+    let h = s.requires.1.1.0 in (
       ap (λ n. n % 4) h.top-long ∙ half-in-fours s.args.width,
-      (room-long f (half s) (sums q) (y-long q) ∙ sym h.top-long, (in_order f (half s) (rows q) (y-long q), (rows-scaled f (half s) (rows q) (y-long q) s.pre.1.1.1.1.0, s.pre.1.1.1.1.1))),
+      (room-long f (half s) (sums q) (y-long q) ∙ sym h.top-long, (in_order f (half s) (rows q) (y-long q), (rows-scaled f (half s) (rows q) (y-long q) s.requires.1.1.1.1.0, s.requires.1.1.1.1.1))),
     )
 
 returns : tie.Need-returns
 returns c =
-    let q = c.before.before.before.before.before.before in
+    let q = c.before.before.before.before.before in
     let s = from q in
-    let f = s.pre.1.0 in
-    stage2-is s.args.width s.pre.0 s.args.top.now s.args.bottom.now s.pre.1.1.0 _ (rows_are f (half s) (rows q)) s.args.undo c.before.second.ensures
+    let f = s.requires.1.0 in
+    stage2-is s.args.width s.requires.0 s.args.top.now s.args.bottom.now s.requires.1.1.0 _ (rows_are f (half s) (rows q)) s.args.undo c.second.ensures
 
 pub second_spec : {M : Type 1} → statement M
 second_spec =

@@ -11,40 +11,40 @@ use Rattle.stream.specs.Run.{ending_of}
 use Rattle.stream.proofs.run.end_input.Statement.{statement}
 use Rattle.stream.proofs.run.end_input.Tie as tie
 
-end-requires : tie.Need-end-requires
+end-requires : tie.Need-end-ended-requires
 end-requires c κs = search rules
 
-slice-reshare-prefix-write : tie.Need-slice-reshare-prefix-write
+slice-reshare-prefix-write : tie.Need-slice_bounds-write-end
 slice-reshare-prefix-write c = search rules
 
-slice-aggregate-write : tie.Need-slice-aggregate-write
+slice-aggregate-write : tie.Need-slice_bounds-write-end-2
 slice-aggregate-write c = part-long _ _ (omega arith)
 
 write-requires : tie.Need-write-requires
 write-requires c κs = search rules
 
-same_length : tie.Need-same-length
+same_length : tie.Need-shape_of-out-then-write
 same_length c = search rules
 
-returns : tie.Need-returns
+returns : tie.Need-returns-then-write
 unfolding ending_of
 returns c =
-    let e = c.before.before.before.before.before.before in
-    let k = e.before.before.before.before in
-    let w = whole text_program k.requires.0 k.requires.1.2 e.end.ensures in
-    record { last = place_of e.end.result; whole = w; ending = inr (ap (λ s. s.ending) w.ends) }
+    let e = c in
+    let k = e in
+    let w = whole text_program k.requires.0 k.requires.1.2 e.end-ended.ensures in
+    record { last = place_of e.end-ended.result; whole = w; ending = inr (ap (λ s. s.ending) w.ends) }
 
-same-length-2 : tie.Need-same-length-2
+same-length-2 : tie.Need-shape_of-out
 same-length-2 c = search rules
 
-returns-2 : tie.Need-returns-2
+returns-2 : tie.Need-returns
 returns-2 c =
-    let e = c.before.before.before.before.before.before in
-    let k = e.before.before.before.before in
-    record { last = place_of e.end.result; whole = whole text_program k.requires.0 k.requires.1.2 e.end.ensures; ending = inl refl }
+    let e = c in
+    let k = e in
+    record { last = place_of e.end-ended.result; whole = whole text_program k.requires.0 k.requires.1.2 e.end-ended.ensures; ending = inl refl }
 
-pub end-input-spec : {M : Type 1} → statement M
-end-input-spec =
+pub end_input_spec : {M : Type 1} → statement M
+end_input_spec =
     tie.close
     (tie.spec
     end-requires

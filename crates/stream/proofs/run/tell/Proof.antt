@@ -5,26 +5,26 @@ use Rattle.pieces.proofs.SliceLaws.{part-long}
 use Rattle.stream.proofs.run.tell.Statement.{statement}
 use Rattle.stream.proofs.run.tell.Tie as tie
 
-slice-aggregate-refusal-line : tie.Need-slice-aggregate-refusal-line
+slice-aggregate-refusal-line : tie.Need-slice_bounds-refusal_line-end
 slice-aggregate-refusal-line c = search rules
 
-refusal-line-requires : tie.Need-refusal-line-requires
+refusal-line-requires : tie.Need-refusal_line-n-requires
 refusal-line-requires c κs = search rules
 
-array-share-prefix-text : tie.Need-array-share-prefix-text
+array-share-prefix-text : tie.Need-slice_bounds-text-end
 array-share-prefix-text c = search rules
 
-slice-aggregate-write-all : tie.Need-slice-aggregate-write-all
+slice-aggregate-write-all : tie.Need-slice_bounds-write_all-end
 slice-aggregate-write-all c = part-long _ _ (omega arith)
 
-write-all-requires : tie.Need-write-all-requires
+write-all-requires : tie.Need-write_all-requires
 write-all-requires c κs = search rules
 
 returns : tie.Need-returns
 returns c = search rules
 
-pub tell-spec : {M : Type 1} → statement M
-tell-spec =
+pub tell_spec : {M : Type 1} → statement M
+tell_spec =
     tie.close
     (tie.spec
     slice-aggregate-refusal-line

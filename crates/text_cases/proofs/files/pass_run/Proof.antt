@@ -5,11 +5,11 @@ use Rattle.pieces.proofs.SliceLaws.{part-long}
 use Rattle.text_cases.proofs.files.pass_run.Statement.{statement}
 use Rattle.text_cases.proofs.files.pass_run.Tie as tie
 
-slice-aggregate-run : tie.Need-slice-aggregate-run
+slice-aggregate-run : tie.Need-slice_bounds-run-end
 slice-aggregate-run c = part-long _ _ (omega arith)
 
-pub pass-run-spec : {M : Type 1} → statement M
-pass-run-spec =
+pub pass_run_spec : {M : Type 1} → statement M
+pass_run_spec =
     tie.close
     (tie.spec
     (λ c κs. search rules)

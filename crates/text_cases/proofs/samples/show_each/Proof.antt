@@ -7,52 +7,52 @@ use Rattle.text_runs.proofs.UpToLaws.{part_length}
 use Rattle.text_cases.proofs.samples.show_each.Statement.{statement}
 use Rattle.text_cases.proofs.samples.show_each.Tie as tie
 
-abbrev invariant-loop : tie.invariant-loop
+abbrev invariant-loop : tie.invariant-loop-at
 invariant-loop tried list one other at₀ at = Unit {0}
 
-abbrev decreases-loop : tie.decreases-loop
+abbrev decreases-loop : tie.decreases-loop-at
 decreases-loop tried list one other at₀ at = length list - at
 
 -- a name ends within the list
-name-ends : (c : tie.After-end-of invariant-loop decreases-loop) → let start = c.before.before.before.before in c.end_of_lem.result ≤ length start.args.list.now
+name-ends : (c : tie.After-end_of-end invariant-loop decreases-loop) → let start = c.before.before.before.before in c.end_of-end.result ≤ length start.args.list.now
 name-ends c =
-    let start = c.before.before.before.before in
+    let start = c in
     let l = start.args.list.now in
-    let at = c.before.before.loop.at in
-    omega (arith, c.end_of_lem.ensures, part_length 10 (drop at l), length-drop at l, c.before.loop-test.true)
+    let at = c.loop-at.at in
+    omega (arith, c.end_of-end.ensures, part_length 10 (drop at l), length-drop at l, c.loop-at-test.true)
 
-loop-holds : tie.Need-loop-init invariant-loop decreases-loop
+loop-holds : tie.Need-loop-at-init invariant-loop decreases-loop
 loop-holds c = search rules
 
-end-of-requires : tie.Need-end-of-requires invariant-loop decreases-loop
+end-of-requires : tie.Need-end_of-end-requires invariant-loop decreases-loop
 end-of-requires c κs = search rules
 
-sub-show : tie.Need-overflow-sub-show invariant-loop decreases-loop
+sub-show : tie.Need-slice_bounds-show-count invariant-loop decreases-loop
 sub-show c = search rules
 
-part-show-start : tie.Need-slice-bounds-show-start invariant-loop decreases-loop
+part-show-start : tie.Need-slice_bounds-show-start invariant-loop decreases-loop
 part-show-start c = search rules
 
-part-show-end : tie.Need-slice-bounds-show-end invariant-loop decreases-loop
+part-show-end : tie.Need-slice_bounds-show-end invariant-loop decreases-loop
 part-show-end c = name-ends c
 
 show-requires : tie.Need-show-requires invariant-loop decreases-loop
 show-requires c κs = search rules
 
-add_at : tie.Need-overflow-add-at invariant-loop decreases-loop
+add_at : tie.Need-overflow_add-at invariant-loop decreases-loop
 add_at c = omega (arith, name-ends c.before.before)
 
-loop-less : tie.Need-loop-smaller invariant-loop decreases-loop
+loop-less : tie.Need-loop-at-smaller invariant-loop decreases-loop
 loop-less c = search rules
 
-loop-again : tie.Need-loop-preserved invariant-loop decreases-loop
+loop-again : tie.Need-loop-at-preserved invariant-loop decreases-loop
 loop-again c = search rules
 
 returns : tie.Need-returns invariant-loop decreases-loop
 returns c = search rules
 
-pub show-each-spec : {M : Type 1} → statement M
-show-each-spec =
+pub show_each_spec : {M : Type 1} → statement M
+show_each_spec =
     tie.close
     (tie.spec
     invariant-loop

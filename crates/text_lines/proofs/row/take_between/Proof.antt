@@ -14,51 +14,51 @@ use Rattle.text_lines.proofs.row.take_between.Statement.{statement}
 use Rattle.text_lines.proofs.row.take_between.Tie as tie
 
 -- the total that was read, by its bits
-module _ (k : tie.After-known-told) where
+module _ (k : tie.In-Number) where
   abbrev total : ℤ
-  total = k.before.end.given.0.0
+  total = k.in-Number.total
 
   total-is : to_z w64 (of_z w64 total) ≡ total
-  total-is = (held-ok w64 _ k.known-told.given.0.1).is
+  total-is = (held-ok w64 _ k.known_told-1.given.0.1).is
 
-end-total-requires : tie.Need-end-total-requires
+end-total-requires : tie.Need-end_total-end-requires
 end-total-requires c κs = search rules
 
-enum-known-end : tie.Need-enum-known-end
+enum-known-end : tie.Need-enum_known-end
 enum-known-end c = search rules
 
-enum_told : tie.Need-enum-told
+enum_told : tie.Need-enum_told-1
 enum_told c = search rules
 
-take-row-requires : tie.Need-take-row-requires
+take-row-requires : tie.Need-take_row-requires
 take-row-requires c κs = search rules
 
-returns : tie.Need-returns
+returns : tie.Need-returns-in_default
 returns c =
-    let t = c.before in
-    (c.take_row.ensures.0 ∙ row-taken _ _ (sym t.before.before.end-total.ensures ∙ t.enum_told.given.1), c.take_row.ensures.1)
+    let t = c in
+    (c.take_row.ensures.0 ∙ row-taken _ _ (sym t.end_total-end.ensures ∙ t.in_default.is), c.take_row.ensures.1)
 
-with-run-requires : tie.Need-with-run-requires
+with-run-requires : tie.Need-with_run-requires
 with-run-requires c κs = search rules
 
 silent-requires : tie.Need-silent-requires
 silent-requires c κs = search rules
 
-returns-2 : tie.Need-returns-2
+returns-2 : tie.Need-returns
 unfolding in_phase with_run
 returns-2 c =
     let k = c.before.before in
-    let at-end-total = k.before.before.before in
-    let s = at-end-total.before.before.before.args in (
+    let at-end-total = k in
+    let s = at-end-total.args in (
       c.silent.ensures.0
-          ∙ ap (λ (after : State). (after, [])) c.before.with-run.ensures
+          ∙ ap (λ (after : State). (after, [])) c.with_run.ensures
           ∙ ap (λ (t : ℤ). (in_phase (Ended t) s.state, [])) (total-is k)
-          ∙ end-taken s.state _ (total k) (sym at-end-total.end-total.ensures ∙ k.before.end.given.1),
+          ∙ end-taken s.state _ (total k) (sym at-end-total.end_total-end.ensures ∙ k.in-Number.is),
       c.silent.ensures.1,
     )
 
-pub take-between-spec : {M : Type 1} → statement M
-take-between-spec =
+pub take_between_spec : {M : Type 1} → statement M
+take_between_spec =
     tie.close
     (tie.spec
     end-total-requires

@@ -18,54 +18,54 @@ use Rattle.text_lines.proofs.width.start_run.Statement.{statement}
 use Rattle.text_lines.proofs.width.start_run.Tie as tie
 
 -- the answer's number is that of the definition
-answer : (c : tie.After-number) → c.number.result ≡ (started c.before.before.args.width).0.0
-answer c = c.number.ensures ∙ ap (λ (g : (ℕ × ℕ) × Run). g.0.0) c.before.start.ensures
+answer : (c : tie.After-number) → c.number.result ≡ (started c.args.width).0.0
+answer c = c.number.ensures ∙ ap (λ (g : (ℕ × ℕ) × Run). g.0.0) c.start-begun.ensures
 
-start-requires : tie.Need-start-requires
+start-requires : tie.Need-start-begun-requires
 start-requires c κs = search rules
 
 number-requires : tie.Need-number-requires
 number-requires c κs = search rules
 
-by-answer-requires : tie.Need-by-answer-requires
+by-answer-requires : tie.Need-by_answer-requires
 by-answer-requires c κs = search rules
 
-returns : tie.Need-returns
+returns : tie.Need-returns-then-number-ne0
 unfolding width_started
 returns c =
-    let at-if = c.before in
-    let at-number = at-if.before in
-    let s = at-number.before.before.args in (
+    let at-if = c in
+    let at-number = at-if.before.before in
+    let s = at-number.args in (
       c.by_answer.ensures.0
-          ∙ ap (λ (g : (ℕ × ℕ) × Run). refused s.state g.0) at-number.before.start.ensures
-          ∙ works-not _ _ _ (λ e. at-if.if1.true (answer at-number ∙ e)),
+          ∙ ap (λ (g : (ℕ × ℕ) × Run). refused s.state g.0) at-number.start-begun.ensures
+          ∙ works-not _ _ _ (λ e. at-if.if-number-ne0.true (answer at-number ∙ e)),
       c.by_answer.ensures.1,
     )
 
-slice-aggregate-last-natural : tie.Need-slice-aggregate-last-natural
+slice-aggregate-last-natural : tie.Need-slice_bounds-last_natural-end
 slice-aggregate-last-natural c = search rules
 
-last-natural-requires : tie.Need-last-natural-requires
-last-natural-requires c κs = let start = c.before.before.before.before.before in omega (arith, decimal-within start.args.width)
+last-natural-requires : tie.Need-last_natural-length-requires
+last-natural-requires c κs = let start = c in omega (arith, decimal-within start.args.width)
 
-with-run-requires : tie.Need-with-run-requires
+with-run-requires : tie.Need-with_run-requires
 with-run-requires c κs = search rules
 
-returns-2 : tie.Need-returns-2
+returns-2 : tie.Need-returns
 unfolding width_started
 returns-2 c =
-    let at-if = c.before.before.before.before.before in
-    let at-number = at-if.before in
-    let s = at-number.before.before.args in
-    let p = c.before.before.last-natural.ensures in (
-      given-text _ _ _ _ _ c.with-run.ensures p.is
-          ∙ ap (λ (g : (ℕ × ℕ) × Run). (with_run Between g.1 s.state, decimal s.width ++ (line_feed ∷ []))) at-number.before.start.ensures
-          ∙ works _ _ _ (sym (answer at-number) ∙ at-if.if1.false),
+    let at-if = c in
+    let at-number = at-if.before.before.before.before.before.before in
+    let s = at-number.args in
+    let p = c.last_natural-length.ensures in (
+      given-text _ _ _ _ _ c.with_run.ensures p.is
+          ∙ ap (λ (g : (ℕ × ℕ) × Run). (with_run Between g.1 s.state, decimal s.width ++ (line_feed ∷ []))) at-number.start-begun.ensures
+          ∙ works _ _ _ (sym (answer at-number) ∙ at-if.if-number-ne0.false),
       omega (arith, p.count, decimal-within s.width, length-append (decimal s.width) (line_feed ∷ [])),
     )
 
-pub start-run-spec : {M : Type 1} → statement M
-start-run-spec =
+pub start_run_spec : {M : Type 1} → statement M
+start_run_spec =
     tie.close
     (tie.spec
     start-requires

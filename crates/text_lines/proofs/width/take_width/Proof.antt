@@ -23,52 +23,52 @@ unfolding width_taken
 from s = if-from (λ (x : ℤ). width_started s (nat_abs x) ≡ width_taken s (Field.Number x)) (λ (n : ℕ). refl)
 
 -- the number that was read
-abbrev x : tie.After-known-told → ℤ
-x k = k.before.field.given.0.0
+abbrev x : tie.In-Number → ℤ
+x k = k.in-Number.width
 
-enum-known-field : tie.Need-enum-known-field
+enum-known-field : tie.Need-enum_known-field
 enum-known-field c = search rules
 
-enum_told : tie.Need-enum-told
+enum_told : tie.Need-enum_told-1
 enum_told c = search rules
 
-bad-form-requires : tie.Need-bad-form-requires
+bad-form-requires : tie.Need-bad_form-requires
 bad-form-requires c κs = search rules
 
-returns : tie.Need-returns
+returns : tie.Need-returns-in_default
 unfolding width_taken
-returns c = (c.bad-form.ensures.0 ∙ sym (ap (width_taken c.before.before.before.args.state) c.before.enum_told.given.1), c.bad-form.ensures.1)
+returns c = (c.bad_form.ensures.0 ∙ sym (ap (width_taken c.args.state) c.in_default.is), c.bad_form.ensures.1)
 
 by-requires : tie.Need-by-requires
 by-requires c κs = search rules
 
-returns-2 : tie.Need-returns-2
+returns-2 : tie.Need-returns-then-width-lt0
 returns-2 c =
     let k = c.before.before in
-    let s = k.before.before.before.args in
-    let told = sign-told (x k) k.known-told.given.0.1 c.before.if1.true in
-    (c.by.ensures.0 ∙ below s.state (x k) told ∙ sym (ap (width_taken s.state) k.before.field.given.1), c.by.ensures.1)
+    let s = k.args in
+    let told = sign-told (x k) k.known_told-1.given.0.1 c.if-width-lt0.true in
+    (c.by.ensures.0 ∙ below s.state (x k) told ∙ sym (ap (width_taken s.state) k.in-Number.is), c.by.ensures.1)
 
-cast-start-run : tie.Need-overflow-cast-start-run
-cast-start-run c = asks-usize (x c.before) c.before.known-told.given.0.1 c.if1.false
+cast-start-run : tie.Need-overflow_cast-width
+cast-start-run c = asks-usize (x c.before) c.known_told-1.given.0.1 c.if-width-lt0.false
 
-start-run-requires : tie.Need-start-run-requires
+start-run-requires : tie.Need-start_run-requires
 start-run-requires c κs = search rules
 
-returns-3 : tie.Need-returns-3
+returns-3 : tie.Need-returns
 returns-3 c =
     let k = c.before.before in
-    let s = k.before.before.before.args in
-    let fits = k.known-told.given.0.1 in (
-      c.start-run.ensures.0
+    let s = k.args in
+    let fits = k.known_told-1.given.0.1 in (
+      c.start_run.ensures.0
           ∙ ap (width_started s.state) (usize-is (x k) fits)
-          ∙ from s.state (x k) (sign-told (x k) fits c.before.if1.false)
-          ∙ sym (ap (width_taken s.state) k.before.field.given.1),
-      c.start-run.ensures.1,
+          ∙ from s.state (x k) (sign-told (x k) fits c.if-width-lt0.false)
+          ∙ sym (ap (width_taken s.state) k.in-Number.is),
+      c.start_run.ensures.1,
     )
 
-pub take-width-spec : {M : Type 1} → statement M
-take-width-spec =
+pub take_width_spec : {M : Type 1} → statement M
+take_width_spec =
     tie.close
     (tie.spec
     enum-known-field

@@ -10,15 +10,15 @@ take-requires : tie.Need-take-requires
 take-requires c κs = tt
 
 put-requires : tie.Need-put-requires
-put-requires c κs = let start = c.before.before.before.before.before in (c.before.take.ensures.1, start.requires.1)
+put-requires c κs = let start = c in (c.take.ensures.1, start.requires.1)
 
-same_length : tie.Need-same-length
-same_length c = c.before.out.given
+same_length : tie.Need-shape_of-out
+same_length c = c.out-1.given
 
 returns : tie.Need-returns
 returns c =
-    let t = c.before.before.before.before in
-    hands_on text_program _ _ _ _ _ c.before.before.put.ensures (line-given _ _ _ (omega arith) t.take.ensures.0)
+    let t = c in
+    hands_on text_program _ _ _ _ _ c.put.ensures (line-given _ _ _ (omega arith) t.take.ensures.0)
 
 pub hand_on_spec : {M : Type 1} → statement M
 hand_on_spec = tie.close (tie.spec take-requires put-requires same_length returns)

@@ -8,45 +8,45 @@ use Rattle.feeding.specs.Text.{text_program}
 use Rattle.text_pieces.proofs.piece.take_line.Statement.{statement}
 use Rattle.text_pieces.proofs.piece.take_line.Tie as tie
 
-gather-requires : tie.Need-gather-requires
+gather-requires : tie.Need-gather-gathered-requires
 gather-requires c κs =
-    let start = c.before.before.before.before in
+    let start = c in
     let b = start.requires.0 in
     (b.place, b.long, omega (arith, b.fits))
 
-slice-reshare-prefix-hand-on : tie.Need-slice-reshare-prefix-hand-on
+slice-reshare-prefix-hand-on : tie.Need-slice_bounds-hand_on-end
 slice-reshare-prefix-hand-on c = search rules
 
-slice-aggregate-hand-on : tie.Need-slice-aggregate-hand-on
+slice-aggregate-hand-on : tie.Need-slice_bounds-hand_on-end-then-gathered
 slice-aggregate-hand-on c = part-long _ _ (omega arith)
 
-hand-on-requires : tie.Need-hand-on-requires
+hand-on-requires : tie.Need-hand_on-requires
 hand-on-requires c κs = (simp length-take (omega arith), omega arith)
 
-same_length : tie.Need-same-length
-same_length c = let at-line = c.before.before.before.before.before.before.before in at-line.line.given
+same_length : tie.Need-shape_of-line-then-gathered
+same_length c = let at-line = c in at-line.line-1.given
 
-same-length-2 : tie.Need-same-length-2
-same-length-2 c = c.before.out.given
+same-length-2 : tie.Need-shape_of-out-then-gathered
+same-length-2 c = c.out-1.given
 
-returns : tie.Need-returns
+returns : tie.Need-returns-then-gathered
 returns c =
-    let then1 = c.before.before.before.before.before in
-    let g = then1.before.before.before in
-    let k = g.before.before.before.before.before in
-    goes-ended text_program k.requires.0 k.requires.1.0 k.requires.1.2 g.gather.ensures then1.if1.true k.requires.1.1 c.before.before.hand_on.ensures
+    let then1 = c in
+    let g = then1 in
+    let k = g in
+    goes-ended text_program k.requires.0 k.requires.1.0 k.requires.1.2 g.gather-gathered.ensures then1.if-gathered.true k.requires.1.1 c.hand_on.ensures
 
-same-length-3 : tie.Need-same-length-3
-same-length-3 c = c.before.before.line.given
+same-length-3 : tie.Need-shape_of-line
+same-length-3 c = c.line-1.given
 
-returns-2 : tie.Need-returns-2
+returns-2 : tie.Need-returns
 returns-2 c =
-    let g = c.before.before.before in
-    let k = g.before.before.before.before.before in
-    goes-open text_program k.requires.0 k.requires.1.0 k.requires.1.2 g.gather.ensures c.if1.false
+    let g = c in
+    let k = g in
+    goes-open text_program k.requires.0 k.requires.1.0 k.requires.1.2 g.gather-gathered.ensures c.if-gathered.false
 
-pub take-line-spec : {M : Type 1} → statement M
-take-line-spec =
+pub take_line_spec : {M : Type 1} → statement M
+take_line_spec =
     tie.close
     (tie.spec
     gather-requires

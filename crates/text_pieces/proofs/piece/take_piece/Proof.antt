@@ -10,69 +10,69 @@ use Rattle.text_pieces.specs.Text.{text_limits, place_of}
 use Rattle.text_pieces.proofs.piece.take_piece.Statement.{statement}
 use Rattle.text_pieces.proofs.piece.take_piece.Tie as tie
 
-abbrev invariant-loop : tie.invariant-loop
+abbrev invariant-loop : tie.invariant-loop-progress
 invariant-loop piece line₀ out₀ progress₀ line out progress = Kept text_program text_limits piece line₀ out₀ (place_of progress₀) line out (place_of progress)
 
-abbrev decreases-loop : tie.decreases-loop
+abbrev decreases-loop : tie.decreases-loop-progress
 decreases-loop piece line₀ out₀ progress₀ line out progress = length piece - progress.at
 
-loop-holds : tie.Need-loop-init invariant-loop decreases-loop
-loop-holds c = kept-first text_program c.before.before.before.requires
+loop-holds : tie.Need-loop-progress-init invariant-loop decreases-loop
+loop-holds c = kept-first text_program c.requires
 
-is-over-requires : tie.Need-is-over-requires invariant-loop decreases-loop
+is-over-requires : tie.Need-is_over-requires invariant-loop decreases-loop
 is-over-requires c κs = tt
 
-same_length : tie.Need-same-length invariant-loop decreases-loop
-same_length c = let at-loop = c.before.before.before.before in at-loop.loop.invariant.same_line
+same_length : tie.Need-shape_of-line-then-is_over invariant-loop decreases-loop
+same_length c = let at-loop = c in at-loop.loop-progress.invariant.same_line
 
-same-length-2 : tie.Need-same-length-2 invariant-loop decreases-loop
-same-length-2 c = let at-loop = c.before.before.before.before in at-loop.loop.invariant.same_out
+same-length-2 : tie.Need-shape_of-out-then-is_over invariant-loop decreases-loop
+same-length-2 c = let at-loop = c in at-loop.loop-progress.invariant.same_out
 
-returns : tie.Need-returns invariant-loop decreases-loop
+returns : tie.Need-returns-then-is_over invariant-loop decreases-loop
 returns c =
-    let at-loop = c.before.before.before.before in
-    took-over text_program at-loop.loop.invariant (sym c.before.is-over.ensures ∙ c.if2.true)
+    let at-loop = c in
+    took-over text_program at-loop.loop-progress.invariant (sym c.is_over.ensures ∙ c.if-is_over.true)
 
-sub-if3 : tie.Need-overflow-sub-if3 invariant-loop decreases-loop
+sub-if3 : tie.Need-overflow_sub-out invariant-loop decreases-loop
 sub-if3 c = search rules
 
-same-length-3 : tie.Need-same-length-3 invariant-loop decreases-loop
-same-length-3 c = let at-loop = c.before.before.before.before.before.before in at-loop.loop.invariant.same_line
+same-length-3 : tie.Need-shape_of-line-then-out-progress-lt2048 invariant-loop decreases-loop
+same-length-3 c = let at-loop = c in at-loop.loop-progress.invariant.same_line
 
-same-length-4 : tie.Need-same-length-4 invariant-loop decreases-loop
-same-length-4 c = let at-loop = c.before.before.before.before.before.before in at-loop.loop.invariant.same_out
+same-length-4 : tie.Need-shape_of-out-then-out-progress-lt2048 invariant-loop decreases-loop
+same-length-4 c = let at-loop = c in at-loop.loop-progress.invariant.same_out
 
-returns-2 : tie.Need-returns-2 invariant-loop decreases-loop
+returns-2 : tie.Need-returns-then-out-progress-lt2048 invariant-loop decreases-loop
 returns-2 c =
-    let at-loop = c.before.before.before.before.before.before in
-    took-full text_program at-loop.loop.invariant (omega arith)
+    let at-loop = c in
+    took-full text_program at-loop.loop-progress.invariant (omega arith)
 
-take-line-requires : tie.Need-take-line-requires invariant-loop decreases-loop
+take-line-requires : tie.Need-take_line-progress-requires invariant-loop decreases-loop
 take-line-requires c κs =
-    let o = c.before.before.before.before in
-    let at-loop = o.before.before.before.before in
-    (at-loop.loop.invariant.within, (sym o.before.is-over.ensures ∙ o.if2.false, omega arith, omega arith))
+    let o = c in
+    let at-loop = o in
+    (at-loop.loop-progress.invariant.within, (sym o.is_over.ensures ∙ o.if-is_over.false, omega arith, omega arith))
 
-loop-less : tie.Need-loop-smaller invariant-loop decreases-loop
+loop-less : tie.Need-loop-progress-smaller invariant-loop decreases-loop
 loop-less c = search rules
 
-loop-again : tie.Need-loop-preserved invariant-loop decreases-loop
+loop-again : tie.Need-loop-progress-preserved invariant-loop decreases-loop
 loop-again c =
-    let t = c.before.before.before.before in
-    let at-loop = t.before.before.before.before.before.before.before.before.before in
-    kept_more text_program at-loop.loop.invariant t.take-line.ensures c.before.before.before.line.given c.before.out.given
+    let t = c in
+    let at-loop = t in
+    kept_more text_program at-loop.loop-progress.invariant t.take_line-progress.ensures c.line-1.given c.out-1.given
 
-same-length-5 : tie.Need-same-length-5 invariant-loop decreases-loop
-same-length-5 c = c.before.before.loop.invariant.same_line
+same-length-5 : tie.Need-shape_of-line invariant-loop decreases-loop
+same-length-5 c = c.loop-progress.invariant.same_line
 
-same-length-6 : tie.Need-same-length-6 invariant-loop decreases-loop
-same-length-6 c = c.before.before.loop.invariant.same_out
+same-length-6 : tie.Need-shape_of-out invariant-loop decreases-loop
+same-length-6 c = c.loop-progress.invariant.same_out
 
-returns-3 : tie.Need-returns-3 invariant-loop decreases-loop
-returns-3 c = took-all text_program c.before.before.loop.invariant (omega arith)
+returns-3 : tie.Need-returns invariant-loop decreases-loop
+returns-3 c = took-all text_program c.loop-progress.invariant (omega arith)
 
-pub take-piece-spec : {M : Type 1} → statement M
-take-piece-spec =
+pub take_piece_spec : {M : Type 1} → statement M
+take_piece_spec =
     tie.close
     (tie.spec
     invariant-loop

@@ -5,11 +5,11 @@ use mathlib.Core.Bool.{not}
 use Rattle.text_pieces.proofs.session.is_over.Statement.{statement}
 use Rattle.text_pieces.proofs.session.is_over.Tie as tie
 
-goes-on-requires : tie.Need-goes-on-requires
+goes-on-requires : tie.Need-goes_on-requires
 goes-on-requires c κs = search rules
 
 returns : tie.Need-returns
 returns c = ap not c.goes_on.ensures
 
-pub is-over-spec : {M : Type 1} → statement M
-is-over-spec = tie.close (tie.spec goes-on-requires returns)
+pub is_over_spec : {M : Type 1} → statement M
+is_over_spec = tie.close (tie.spec goes-on-requires returns)

@@ -15,14 +15,14 @@ use Rattle.text_runs.proofs.state.begin.Tie as tie
 abbrev before-line-1 : Way → Run → State
 before-line-1 way run = record { way = way; phase = First; run = run }
 
-nothing-held-requires : tie.Need-nothing-held-requires
+nothing-held-requires : tie.Need-nothing_held-held-requires
 nothing-held-requires c κs = search rules
 
 returns : tie.Need-returns
 unfolding begun opened zero_padded
 returns c =
-    let way = c.before.before.args.way in
-    ap (before-line-1 way) c.make.ensures ∙ ap (λ held. before-line-1 way (record_of 0 0 held false (pos 0))) c.before.nothing-held.ensures
+    let way = c.args.way in
+    ap (before-line-1 way) c.make.ensures ∙ ap (λ held. before-line-1 way (record_of 0 0 held false (pos 0))) c.nothing_held-held.ensures
 
-pub begin-spec : {M : Type 1} → statement M
-begin-spec = tie.close (tie.spec nothing-held-requires (λ c κs. search rules) returns)
+pub begin_spec : {M : Type 1} → statement M
+begin_spec = tie.close (tie.spec nothing-held-requires (λ c κs. search rules) returns)

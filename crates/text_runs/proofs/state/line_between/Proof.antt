@@ -7,16 +7,16 @@ use Rattle.text_runs.specs.State.{line_between}
 use Rattle.text_runs.proofs.state.line_between.Statement.{statement}
 use Rattle.text_runs.proofs.state.line_between.Tie as tie
 
-returns : tie.Need-returns
+returns : tie.Need-returns-then-count-gt-FRAME_LIMIT
 unfolding line_between
-returns c = rw (lt-leb c.before.args.count frame_limit (omega arith))
+returns c = rw (lt-leb c.args.count frame_limit (omega arith))
 
-add-result : tie.Need-overflow-add-result
+add-result : tie.Need-overflow_add-result
 add-result c = search rules
 
-returns-2 : tie.Need-returns-2
+returns-2 : tie.Need-returns
 unfolding line_between
-returns-2 c = rw (le-leb c.before.args.count frame_limit (omega arith)) (omega arith)
+returns-2 c = rw (le-leb c.args.count frame_limit (omega arith)) (omega arith)
 
-pub line-between-spec : {M : Type 1} → statement M
-line-between-spec = tie.close (tie.spec returns add-result returns-2)
+pub line_between_spec : {M : Type 1} → statement M
+line_between_spec = tie.close (tie.spec returns add-result returns-2)

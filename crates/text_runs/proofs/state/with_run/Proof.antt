@@ -8,5 +8,5 @@ returns : tie.Need-returns
 unfolding with_run
 returns c = refl
 
-pub with-run-spec : {M : Type 1} → statement M
-with-run-spec = tie.close (tie.spec returns)
+pub with_run_spec : {M : Type 1} → statement M
+with_run_spec = tie.close (tie.spec returns)

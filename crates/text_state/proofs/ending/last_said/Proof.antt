@@ -13,63 +13,59 @@ use Rattle.text_state.proofs.EndingLaws.{said-short, said-other, said-refused}
 use Rattle.text_state.proofs.ending.last_said.Statement.{statement}
 use Rattle.text_state.proofs.ending.last_said.Tie as tie
 
-returns : tie.Need-returns
+returns : tie.Need-returns-then-text-lt8
 returns c = sym (said-short _ (omega arith))
 
-slice-aggregate-same : tie.Need-slice-aggregate-same
-slice-aggregate-same c = sym (length-take-le 8 c.before.before.before.args.text.now (omega arith))
-
-slice-aggregate-same-2 : tie.Need-slice-aggregate-same-2
-slice-aggregate-same-2 c = search rules
+slice-aggregate-same : tie.Need-slice_bounds-same-end
+slice-aggregate-same c = sym (length-take-le 8 c.args.text.now (omega arith))
 
 same-requires : tie.Need-same-requires
 same-requires c κs = search rules
 
-returns-2 : tie.Need-returns-2
+returns-2 : tie.Need-returns-then-not-same
 unfolding refused_tag
-returns-2 c = sym (said-other _ (sym c.before.same.ensures ∙ not-true _ c.if2.true))
+returns-2 c = sym (said-other _ (sym c.same.ensures ∙ not-true _ c.if-not-same.true))
 
-end-of-requires : tie.Need-end-of-requires
+end-of-requires : tie.Need-end_of-end-requires
 end-of-requires c κs = search rules
 
-sub-refused-by : tie.Need-overflow-sub-refused-by
+sub-refused-by : tie.Need-slice_bounds-refused_by-count
 sub-refused-by c = search rules
 
 -- the line ends within the text
-ends : (c : tie.After-end-of) → let start = c.before.before.before.before.before.before.before in c.end_of_lem.result ≤ length start.args.text.now
+ends : (c : tie.After-end_of-end) → let start = c.before.before.before.before.before.before.before in c.end_of-end.result ≤ length start.args.text.now
 ends c =
-    let start = c.before.before.before.before.before.before.before in
+    let start = c in
     let bytes = start.args.text.now in
-    omega (arith, c.end_of_lem.ensures, part_length 10 (drop 8 bytes), length-drop 8 bytes)
+    omega (arith, c.end_of-end.ensures, part_length 10 (drop 8 bytes), length-drop 8 bytes)
 
-part-refused-by-start : tie.Need-slice-bounds-refused-by-start
+part-refused-by-start : tie.Need-slice_bounds-refused_by-start
 part-refused-by-start c = search rules
 
-part-refused-by-end : tie.Need-slice-bounds-refused-by-end
+part-refused-by-end : tie.Need-slice_bounds-refused_by-end
 part-refused-by-end c = ends c
 
-refused-by-requires : tie.Need-refused-by-requires
+refused-by-requires : tie.Need-refused_by-requires
 refused-by-requires c κs =
-    let start = c.before.before.before.before.before.before.before.before in
-    omega (arith, length-drop 8 start.args.text.now, length-take (c.before.end_of_lem.result - 8) (drop 8 start.args.text.now))
+    let start = c in
+    omega (arith, length-drop 8 start.args.text.now, length-take (c.end_of-end.result - 8) (drop 8 start.args.text.now))
 
-returns-3 : tie.Need-returns-3
+returns-3 : tie.Need-returns
 unfolding refused_tag
 returns-3 c =
-    let t = c.before.before.before.before in
-    let start = t.before.before.before.before.before in
+    let t = c in
+    let start = t in
     let bytes = start.args.text.now in
-    c.refused-by.ensures
-    ∙ ap (λ bs. refused_by (numbers_in bs)) (part_cut 10 bytes 8 _ c.before.before.end_of_lem.ensures)
-    ∙ sym (said-refused bytes (sym t.same.ensures ∙ not-false _ c.before.before.before.if2.false))
+    c.refused_by.ensures
+    ∙ ap (λ bs. refused_by (numbers_in bs)) (part_cut 10 bytes 8 _ c.end_of-end.ensures)
+    ∙ sym (said-refused bytes (sym t.same.ensures ∙ not-false _ c.if-not-same.false))
 
-pub last-said-spec : {M : Type 1} → statement M
-last-said-spec =
+pub last_said_spec : {M : Type 1} → statement M
+last_said_spec =
     tie.close
     (tie.spec
     returns
     slice-aggregate-same
-    slice-aggregate-same-2
     same-requires
     returns-2
     end-of-requires

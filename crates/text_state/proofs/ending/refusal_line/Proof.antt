@@ -12,58 +12,54 @@ use Rattle.text_state.proofs.EndingLaws.{refused_as}
 use Rattle.text_state.proofs.ending.refusal_line.Statement.{statement}
 use Rattle.text_state.proofs.ending.refusal_line.Tie as tie
 
-enum_told : tie.Need-enum-told
+enum_told : tie.Need-enum_told-1
 enum_told c = search rules
 
-enum-told-2 : tie.Need-enum-told-2
+enum-told-2 : tie.Need-enum_told-in-Whole
 enum-told-2 c = search rules
 
-enum-known-ending : tie.Need-enum-known-ending
+enum-known-ending : tie.Need-enum_known-ending
 enum-known-ending c = search rules
 
-slice-aggregate-bytes : tie.Need-slice-aggregate-bytes
-slice-aggregate-bytes c = search rules
-
-bytes-requires : tie.Need-bytes-requires
+bytes-requires : tie.Need-bytes-n-requires
 bytes-requires c κs = search rules
 
-slice-aggregate-row-line : tie.Need-slice-aggregate-row-line
+slice-aggregate-row-line : tie.Need-slice_bounds-row_line-end
 slice-aggregate-row-line c = search rules
 
-row-line-requires : tie.Need-row-line-requires
+row-line-requires : tie.Need-row_line-requires
 row-line-requires c κs = search rules
 
-returns : tie.Need-returns
+returns : tie.Need-returns-in-Open
 unfolding ending_line
-returns c = (put_as _ _ _ _ (sym (ap ending_line c.enum_told.given.1)) (put-none _ _), omega arith)
+returns c = (put_as _ _ _ _ (sym (ap ending_line c.in-Open.is)) (put-none _ _), omega arith)
 
-returns-2 : tie.Need-returns-2
+returns-2 : tie.Need-returns-in-Whole
 unfolding ending_line
-returns-2 c = (put_as _ _ _ _ (sym (ap ending_line c.enum-told2.given.1)) (put-none _ _), omega arith)
+returns-2 c = (put_as _ _ _ _ (sym (ap ending_line c.in-Whole.is)) (put-none _ _), omega arith)
 
-same_length : tie.Need-same-length
-same_length c = let at-text = c.before.before.before.before.before.before in c.before.text2.given ∙ at-text.text.given
+same_length : tie.Need-shape_of-text
+same_length c = let at-text = c in c.text-in-Refused-1.given ∙ at-text.text-1.given
 
-returns-3 : tie.Need-returns-3
+returns-3 : tie.Need-returns-in-Refused
 unfolding ending_line refused_tag row_line
 returns-3 c =
-    let n = c.before.before in
-    let b = n.before.before.before.before.before in
-    let t = b.before.before.before in
-    let x = t.before.ending.given in
-    let same = refused_as (held-ok w32 _ t.known-told.given.0.1).is (held-ok w32 _ t.known-told.given.1.0.1).is (held-ok w32 _ t.known-told.given.1.1.0.1).is in (
-      put_as _ _ _ _ (ap ending_line same ∙ sym (ap ending_line x.1)) (put_then b.bytes.ensures n.row_Line.ensures.0),
-      omega (arith, b.bytes.ensures.count, n.row_Line.ensures.1),
+    let n = c in
+    let b = n in
+    let t = b in
+    let x = t.ending-1.given in
+    let same = refused_as (held-ok w32 _ t.known_told-1.given.0.1).is (held-ok w32 _ t.known_told-1.given.1.0.1).is (held-ok w32 _ t.known_told-1.given.1.1.0.1).is in (
+      put_as _ _ _ _ (ap ending_line same ∙ sym (ap ending_line x.1)) (put_then b.bytes-n.ensures n.row_line.ensures.0),
+      omega (arith, b.bytes-n.ensures.count, n.row_line.ensures.1),
     )
 
-pub refusal-line-spec : {M : Type 1} → statement M
-refusal-line-spec =
+pub refusal_line_spec : {M : Type 1} → statement M
+refusal_line_spec =
     tie.close
     (tie.spec
     enum_told
     enum-told-2
     enum-known-ending
-    slice-aggregate-bytes
     bytes-requires
     slice-aggregate-row-line
     row-line-requires

@@ -11,59 +11,59 @@ use Rattle.text_state.proofs.EndingLaws.{refused_as, by_three, by-others}
 use Rattle.text_state.proofs.ending.refused_by.Statement.{statement}
 use Rattle.text_state.proofs.ending.refused_by.Tie as tie
 
-slice-aggregate-numbers : tie.Need-slice-aggregate-numbers
+slice-aggregate-numbers : tie.Need-slice_bounds-numbers-end
 slice-aggregate-numbers c = search rules
 
-numbers-requires : tie.Need-numbers-requires
+numbers-requires : tie.Need-numbers-fields-requires
 numbers-requires c κs = search rules
 
-enum-known-fields : tie.Need-enum-known-fields
+enum-known-fields : tie.Need-enum_known-fields
 enum-known-fields c = search rules
 
-enum_told : tie.Need-enum-told
+enum_told : tie.Need-enum_told-1
 enum_told c = search rules
 
 -- what was read, once its case is known
-room : (c : tie.After-fields) → c.fields.given.0.0 ≤ 1024
+room : (c : tie.In-Numbers-2) → c.in-Numbers.n ≤ 1024
 unfolding count_within
-room c = subst (count_within 1024) c.fields.given.1 c.before.before.before.numbers2.ensures.1
+room c = subst (count_within 1024) c.in-Numbers.is c.numbers-fields.ensures.1
 
-returns : tie.Need-returns
+returns : tie.Need-returns-in_default
 unfolding shown_as refused_by
 returns c =
-    let r = c.before.before.before.numbers2 in
-    sym (ap refused_by (sym r.ensures.0 ∙ ap (λ f. shown_as f r.new.1.0) c.enum_told.given.1))
+    let r = c.numbers2 in
+    sym (ap refused_by (sym r.ensures.0 ∙ ap (λ f. shown_as f r.new.1.0) c.in_default.is))
 
-returns-2 : tie.Need-returns-2
+returns-2 : tie.Need-returns-then-n-ne3
 unfolding shown_as
 returns-2 c =
     let t = c.before.before in
-    let r = t.before.before.before.numbers2 in
+    let r = t.numbers2 in
     sym
-    (ap refused_by (sym r.ensures.0 ∙ ap (λ f. shown_as f r.new.1.0) t.fields.given.1)
-    ∙ by-others _ r.new.1.0 (omega (arith, room t, t.before.before.numbers3.given)) c.if1.true)
+    (ap refused_by (sym r.ensures.0 ∙ ap (λ f. shown_as f r.new.1.0) t.in-Numbers.is)
+    ∙ by-others _ r.new.1.0 (omega (arith, room t, t.numbers-2-1.given)) c.if-n-ne3.true)
 
-array-copy-out-t10 : tie.Need-array-copy-out-t10
+array-copy-out-t10 : tie.Need-bounds-numbers-0
 array-copy-out-t10 c = search rules
 
-array-copy-out-t13 : tie.Need-array-copy-out-t13
+array-copy-out-t13 : tie.Need-bounds-numbers-1
 array-copy-out-t13 c = search rules
 
-array-copy-out-t16 : tie.Need-array-copy-out-t16
+array-copy-out-t16 : tie.Need-bounds-numbers-2
 array-copy-out-t16 c = search rules
 
-returns-3 : tie.Need-returns-3
+returns-3 : tie.Need-returns
 unfolding shown_as
 returns-3 c =
     let t = c.before.before.before.before.before in
-    let r = t.before.before.before.numbers2 in
-    refused_as (held-ok w32 _ c.before.before.t10.given).is (held-ok w32 _ c.before.t13.given).is (held-ok w32 _ c.t16.given).is
+    let r = t.numbers2 in
+    refused_as (held-ok w32 _ c.result-1.given).is (held-ok w32 _ c.result-2-1.given).is (held-ok w32 _ c.result-3-1.given).is
     ∙ sym
-    (ap refused_by (sym r.ensures.0 ∙ ap (λ f. shown_as f r.new.1.0) t.fields.given.1)
-    ∙ by_three _ r.new.1.0 (omega (arith, room t, t.before.before.numbers3.given)) c.before.before.before.if1.false)
+    (ap refused_by (sym r.ensures.0 ∙ ap (λ f. shown_as f r.new.1.0) t.in-Numbers.is)
+    ∙ by_three _ r.new.1.0 (omega (arith, room t, t.numbers-2-1.given)) c.if-n-ne3.false)
 
-pub refused-by-spec : {M : Type 1} → statement M
-refused-by-spec =
+pub refused_by_spec : {M : Type 1} → statement M
+refused_by_spec =
     tie.close
     (tie.spec
     slice-aggregate-numbers

@@ -10,33 +10,33 @@ use Rattle.text_state.proofs.lines.given_row.Tie as tie
 number-requires : tie.Need-number-requires
 number-requires c κs = tt
 
-by-answer-requires : tie.Need-by-answer-requires
+by-answer-requires : tie.Need-by_answer-requires
 by-answer-requires c κs = tt
 
-returns : tie.Need-returns
+returns : tie.Need-returns-then-number-ne0
 unfolding row_given
 returns c =
-    let at-if1 = c.before in
-    (c.by_answer.ensures.0 ∙ works-not _ _ _ (λ e. at-if1.if1.true (at-if1.before.number.ensures ∙ e)), c.by_answer.ensures.1)
+    let at-if1 = c in
+    (c.by_answer.ensures.0 ∙ works-not _ _ _ (λ e. at-if1.if-number-ne0.true (at-if1.number.ensures ∙ e)), c.by_answer.ensures.1)
 
-slice-aggregate-shown-row : tie.Need-slice-aggregate-shown-row
+slice-aggregate-shown-row : tie.Need-slice_bounds-shown_row-end
 slice-aggregate-shown-row c = search rules
 
-shown-row-requires : tie.Need-shown-row-requires
+shown-row-requires : tie.Need-shown_row-length-requires
 shown-row-requires c κs = search rules
 
-with-run-requires : tie.Need-with-run-requires
+with-run-requires : tie.Need-with_run-requires
 with-run-requires c κs = tt
 
-returns-2 : tie.Need-returns-2
+returns-2 : tie.Need-returns
 unfolding row_given
 returns-2 c =
-    let shown = c.before.before.shown-row.ensures in
-    let at-if1 = c.before.before.before.before.before.before in
-    (given-text _ _ _ _ _ c.with-run.ensures shown.0 ∙ works _ _ _ (sym at-if1.before.number.ensures ∙ at-if1.if1.false), omega (arith, shown.1))
+    let shown = c.shown_row-length.ensures in
+    let at-if1 = c in
+    (given-text _ _ _ _ _ c.with_run.ensures shown.0 ∙ works _ _ _ (sym at-if1.number.ensures ∙ at-if1.if-number-ne0.false), omega (arith, shown.1))
 
-pub given-row-spec : {M : Type 1} → statement M
-given-row-spec =
+pub given_row_spec : {M : Type 1} → statement M
+given_row_spec =
     tie.close
     (tie.spec
     number-requires

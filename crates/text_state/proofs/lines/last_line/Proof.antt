@@ -10,28 +10,29 @@ use Rattle.text_runs.specs.Way.{last_line}
 use Rattle.text_state.proofs.lines.last_line.Statement.{statement}
 use Rattle.text_state.proofs.lines.last_line.Tie as tie
 
-end-line-requires : tie.Need-end-line-requires
+end-line-requires : tie.Need-end_line-n-requires
 end-line-requires c κs = search rules
-
-slice-aggregate-bytes : tie.Need-slice-aggregate-bytes
-slice-aggregate-bytes c = search rules
 
 bytes-requires : tie.Need-bytes-requires
 bytes-requires c κs = search rules
 
-same_length : tie.Need-same-length
+same_length : tie.Need-shape_of-text
 same_length c = search rules
 
 returns : tie.Need-returns
 unfolding last_line
 returns c =
-    let at-end-line = c.before.before.before.before.before.before.before in
-    let s = at-end-line.before.before.before in
+    let at-end-line = c in
+    let s = at-end-line in
     let total = (held w64 s.args.total s.ranges.total).is in
-    let p = at-end-line.end_line.ensures in
-    let q = c.before.before.bytes.ensures in
+    let p = at-end-line.end_line-n.ensures in
+    let q = c.bytes.ensures in
     (put_then (put_as _ _ _ _ (ap (end_line s.args.count) total) p.0) q, omega (arith, p.1, q.count))
 
-pub last-line-spec : {M : Type 1} → statement M
-last-line-spec =
-    tie.close (tie.spec end-line-requires slice-aggregate-bytes bytes-requires same_length returns)
+pub last_line_spec : {M : Type 1} → statement M
+last_line_spec =
+    tie.close (tie.spec
+    end-line-requires
+    bytes-requires
+    same_length
+    returns)

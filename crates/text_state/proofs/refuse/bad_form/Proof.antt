@@ -11,5 +11,5 @@ returns : tie.Need-returns
 unfolding bad_form
 returns c = c.by.ensures
 
-pub bad-form-spec : {M : Type 1} → statement M
-bad-form-spec = tie.close (tie.spec by-requires returns)
+pub bad_form_spec : {M : Type 1} → statement M
+bad_form_spec = tie.close (tie.spec by-requires returns)

@@ -7,45 +7,41 @@ use Rattle.text_state.proofs.GivenLaws.{given-text, refused-by}
 use Rattle.text_state.proofs.refuse.by.Statement.{statement}
 use Rattle.text_state.proofs.refuse.by.Tie as tie
 
-line-number-requires : tie.Need-line-number-requires
+line-number-requires : tie.Need-line_number-line-requires
 line-number-requires c κs = tt
 
-slice-aggregate-refusal : tie.Need-slice-aggregate-refusal
+slice-aggregate-refusal : tie.Need-slice_bounds-refusal-end
 slice-aggregate-refusal c = search rules
 
-refusal-requires : tie.Need-refusal-requires
+refusal-requires : tie.Need-refusal-n-requires
 refusal-requires c κs = search rules
 
-slice-aggregate-bytes : tie.Need-slice-aggregate-bytes
+slice-aggregate-bytes : tie.Need-slice_bounds-bytes-end
 slice-aggregate-bytes c = search rules
 
-slice-aggregate-bytes-2 : tie.Need-slice-aggregate-bytes-2
-slice-aggregate-bytes-2 c = search rules
-
-bytes-requires : tie.Need-bytes-requires
+bytes-requires : tie.Need-bytes-length-requires
 bytes-requires c κs = search rules
 
-with-run-requires : tie.Need-with-run-requires
+with-run-requires : tie.Need-with_run-requires
 with-run-requires c κs = tt
 
 returns : tie.Need-returns
 returns c =
-    let at-bytes = c.before.before in
-    let at-refusal = at-bytes.before.before.before.before in
-    let start = at-refusal.before.before.before.before in
-    let p = at-refusal.refusal.ensures in
-    let q = at-bytes.bytes.ensures in
-    (given-text _ _ _ _ _ c.with-run.ensures (put_then p.0 q).is ∙ refused-by start.args.state _ _ _ at-refusal.before.before.line-number.ensures, omega (arith, p.1, q.count))
+    let at-bytes = c in
+    let at-refusal = at-bytes in
+    let start = at-refusal in
+    let p = at-refusal.refusal-n.ensures in
+    let q = at-bytes.bytes-length.ensures in
+    (given-text _ _ _ _ _ c.with_run.ensures (put_then p.0 q).is ∙ refused-by start.args.state _ _ _ at-refusal.line_number-line.ensures, omega (arith, p.1, q.count))
 
-pub by-spec : {M : Type 1} → statement M
-by-spec =
+pub by_spec : {M : Type 1} → statement M
+by_spec =
     tie.close
     (tie.spec
     line-number-requires
     slice-aggregate-refusal
     refusal-requires
     slice-aggregate-bytes
-    slice-aggregate-bytes-2
     bytes-requires
     with-run-requires
     returns)

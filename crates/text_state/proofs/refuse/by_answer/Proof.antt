@@ -16,8 +16,8 @@ by-requires c κs = tt
 
 returns : tie.Need-returns
 returns c =
-    let at-number = c.before.before in
-    (c.by.ensures.0 ∙ ap (refused at-number.before.args.state) (told-pair _ at-number.number.ensures c.before.place.ensures), c.by.ensures.1)
+    let at-number = c in
+    (c.by.ensures.0 ∙ ap (refused at-number.args.state) (told-pair _ at-number.number.ensures c.place.ensures), c.by.ensures.1)
 
-pub by-answer-spec : {M : Type 1} → statement M
-by-answer-spec = tie.close (tie.spec number-requires place-requires by-requires returns)
+pub by_answer_spec : {M : Type 1} → statement M
+by_answer_spec = tie.close (tie.spec number-requires place-requires by-requires returns)

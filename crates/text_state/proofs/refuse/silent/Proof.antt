@@ -9,5 +9,5 @@ returns : tie.Need-returns
 unfolding result_of
 returns c = (refl, omega arith)
 
-pub silent-spec : {M : Type 1} → statement M
-silent-spec = tie.close (tie.spec returns)
+pub silent_spec : {M : Type 1} → statement M
+silent_spec = tie.close (tie.spec returns)

@@ -13,17 +13,17 @@ module _ (s : tie.Start) where
   stated = held w64 _ s.ranges.stated
 
   total : Held w64 (of_z w64 s.args.total) s.args.total
-  total = held w64 _ s.fits.total
+  total = held w64 _ s.ranges.total
 
-returns : tie.Need-returns
+returns : tie.Need-returns-then-stated-total
 returns c =
     let s = c.before in
-    rw (same_bits (stated s) (total s) c.if1.true, alike_refl s.args.total)
+    rw (same_bits (stated s) (total s) c.if-stated-total.true, alike_refl s.args.total)
 
-returns-2 : tie.Need-returns-2
+returns-2 : tie.Need-returns-else-stated-total
 returns-2 c =
-    let s = c.before in
-    rw (alike-other s.args.stated s.args.total (λ e. c.if1.false (ap (of_z w64) e)))
+    let s = c in
+    rw (alike-other s.args.stated s.args.total (λ e. c.if-stated-total.false (ap (of_z w64) e)))
 
-pub total-number-spec : {M : Type 1} → statement M
-total-number-spec = tie.close (tie.spec returns returns-2)
+pub total_number_spec : {M : Type 1} → statement M
+total_number_spec = tie.close (tie.spec returns returns-2)

@@ -11,17 +11,17 @@ use Rattle.valves.specs.Moves.{wanted, held_move}
 use Rattle.valve_moves.proofs.moves.asked.Statement.{statement}
 use Rattle.valve_moves.proofs.moves.asked.Tie as tie
 
-module _ (c : tie.After-held-move) where
+module _ (c : tie.After-held_move) where
   abbrev s : tie.Start
   s = c.before.before
 
   is : c.held_move.result ≡ held_move s.args.position (wanted s.args.width s.args.block.now)
   is =
       c.held_move.ensures.0
-      ∙ ap₂ held_move (held w32 _ s.fits.position).is ((held-ok w64 _ c.before.wanted.type-inv).is ∙ c.before.wanted.ensures)
+      ∙ ap₂ held_move (held w32 _ s.ranges.position).is ((held-ok w64 _ c.wanted.type_inv).is ∙ c.wanted.ensures)
 
   long : Held w64 (of_z w64 c.held_move.result) c.held_move.result
-  long = held-ok w64 _ c.held_move.type-inv
+  long = held-ok w64 _ c.held_move.type_inv
 
   fits : SFits w32 c.held_move.result
   fits = small w32 c.held_move.result (omega (arith, c.held_move.ensures.1))
@@ -29,8 +29,8 @@ module _ (c : tie.After-held-move) where
 returns : tie.Need-returns
 returns c = (h-cast w32 (long c) (fits c)).is ∙ is c
 
-pub asked-spec : {M : Type 1} → statement M
-asked-spec =
+pub asked_spec : {M : Type 1} → statement M
+asked_spec =
     tie.close
     (tie.spec
     (λ c κs. search rules)

@@ -27,16 +27,16 @@ module _ (s : tie.Start) where
   N = s.args.width
 
   total : Held w64 (of_z w64 t) t
-  total = held w64 t s.fits.total
+  total = held w64 t s.ranges.total
 
   divisor : Held w64 N (pos N)
-  divisor = (num w64 (pos N) s.pre.2 tt).holds
+  divisor = (num w64 (pos N) s.requires.2 tt).holds
 
   above_zero : pos 0 <ℤ pos N
-  above_zero = record { lt = lt→ltb 0 N s.pre.1 }
+  above_zero = record { lt = lt→ltb 0 N s.requires.1 }
 
   turned-fits : SFits w64 (pos 0 -ℤ t)
-  turned-fits = minus-small w64 t (omega (arith, s.pre.0))
+  turned-fits = minus-small w64 t (omega (arith, s.requires.0))
 
   turned : Held w64 (of_z w64 (pos 0 -ℤ to_z w64 (of_z w64 t))) (neg_ℤ t)
   turned = h-minus total turned-fits
@@ -44,32 +44,32 @@ module _ (s : tie.Start) where
   size-quotient : Held w64 (of_z w64 (quot_z (to_z w64 (of_z w64 (pos 0 -ℤ to_z w64 (of_z w64 t)))) (to_z w64 N))) (quot_z (neg_ℤ t) (pos N))
   size-quotient = h-quot turned divisor (quot_fits w64 _ _ turned.fits above_zero)
 
-module _ (c : tie.Then1) where
+module _ (c : tie.Then-total-lt0) where
   below : lt_z (t c.before) (pos 0) ≡ true
-  below = h-lt (total c.before) zero c.if1.true
+  below = h-lt (total c.before) zero c.if-total-lt0.true
 
   quotient_fits : SFits w64 (pos 0 -ℤ quot_z (neg_ℤ (t c.before)) (pos (N c.before)))
-  quotient_fits = minus-small w64 (quot_z (neg_ℤ (t c.before)) (pos (N c.before))) (omega (arith, below-size (N c.before) (t c.before) below, c.before.requires.0))
+  quotient_fits = minus-small w64 (quot_z (neg_ℤ (t c.before)) (pos (N c.before))) (omega (arith, below-size (N c.before) (t c.before) below, c.requires.0))
 
-sub-result : tie.Need-overflow-sub-result
+sub-result : tie.Need-overflow_sub-result
 sub-result c = asks-minus (total c.before) (turned-fits c.before)
 
-div-result : tie.Need-nonzero-div-result
-div-result c = let s = c.before in (s.requires.1, asks-quot (turned s) (divisor s) (size-quotient s).ranges)
+div-result : tie.Need-nonzero_div-result
+div-result c = let s = c.before in (s.requires.1, asks-quot (turned s) (divisor s) (size-quotient s).fits)
 
-sub-result-2 : tie.Need-overflow-sub-result-2
+sub-result-2 : tie.Need-overflow_sub-result-then-total-lt0
 sub-result-2 c = asks-minus (size-quotient c.before) (quotient_fits c)
 
-returns : tie.Need-returns
+returns : tie.Need-returns-then-total-lt0
 returns c = (h-minus (size-quotient c.before) (quotient_fits c)).is ∙ cut_below _ _ (below c)
 
-div-result-2 : tie.Need-nonzero-div-result-2
+div-result-2 : tie.Need-nonzero_div-result-2
 div-result-2 c = let s = c.before in (s.requires.1, asks-quot (total s) (divisor s) (quot_fits w64 _ _ s.ranges.total (above_zero s)))
 
-returns-2 : tie.Need-returns-2
+returns-2 : tie.Need-returns
 returns-2 c =
     let s = c.before in
-    (h-quot (total s) (divisor s) (quot_fits w64 _ _ s.ranges.total (above_zero s))).is ∙ cut-above _ _ (h-lt (total s) zero c.if1.false)
+    (h-quot (total s) (divisor s) (quot_fits w64 _ _ s.ranges.total (above_zero s))).is ∙ cut-above _ _ (h-lt (total s) zero c.if-total-lt0.false)
 
 pub cut_spec : {M : Type 1} → statement M
 cut_spec =

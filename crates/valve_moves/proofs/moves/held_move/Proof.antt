@@ -23,7 +23,7 @@ module _ (s : tie.Start) where
   bits = of_z w64 (to_z w32 (of_z w32 position))
 
   from : Num w64 travel bits position
-  from = record { holds = h-wide position s.fits.position.sfits; size = travel-size position s.pre.0 s.pre.1 }
+  from = record { holds = h-wide position s.ranges.position.sfits; size = travel-size position s.requires.0 s.requires.1 }
 
   below : Num w64 (0 + travel) (of_z w64 (pos 0 -ℤ to_z w64 bits)) (pos 0 -ℤ position)
   below = num-sub (num_lit w64 0 tt) from tt
@@ -32,25 +32,25 @@ module _ (s : tie.Start) where
   above = num-sub (num_lit w64 travel tt) from tt
 
 -- held within ±500
-within-500 : (c : tie.After-held-between) → let s = c.before in c.held-between.result ≡ held_between (neg_ℤ (pos greatest_move)) (pos greatest_move) s.args.x
-within-500 c = c.held-between.ensures ∙ ap (held_between (neg_ℤ (pos greatest_move)) (pos greatest_move)) (held w64 _ c.before.ranges.x).is
+within-500 : (c : tie.After-held_between) → let s = c.before in c.held_between.result ≡ held_between (neg_ℤ (pos greatest_move)) (pos greatest_move) s.args.x
+within-500 c = c.held_between.ensures ∙ ap (held_between (neg_ℤ (pos greatest_move)) (pos greatest_move)) (held w64 _ c.ranges.x).is
 
 -- then in the travel
-in-travel : (c : tie.After-held-between2) → let s = c.before.before in c.held-between2.result ≡ held_move (position s) s.args.x
+in-travel : (c : tie.After-held_between-2) → let s = c.before.before in c.held_between-2.result ≡ held_move (position s) s.args.x
 unfolding held_move
 in-travel c =
     let s = c.before.before in
-    c.held-between2.ensures
-    ∙ held_same ((below s).holds.is ∙ minus (position s)) (above s).holds.is ((held-ok w64 _ c.before.held-between.type-inv).is ∙ within-500 c.before)
+    c.held_between-2.ensures
+    ∙ held_same ((below s).holds.is ∙ minus (position s)) (above s).holds.is ((held-ok w64 _ c.held_between.type_inv).is ∙ within-500 c.before)
 
 returns : tie.Need-returns
 returns c =
     let s = c.before.before in
-    let is = (held-ok w64 _ c.held-between2.type-inv).is ∙ in-travel c in
+    let is = (held-ok w64 _ c.held_between-2.type_inv).is ∙ in-travel c in
     (is, rw is (move-kept (position s) s.args.x s.requires.0 s.requires.1).size)
 
-pub held-move-spec : {M : Type 1} → statement M
-held-move-spec =
+pub held_move_spec : {M : Type 1} → statement M
+held_move_spec =
     tie.close
     (tie.spec
     (λ c. search rules)

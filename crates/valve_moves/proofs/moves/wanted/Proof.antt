@@ -27,23 +27,23 @@ module _ (s : tie.Start) where
   block = s.args.block.now
 
   few : length block ≤ 128
-  few = rw s.pre.1.0 (width-le N s.pre.0)
+  few = rw s.requires.1.0 (width-le N s.requires.0)
 
   wide : 0 < N
-  wide = width-pos N s.pre.0
+  wide = width-pos N s.requires.0
 
   small-total : nat_abs (sum_of block) ≤ 128 * reading_limit
-  small-total = omega (arith, sum-within reading_limit block (all-within reading_limit block s.pre.1.1), few)
+  small-total = omega (arith, sum-within reading_limit block (all-within reading_limit block s.requires.1.1), few)
 
 total : (c : tie.After-sum) → Held w64 (of_z w64 c.sum.result) (sum_of (block c.before))
-total c = held-eq (held-ok w64 _ c.sum.type-inv) c.sum.ensures
+total c = held-eq (held-ok w64 _ c.sum.type_inv) c.sum.ensures
 
 module _ (c : tie.After-cut) where
   abbrev s : tie.Start
   s = c.before.before
 
   quotient : Held w64 (of_z w64 c.cut.result) (cut (sum_of (block s)) (N s))
-  quotient = held-eq (held-ok w64 _ c.cut.type-inv) (c.cut.ensures ∙ ap (λ (t : ℤ). cut t (N s)) (total c.before).is)
+  quotient = held-eq (held-ok w64 _ c.cut.type_inv) (c.cut.ensures ∙ ap (λ (t : ℤ). cut t (N s)) (total c.before).is)
 
   quotient_fits : SFits w64 (pos 0 -ℤ cut (sum_of (block s)) (N s))
   quotient_fits = minus-small w64 (cut (sum_of (block s)) (N s)) (omega (arith, cut-size (N s) (sum_of (block s)), small-total s))
@@ -55,8 +55,8 @@ returns : tie.Need-returns
 unfolding wanted
 returns c = (h-minus (quotient c) (quotient_fits c)).is
 
-pub wanted-spec : {M : Type 1} → statement M
-wanted-spec =
+pub wanted_spec : {M : Type 1} → statement M
+wanted_spec =
     tie.close
     (tie.spec
     (λ c κs. few c)

@@ -14,16 +14,16 @@ module _ (s : tie.Start) where
   low = held w32 _ s.ranges.low
 
   high : Held w32 (of_z w32 s.args.high) s.args.high
-  high = held w32 _ s.fits.high
+  high = held w32 _ s.ranges.high
 
   x : Held w32 (of_z w32 s.args.x) s.args.x
-  x = held w32 _ s.fits.x
+  x = held w32 _ s.ranges.x
 
-returns : tie.Need-returns
-returns c = let s = c.before in not-between _ _ _ (h-lt (x s) (low s) c.if1.true)
+returns : tie.Need-returns-then-x-low
+returns c = let s = c.before in not-between _ _ _ (h-lt (x s) (low s) c.if-x-low.true)
 
-returns-2 : tie.Need-returns-2
-returns-2 c = let s = c.before in ap₂ le_z (x s).is (high s).is ∙ between-low _ _ _ (h-lt (x s) (low s) c.if1.false)
+returns-2 : tie.Need-returns
+returns-2 c = let s = c.before in ap₂ le_z (x s).is (high s).is ∙ between-low _ _ _ (h-lt (x s) (low s) c.if-x-low.false)
 
-pub between-spec : {M : Type 1} → statement M
-between-spec = tie.close (tie.spec returns returns-2)
+pub between_spec : {M : Type 1} → statement M
+between_spec = tie.close (tie.spec returns returns-2)

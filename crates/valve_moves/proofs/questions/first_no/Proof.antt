@@ -7,13 +7,13 @@ use Rattle.valves.specs.Calls.{passes}
 use Rattle.valve_moves.proofs.questions.first_no.Statement.{statement}
 use Rattle.valve_moves.proofs.questions.first_no.Tie as tie
 
-returns : tie.Need-returns
+returns : tie.Need-returns-then-number-ne0
 unfolding passes
-returns c = let n = c.before in rw (ne_eqb (told n.before.args.first).0 0 (λ z. c.if1.true (n.number.ensures ∙ z))) refl
+returns c = let n = c in rw (ne_eqb (told n.args.first).0 0 (λ z. c.if-number-ne0.true (n.number.ensures ∙ z))) refl
 
-returns-2 : tie.Need-returns-2
+returns-2 : tie.Need-returns
 unfolding passes
-returns-2 c = let n = c.before in rw (eq-eqb (told n.before.args.first).0 0 (sym n.number.ensures ∙ c.if1.false)) refl
+returns-2 c = let n = c in rw (eq-eqb (told n.args.first).0 0 (sym n.number.ensures ∙ c.if-number-ne0.false)) refl
 
-pub first-no-spec : {M : Type 1} → statement M
-first-no-spec = tie.close (tie.spec (λ c κs. search rules) returns returns-2)
+pub first_no_spec : {M : Type 1} → statement M
+first_no_spec = tie.close (tie.spec (λ c κs. search rules) returns returns-2)

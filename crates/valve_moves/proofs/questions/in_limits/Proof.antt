@@ -10,19 +10,19 @@ use Rattle.valves.specs.Record.{count_limit, between, in_travel, in_limits}
 use Rattle.valve_moves.proofs.questions.in_limits.Statement.{statement}
 use Rattle.valve_moves.proofs.questions.in_limits.Tie as tie
 
-travelled : (c : tie.After-in-travel) → c.in-travel.result ≡ in_travel c.before.args.position
-travelled c = c.in-travel.ensures ∙ ap in_travel (held w32 _ c.before.ranges.position).is
+travelled : (c : tie.After-in_travel) → c.in_travel.result ≡ in_travel c.args.position
+travelled c = c.in_travel.ensures ∙ ap in_travel (held w32 _ c.ranges.position).is
 
-returns : tie.Need-returns
+returns : tie.Need-returns-then-not-in_travel
 unfolding in_limits
-returns c = let t = c.before in rw (sym (travelled t) ∙ not-true _ c.if1.true) refl
+returns c = let t = c.before in rw (sym (travelled t) ∙ not-true _ c.if-not-in_travel.true) refl
 
-returns-2 : tie.Need-returns-2
+returns-2 : tie.Need-returns
 unfolding in_limits
 returns-2 c =
-    let e = c.before in
-    let s = e.before.before in
-    c.between.ensures ∙ ap (between (pos 0) (pos count_limit)) (held w32 _ s.ranges.count).is ∙ rw (sym (travelled e.before) ∙ not-false _ e.if1.false) refl
+    let e = c in
+    let s = e in
+    c.between.ensures ∙ ap (between (pos 0) (pos count_limit)) (held w32 _ s.ranges.count).is ∙ rw (sym (travelled e.before.before) ∙ not-false _ e.if-not-in_travel.false) refl
 
-pub in-limits-spec : {M : Type 1} → statement M
-in-limits-spec = tie.close (tie.spec (λ c κs. search rules) returns (λ c κs. search rules) returns-2)
+pub in_limits_spec : {M : Type 1} → statement M
+in_limits_spec = tie.close (tie.spec (λ c κs. search rules) returns (λ c κs. search rules) returns-2)

@@ -10,7 +10,7 @@ use Rattle.valve_moves.proofs.questions.in_travel.Tie as tie
 
 returns : tie.Need-returns
 unfolding in_travel
-returns c = c.between.ensures ∙ ap (between (pos 0) (pos travel)) (held w32 _ c.before.ranges.position).is
+returns c = c.between.ensures ∙ ap (between (pos 0) (pos travel)) (held w32 _ c.ranges.position).is
 
-pub in-travel-spec : {M : Type 1} → statement M
-in-travel-spec = tie.close (tie.spec (λ c κs. search rules) returns)
+pub in_travel_spec : {M : Type 1} → statement M
+in_travel_spec = tie.close (tie.spec (λ c κs. search rules) returns)

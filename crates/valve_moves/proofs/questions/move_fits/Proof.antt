@@ -17,34 +17,34 @@ module _ (s : tie.Start) where
   position = held w32 _ s.ranges.position
 
   steps : Held w32 (of_z w32 s.args.steps) s.args.steps
-  steps = held w32 _ s.fits.steps
+  steps = held w32 _ s.ranges.steps
 
-is-between : (c : tie.After-between) → c.between.result ≡ between (neg_ℤ (pos greatest_move)) (pos greatest_move) c.before.args.steps
+is-between : (c : tie.After-between) → c.between.result ≡ between (neg_ℤ (pos greatest_move)) (pos greatest_move) c.args.steps
 is-between c = c.between.ensures ∙ ap (between (neg_ℤ (pos greatest_move)) (pos greatest_move)) (steps c.before).is
 
-module _ (e : tie.Else1) where
+module _ (e : tie.Else-not-between) where
   abbrev s : tie.Start
   s = e.before.before
 
   small : between (neg_ℤ (pos greatest_move)) (pos greatest_move) s.args.steps ≡ true
-  small = sym (is-between e.before) ∙ not-false _ e.if1.left
+  small = sym (is-between e.before) ∙ not-false _ e.if-not-between.false
 
   fits : SFits w32 (s.args.position +ℤ s.args.steps)
-  fits = moved-fits _ _ s.pre small
+  fits = moved-fits _ _ s.requires small
 
-returns : tie.Need-returns
-returns c = rw (sym (is-between c.before) ∙ not-true _ c.if1.true) refl
+returns : tie.Need-returns-then-not-between
+returns c = rw (sym (is-between c.before) ∙ not-true _ c.if-not-between.true) refl
 
-add-in-travel : tie.Need-overflow-add-in-travel
+add-in-travel : tie.Need-overflow_add-position
 add-in-travel c = asks-add (position (s c)) (steps (s c)) (fits c)
 
-returns-2 : tie.Need-returns-2
+returns-2 : tie.Need-returns
 returns-2 c =
     let e = c.before in
-    c.in-travel.ensures ∙ ap in_travel (h-add (position (s e)) (steps (s e)) (fits e)).is ∙ rw (small e) refl
+    c.in_travel.ensures ∙ ap in_travel (h-add (position (s e)) (steps (s e)) (fits e)).is ∙ rw (small e) refl
 
-pub move-fits-spec : {M : Type 1} → statement M
-move-fits-spec =
+pub move_fits_spec : {M : Type 1} → statement M
+move_fits_spec =
     tie.close
     (tie.spec
     (λ c. search rules)

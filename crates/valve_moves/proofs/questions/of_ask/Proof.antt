@@ -29,71 +29,71 @@ module _ (s : tie.Start) where
   valve = valve_of s.args.position s.args.count
 
 -- questions 1 and 6 are passed
-module _ (e : tie.Else2) where
+module _ (e : tie.Else-block-width) where
   abbrev from : tie.Start
   from = e.before.before.before
 
   has_width : half_width (N from) ≡ 0 → ⊥
-  has_width z = e.before.if1.left (e.before.before.half-width.ensures ∙ z)
+  has_width z = e.if-half_width-eq0.false (e.half_width.ensures ∙ z)
 
   block-long : length (block from) ≡ N from
-  block-long = e.if2.left
+  block-long = e.if-block-width.false
 
 -- and 8 and 9
-module _ (n : tie.After-enum-told) where
-  abbrev passing : tie.Else2
-  passing = n.before.before.before
+module _ (n : tie.In-Clear) where
+  abbrev passing : tie.Else-block-width
+  passing = n.before.before
 
   clear : fault_of (block (from passing)) ≡ Clear
-  clear = sym n.before.before.fault-of.ensures ∙ n.enum_told.given.1
+  clear = sym n.fault_of-fault.ensures ∙ n.in-Clear.is
 
 -- 17, of the record by its bits
-limits-are : (c : tie.After-in-limits) → c.in-limits.result ≡ in_limits (valve (from (passing c.before)))
-limits-are c = let s = from (passing c.before) in c.in-limits.ensures ∙ ap₂ (λ (p n : ℤ). in_limits (valve_of p n)) (held w32 _ s.fits.position).is (held w32 _ s.fits.count).is
+limits-are : (c : tie.After-in_limits) → c.in_limits.result ≡ in_limits (valve (from (passing c.before)))
+limits-are c = let s = from (passing c.before) in c.in_limits.ensures ∙ ap₂ (λ (p n : ℤ). in_limits (valve_of p n)) (held w32 _ s.ranges.position).is (held w32 _ s.ranges.count).is
 
-returns : tie.Need-returns
-returns c = let h = c.before in let s = h.before in width-refused (N s) (valve s) (block s) (sym h.half-width.ensures ∙ c.if1.true)
+returns : tie.Need-returns-then-half_width-eq0
+returns c = let h = c in let s = h.before.before in width-refused (N s) (valve s) (block s) (sym h.half_width.ensures ∙ c.if-half_width-eq0.true)
 
-returns-2 : tie.Need-returns-2
+returns-2 : tie.Need-returns-then-block-width
 returns-2 c =
-    let e = c.before in
-    let s = e.before.before in
-    length-refused (N s) (valve s) (block s) (λ z. e.if1.false (e.before.half-width.ensures ∙ z)) c.if2.true
+    let e = c in
+    let s = e.before.before.before in
+    length-refused (N s) (valve s) (block s) (λ z. e.if-half_width-eq0.false (e.half_width.ensures ∙ z)) c.if-block-width.true
 
-fault-of-requires : tie.Need-fault-of-requires
+fault-of-requires : tie.Need-fault_of-fault-requires
 fault-of-requires c κs =
     let s = from c in
     let w : 0 < half_width (N s) = omega (arith, has_width c) in
     (omega (arith, block-long c, width-le (N s) w), omega (arith, block-long c, width-in-fours (N s) w))
 
-returns-3 : tie.Need-returns-3
+returns-3 : tie.Need-returns-then-in_limits
 returns-3 c =
     let l = c.before in
     let e = passing l.before in
     let s = from e in
-    ask-passed (N s) (valve s) (block s) (has_width e) (block-long e) (clear l.before) (sym (limits-are l) ∙ c.if3.true)
+    ask-passed (N s) (valve s) (block s) (has_width e) (block-long e) (clear l.before) (sym (limits-are l) ∙ c.if-in_limits.true)
 
-returns-4 : tie.Need-returns-4
+returns-4 : tie.Need-returns-in-Dead
 returns-4 c =
-    let f = c.before.before.before in
-    let s = from f.before in
-    dead-refused (N s) (valve s) (block s) (has_width f.before) (block-long f.before) _ (sym f.fault-of.ensures ∙ c.before.fault.given.1)
+    let f = c in
+    let s = from f.before.before in
+    dead-refused (N s) (valve s) (block s) (has_width f.before.before) (block-long f.before.before) _ (sym f.fault_of-fault.ensures ∙ c.in-Dead.is)
 
-returns-5 : tie.Need-returns-5
+returns-5 : tie.Need-returns-in-Beyond
 returns-5 c =
-    let f = c.before.before.before in
-    let s = from f.before in
-    range-refused (N s) (valve s) (block s) (has_width f.before) (block-long f.before) _ (sym f.fault-of.ensures ∙ c.before.fault2.given.1)
+    let f = c in
+    let s = from f.before.before in
+    range-refused (N s) (valve s) (block s) (has_width f.before.before) (block-long f.before.before) _ (sym f.fault_of-fault.ensures ∙ c.in-Beyond.is)
 
-returns-6 : tie.Need-returns-6
+returns-6 : tie.Need-returns-else-in_limits
 returns-6 c =
     let l = c.before in
     let e = passing l.before in
     let s = from e in
-    limits-refused (N s) (valve s) (block s) (has_width e) (block-long e) (clear l.before) (sym (limits-are l) ∙ c.if3.false)
+    limits-refused (N s) (valve s) (block s) (has_width e) (block-long e) (clear l.before) (sym (limits-are l) ∙ c.if-in_limits.false)
 
-pub of-ask-spec : {M : Type 1} → statement M
-of-ask-spec =
+pub of_ask_spec : {M : Type 1} → statement M
+of_ask_spec =
     tie.close
     (tie.spec
     (λ c κs. search rules)

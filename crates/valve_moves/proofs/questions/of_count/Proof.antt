@@ -16,13 +16,13 @@ most = held w32 (pos count_limit) (search rules)
 count : (s : tie.Start) → Held w32 (of_z w32 s.args.count) s.args.count
 count s = held w32 _ s.ranges.count
 
-returns : tie.Need-returns
+returns : tie.Need-returns-then-count-lt-COUNT_LIMIT
 unfolding ask
-returns c = rw (h-lt (count c.before) most c.if1.true) refl
+returns c = rw (h-lt (count c.before) most c.if-count-lt-COUNT_LIMIT.true) refl
 
-returns-2 : tie.Need-returns-2
+returns-2 : tie.Need-returns
 unfolding ask
-returns-2 c = rw (h-lt (count c.before) most c.if1.false) refl
+returns-2 c = rw (h-lt (count c.before) most c.if-count-lt-COUNT_LIMIT.false) refl
 
-pub of-count-spec : {M : Type 1} → statement M
-of-count-spec = tie.close (tie.spec returns returns-2)
+pub of_count_spec : {M : Type 1} → statement M
+of_count_spec = tie.close (tie.spec returns returns-2)

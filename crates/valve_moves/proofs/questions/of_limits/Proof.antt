@@ -19,40 +19,40 @@ module _ (s : tie.Start) where
   position = held w32 _ s.ranges.position
 
   count : Held w32 (of_z w32 s.args.count) s.args.count
-  count = held w32 _ s.fits.count
+  count = held w32 _ s.ranges.count
 
   steps : Held w32 (of_z w32 s.args.steps) s.args.steps
-  steps = held w32 _ s.fits.steps
+  steps = held w32 _ s.ranges.steps
 
   abbrev valve : Valve
   valve = valve_of s.args.position s.args.count
 
-limits-are : (c : tie.After-in-limits) → c.in-limits.result ≡ in_limits (valve c.before)
-limits-are c = let s = c.before in c.in-limits.ensures ∙ ap₂ (λ (p n : ℤ). in_limits (valve_of p n)) (position s).is (count s).is
+limits-are : (c : tie.After-in_limits) → c.in_limits.result ≡ in_limits (valve c.before)
+limits-are c = let s = c.before in c.in_limits.ensures ∙ ap₂ (λ (p n : ℤ). in_limits (valve_of p n)) (position s).is (count s).is
 
-fits-are : (c : tie.After-move-fits) → let s = c.before.before.before in c.move-fits.result ≡ move_fits s.args.position s.args.steps
-fits-are c = let s = c.before.before.before in c.move-fits.ensures ∙ ap₂ move_fits (position s).is (steps s).is
+fits-are : (c : tie.After-move_fits) → let s = c.before.before.before in c.move_fits.result ≡ move_fits s.args.position s.args.steps
+fits-are c = let s = c.before.before.before in c.move_fits.ensures ∙ ap₂ move_fits (position s).is (steps s).is
 
-in-limits : (e : tie.Else1) → in_limits (valve e.before.before) ≡ true
-in-limits e = sym (limits-are e.before) ∙ not-false _ e.if1.false
+in-limits : (e : tie.Else-not-in_limits) → in_limits (valve e.before.before) ≡ true
+in-limits e = sym (limits-are e.before) ∙ not-false _ e.if-not-in_limits.false
 
-returns : tie.Need-returns
+returns : tie.Need-returns-then-not-in_limits
 unfolding ask move_allowed
-returns c = rw (sym (limits-are c.before) ∙ not-true _ c.if1.true) refl
+returns c = rw (sym (limits-are c.before) ∙ not-true _ c.if-not-in_limits.true) refl
 
-move-fits-requires : tie.Need-move-fits-requires
+move-fits-requires : tie.Need-move_fits-requires
 move-fits-requires c κs = let s = c.before.before in rw (position s).is (limits-travel (valve s) (in-limits c))
 
-returns-2 : tie.Need-returns-2
+returns-2 : tie.Need-returns-then-not-move_fits
 unfolding ask move_allowed
-returns-2 c = let f = c.before in rw (in-limits f.before, sym (fits-are f) ∙ not-true _ c.if2.true) refl
+returns-2 c = let f = c.before in rw (in-limits f.before, sym (fits-are f) ∙ not-true _ c.if-not-move_fits.true) refl
 
-returns-3 : tie.Need-returns-3
+returns-3 : tie.Need-returns
 unfolding ask move_allowed
-returns-3 c = let f = c.before in rw (in-limits f.before, sym (fits-are f) ∙ not-false _ c.if2.false) refl
+returns-3 c = let f = c.before in rw (in-limits f.before, sym (fits-are f) ∙ not-false _ c.if-not-move_fits.false) refl
 
-pub of-limits-spec : {M : Type 1} → statement M
-of-limits-spec =
+pub of_limits_spec : {M : Type 1} → statement M
+of_limits_spec =
     tie.close
     (tie.spec
     (λ c κs. search rules)

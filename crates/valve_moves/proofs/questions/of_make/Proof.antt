@@ -21,34 +21,34 @@ module _ (s : tie.Start) where
   position = held w32 _ s.ranges.position
 
   count : Held w32 (of_z w32 s.args.count) s.args.count
-  count = held w32 _ s.fits.count
+  count = held w32 _ s.ranges.count
 
   steps : Held w32 (of_z w32 s.args.steps) s.args.steps
-  steps = held w32 _ s.fits.steps
+  steps = held w32 _ s.ranges.steps
 
   stamp : Held w32 (of_z w32 s.args.stamp) s.args.stamp
-  stamp = held w32 _ s.fits.stamp
+  stamp = held w32 _ s.ranges.stamp
 
 -- 17, of the numbers whose bits are lent
-limits-are : (c : tie.After-of-limits) → let s = c.before in c.of-limits.result ≡ ask Limits (move_allowed (valve_of s.args.position s.args.count) s.args.steps) Done
-limits-are c = let s = c.before in rw ((position s).is, (count s).is, (steps s).is) at c.of-limits.ensures
+limits-are : (c : tie.After-of_limits-limits) → let s = c.before in c.of_limits-limits.result ≡ ask Limits (move_allowed (valve_of s.args.position s.args.count) s.args.steps) Done
+limits-are c = let s = c.before in rw ((position s).is, (count s).is, (steps s).is) at c.of_limits-limits.ensures
 
 returns : tie.Need-returns
 returns c =
-    let f = c.before in
-    let t = f.before in
-    let m = t.before in
-    let l = m.before in
+    let f = c in
+    let t = f in
+    let m = t in
+    let l = m.before.before.before.before in
     let s = l.before in
-    c.first-no2.ensures
-    ∙ ap (λ (a : Answer). cond (passes l.of-limits.result) a l.of-limits.result) f.first-no.ensures
+    c.first_no-2.ensures
+    ∙ ap (λ (a : Answer). cond (passes l.of_limits-limits.result) a l.of_limits-limits.result) f.first_no.ensures
     ∙ make-asked (valve_of s.args.position s.args.count) (ticket_of s.args.steps s.args.stamp) _ _ _
     (limits-are l)
-    (m.of-count.ensures ∙ ap (λ (n : ℤ). ask AllMade (lt_z n (pos count_limit)) Done) (count s).is)
-    (t.of-stamp.ensures ∙ ap₂ (λ (n k : ℤ). ask OtherCount (alike n k) Done) (count s).is (stamp s).is)
+    (m.of_count-more.ensures ∙ ap (λ (n : ℤ). ask AllMade (lt_z n (pos count_limit)) Done) (count s).is)
+    (t.of_stamp-same.ensures ∙ ap₂ (λ (n k : ℤ). ask OtherCount (alike n k) Done) (count s).is (stamp s).is)
 
-pub of-make-spec : {M : Type 1} → statement M
-of-make-spec =
+pub of_make_spec : {M : Type 1} → statement M
+of_make_spec =
     tie.close
     (tie.spec
     (λ c κs. search rules)

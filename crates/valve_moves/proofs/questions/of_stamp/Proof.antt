@@ -16,20 +16,20 @@ module _ (s : tie.Start) where
   count = held w32 _ s.ranges.count
 
   stamp : Held w32 (of_z w32 s.args.stamp) s.args.stamp
-  stamp = held w32 _ s.fits.stamp
+  stamp = held w32 _ s.ranges.stamp
 
-same : (c : tie.Then1) → alike c.before.args.count c.before.args.stamp ≡ true
+same : (c : tie.Then-count-stamp) → alike c.args.count c.args.stamp ≡ true
 same c =
     let s = c.before in
-    subst (λ (n : ℤ). alike s.args.count n ≡ true) (same_bits (count s) (stamp s) c.if1.true) (alike_refl s.args.count)
+    subst (λ (n : ℤ). alike s.args.count n ≡ true) (same_bits (count s) (stamp s) c.if-count-stamp.true) (alike_refl s.args.count)
 
-returns : tie.Need-returns
+returns : tie.Need-returns-then-count-stamp
 unfolding ask
 returns c = rw (same c) refl
 
-returns-2 : tie.Need-returns-2
+returns-2 : tie.Need-returns
 unfolding ask
-returns-2 c = rw (alike-other _ _ (λ z. c.if1.false (ap (of_z w32) z))) refl
+returns-2 c = rw (alike-other _ _ (λ z. c.if-count-stamp.false (ap (of_z w32) z))) refl
 
-pub of-stamp-spec : {M : Type 1} → statement M
-of-stamp-spec = tie.close (tie.spec returns returns-2)
+pub of_stamp_spec : {M : Type 1} → statement M
+of_stamp_spec = tie.close (tie.spec returns returns-2)

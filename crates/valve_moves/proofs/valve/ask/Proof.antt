@@ -31,50 +31,50 @@ module _ (s : tie.Start) where
   block = s.args.block.now
 
 -- the record's numbers are lent by their bits
-module _ (a : tie.After-of-ask) where
+module _ (a : tie.After-of_ask-asked) where
   abbrev from : tie.Start
   from = a.before.before.before
 
   position : Held w32 (of_z w32 (valve from).position) (valve from).position
-  position = held-ok w32 _ a.before.struct-told2.given.0.1
+  position = held-ok w32 _ a.struct_told-2-1.given.0.1
 
   count : Held w32 (of_z w32 (valve from).count) (valve from).count
-  count = held-ok w32 _ a.before.struct-told2.given.1.0.1
+  count = held-ok w32 _ a.struct_told-2-1.given.1.0.1
 
-  answered : a.of-ask.result ≡ ask_answer (N from) (valve from) (block from)
-  answered = a.of-ask.ensures ∙ ap₂ (λ (p n : ℤ). ask_answer (N from) (valve_of p n) (block from)) position.is count.is
+  answered : a.of_ask-asked.result ≡ ask_answer (N from) (valve from) (block from)
+  answered = a.of_ask-asked.ensures ∙ ap₂ (λ (p n : ℤ). ask_answer (N from) (valve_of p n) (block from)) position.is count.is
 
 -- the questions are passed
-module _ (e : tie.Else1) where
-  abbrev did : tie.After-of-ask
+module _ (e : tie.Else-number-ne0) where
+  abbrev did : tie.After-of_ask-asked
   did = e.before.before
 
-  none : (told did.of-ask.result).0 ≡ 0
-  none = sym e.before.number.ensures ∙ e.if1.left
+  none : (told did.of_ask-asked.result).0 ≡ 0
+  none = sym e.number.ensures ∙ e.if-number-ne0.false
 
   ready : AskPassed (N (from did)) (valve (from did)) (block (from did))
   ready = ask-ready _ _ _ _ (answered did) none
 
-returns : tie.Need-returns
-returns c = let n = c.before in ask-refused _ _ _ _ (answered n.before) (λ z. c.if1.true (n.number.ensures ∙ z))
+returns : tie.Need-returns-then-number-ne0
+returns c = let n = c in ask-refused _ _ _ _ (answered n.before.before) (λ z. c.if-number-ne0.true (n.number.ensures ∙ z))
 
-asked-requires : tie.Need-asked-requires
+asked-requires : tie.Need-asked-steps-requires
 asked-requires c κs =
     let p = ready c in
     let is = (position (did c)).is in
     (p.wide, (p.long, (none_within reading_limit _ p.none_out, (rw is p.limits.from-0, rw is p.limits.to-travel))))
 
-returns-2 : tie.Need-returns-2
+returns-2 : tie.Need-returns
 unfolding move
 returns-2 c =
-    let m = c.before in
-    let e = m.before in
+    let m = c in
+    let e = m.before.before in
     let s = from (did e) in
-    let steps = (held-ok w32 _ m.asked.type-inv).is ∙ m.asked.ensures ∙ ap (λ (p : ℤ). held_move p (wanted (N s) (block s))) (position (did e)).is in
-    ap Given (c.ticket-of.ensures ∙ ap₂ ticket_of steps (count (did e)).is) ∙ ask-given _ _ _ _ (answered (did e)) (none e)
+    let steps = (held-ok w32 _ m.asked-steps.type_inv).is ∙ m.asked-steps.ensures ∙ ap (λ (p : ℤ). held_move p (wanted (N s) (block s))) (position (did e)).is in
+    ap Given (c.ticket_of-ticket.ensures ∙ ap₂ ticket_of steps (count (did e)).is) ∙ ask-given _ _ _ _ (answered (did e)) (none e)
 
-pub ask-spec : {M : Type 1} → statement M
-ask-spec =
+pub ask_spec : {M : Type 1} → statement M
+ask_spec =
     tie.close
     (tie.spec
     (λ c κs. search rules)

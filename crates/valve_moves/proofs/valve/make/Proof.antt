@@ -25,35 +25,35 @@ module _ (s : tie.Start) where
   ticket = s.args.ticket
 
 -- the numbers of record and ticket are lent by their bits
-module _ (a : tie.After-of-make) where
-  abbrev read : tie.After-struct-told2
+module _ (a : tie.After-of_make-asked) where
+  abbrev read : tie.After-struct_told-2-1
   read = a.before.before.before
 
   abbrev from : tie.Start
   from = read.before.before
 
   position : Held w32 (of_z w32 (valve from).position) (valve from).position
-  position = held-ok w32 _ read.struct-told2.given.0.1
+  position = held-ok w32 _ read.struct_told-2-1.given.0.1
 
   count : Held w32 (of_z w32 (valve from).count) (valve from).count
-  count = held-ok w32 _ read.struct-told2.given.1.0.1
+  count = held-ok w32 _ read.struct_told-2-1.given.1.0.1
 
   steps : Held w32 (of_z w32 (ticket from).steps) (ticket from).steps
-  steps = held-ok w32 _ a.before.struct-told4.given.0.1
+  steps = held-ok w32 _ a.struct_told-4-1.given.0.1
 
   stamp : Held w32 (of_z w32 (ticket from).count) (ticket from).count
-  stamp = held-ok w32 _ a.before.struct-told4.given.1.0.1
+  stamp = held-ok w32 _ a.struct_told-4-1.given.1.0.1
 
-  answered : a.of-make.result ≡ make_answer (valve from) (ticket from)
-  answered = a.of-make.ensures ∙ ap₂ make_answer (ap₂ valve_of position.is count.is) (ap₂ ticket_of steps.is stamp.is)
+  answered : a.of_make-asked.result ≡ make_answer (valve from) (ticket from)
+  answered = a.of_make-asked.ensures ∙ ap₂ make_answer (ap₂ valve_of position.is count.is) (ap₂ ticket_of steps.is stamp.is)
 
 -- the questions are passed
-module _ (e : tie.Else1) where
-  abbrev did : tie.After-of-make
+module _ (e : tie.Else-number-ne0) where
+  abbrev did : tie.After-of_make-asked
   did = e.before.before
 
-  none : (told did.of-make.result).0 ≡ 0
-  none = sym e.before.number.ensures ∙ e.if1.left
+  none : (told did.of_make-asked.result).0 ≡ 0
+  none = sym e.number.ensures ∙ e.if-number-ne0.false
 
   ready : MakePassed (valve (from did)) (ticket (from did))
   ready = make-ready _ _ _ (answered did) none
@@ -67,15 +67,15 @@ module _ (e : tie.Else1) where
 one : Held w32 1 (pos 1)
 one = held w32 (pos 1) (search rules)
 
-returns : tie.Need-returns
-returns c = let n = c.before in make-refused _ _ _ (answered n.before) (λ z. c.if1.true (n.number.ensures ∙ z))
+returns : tie.Need-returns-then-number-ne0
+returns c = let n = c in make-refused _ _ _ (answered n.before.before) (λ z. c.if-number-ne0.true (n.number.ensures ∙ z))
 
-returns-2 : tie.Need-returns-2
+returns-2 : tie.Need-returns
 unfolding moved
 returns-2 c =
     let e = c.before in
     let a = did e in
-    let after = c.valve-of.ensures ∙ ap₂ valve_of (h-add (position a) (steps a) (next e)).is (h-add (count a) one (more e)).is in
+    let after = c.valve_of-moved.ensures ∙ ap₂ valve_of (h-add (position a) (steps a) (next e)).is (h-add (count a) one (more e)).is in
     ap₂ made_of after (done-told _ (none e)) ∙ make-done _ _ _ (answered a) (none e)
 
 pub make_spec : {M : Type 1} → statement M

@@ -30,69 +30,69 @@ module _ (s : tie.Start) where
   out = s.args.readings.now
 
 -- the frames are whole, at least one and not too many
-module _ (e : tie.Else1) where
-  abbrev asked : tie.After-in-parts
+module _ (e : tie.Else-number-ne0) where
+  abbrev asked : tie.After-in_parts-asked
   asked = e.before.before
 
   abbrev start : tie.Start
   start = asked.before
 
-  none : (told asked.in_parts.result).0 ≡ 0
-  none = sym e.before.number.ensures ∙ e.if1.left
+  none : (told asked.in_parts-asked.result).0 ≡ 0
+  none = sym e.number.ensures ∙ e.if-number-ne0.false
 
   has_width : half_width (N start) ≡ 0 → ⊥
-  has_width = parts-width (N start) (length (frames start)) _ _ _ asked.in_parts.ensures none
+  has_width = parts-width (N start) (length (frames start)) _ _ _ asked.in_parts-asked.ensures none
 
   remainder : length (frames start) % N start ≡ 0
-  remainder = parts_whole (N start) (length (frames start)) _ _ _ asked.in_parts.ensures none
+  remainder = parts_whole (N start) (length (frames start)) _ _ _ asked.in_parts-asked.ensures none
 
   whole : WholeFrames (N start) (frames start)
   whole = record {
     wide = omega (arith, has_width);
     whole = whole-blocks (N start) (frames start) remainder;
-    some = parts-least (N start) (length (frames start)) _ _ _ asked.in_parts.ensures none;
-    few = parts-most (N start) (length (frames start)) _ _ _ asked.in_parts.ensures none;
+    some = parts-least (N start) (length (frames start)) _ _ _ asked.in_parts-asked.ensures none;
+    few = parts-most (N start) (length (frames start)) _ _ _ asked.in_parts-asked.ensures none;
   }
 
   some : 0 < length (frames start)
   some = omega (arith, one-frame (N start) (frames start) whole, width-pos (N start) whole.wide)
 
 -- the lengths are right
-module _ (l : tie.Else2) where
+module _ (l : tie.Else-frames-width) where
   abbrev from : tie.Start
   from = start l.before
 
   one_less : length (out from) + N from ≡ length (frames from)
-  one_less = omega (arith, l.if2.left, one-frame (N from) (frames from) (whole l.before))
+  one_less = omega (arith, l.if-frames-width.false, one-frame (N from) (frames from) (whole l.before))
 
-returns : tie.Need-returns
+returns : tie.Need-returns-then-number-ne0
 returns c =
-    let n = c.before in
-    let a = n.before in
-    let s = a.before in
-    parts-refused (N s) (frames s) (out s) _ a.in_parts.ensures (λ z. c.if1.true (n.number.ensures ∙ z))
+    let n = c in
+    let a = n in
+    let s = a.before.before.before in
+    parts-refused (N s) (frames s) (out s) _ a.in_parts-asked.ensures (λ z. c.if-number-ne0.true (n.number.ensures ∙ z))
 
-sub-if2 : tie.Need-overflow-sub-if2
+sub-if2 : tie.Need-overflow_sub-frames
 sub-if2 c = let s = start c in one-frame (N s) (frames s) (whole c)
 
-returns-2 : tie.Need-returns-2
+returns-2 : tie.Need-returns-then-frames-width
 returns-2 c =
     let l = c.before in
     let s = start l in
-    whole-output-refused (N s) (frames s) (out s) (has_width l) (remainder l) (whole l).few (some l) (λ e. c.if2.true (omega (arith, e)))
+    whole-output-refused (N s) (frames s) (out s) (has_width l) (remainder l) (whole l).few (some l) (λ e. c.if-frames-width.true (omega (arith, e)))
 
-in-two-passes-requires : tie.Need-in-two-passes-requires
+in-two-passes-requires : tie.Need-in_two_passes-requires
 in-two-passes-requires c κs = let l = c.before in (whole l.before, one_less l)
 
-returns-3 : tie.Need-returns-3
+returns-3 : tie.Need-returns
 returns-3 c =
     let l = c.before.before.before in
     let g = l.before in
     let s = from l in
-    c.before.in-two-passes.ensures ∙ lengths-passed (N s) (frames s) (out s) (has_width g) (remainder g) (whole g).few (some g) (one_less l)
+    c.in_two_passes.ensures ∙ lengths-passed (N s) (frames s) (out s) (has_width g) (remainder g) (whole g).few (some g) (one_less l)
 
-pub back-spec : {M : Type 1} → statement M
-back-spec =
+pub back_spec : {M : Type 1} → statement M
+back_spec =
     tie.close
     (tie.spec
     (λ c κs. tt)

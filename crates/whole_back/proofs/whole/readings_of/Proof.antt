@@ -34,7 +34,7 @@ module _ (s : tie.Start) where
   half = s.args.width / 2
 
   half-wide : half ≡ half_width N
-  half-wide = half_is N s.pre.1.0.wide
+  half-wide = half_is N s.requires.1.0.wide
 
   abbrev frames : List ℤ
   frames = s.args.frames.now
@@ -43,59 +43,59 @@ module _ (s : tie.Start) where
   out = s.args.readings.now
 
   long : N ≤ length frames
-  long = one-frame N frames s.pre.1.0
+  long = one-frame N frames s.requires.1.0
 
   rest : take (length frames - N) (drop N frames) ≡ drop N frames
   rest = rest_part (length frames) N N frames refl refl
 
   taken : (taken_back (started N).1 (take N frames) (zeros N)).0.0 ≡ 0
-  taken = first-yes N _ frames out (one-block-less N frames out s.pre.1.0 s.pre.1.1.0) s.pre.1.1.1
+  taken = first-yes N _ frames out (one-block-less N frames out s.requires.1.0 s.requires.1.1.0) s.requires.1.1.1
 
 -- the arrays made
-module _ (m : tie.After-of-6482) where
-  abbrev held-made : tie.After-nothing-held
+module _ (m : tie.After-of_648-z) where
+  abbrev held-made : tie.After-nothing_held-held
   held-made = m.before.before.before.before
 
   abbrev from : tie.Start
   from = held-made.before
 
   abbrev held : List ℤ
-  held = held-made.nothing-held.result
+  held = held-made.nothing_held-held.result
 
   abbrev top : List ℤ
-  top = m.before.before.before.of-64.result
+  top = m.of_64-top.result
 
   abbrev bottom : List ℤ
-  bottom = m.before.before.of-642.result
+  bottom = m.of_64-bottom.result
 
   held_in : half from ≤ length held
-  held_in = half_room (N from) (half from) held (half-wide from) (ap length held-made.nothing-held.ensures ∙ length-replicate 64 (pos 0))
+  held_in = half_room (N from) (half from) held (half-wide from) (ap length held-made.nothing_held-held.ensures ∙ length-replicate 64 (pos 0))
 
   fits : Wide (N from) 1906 64 648
-  fits = large-room (N from) from.pre.1.0.wide
+  fits = large-room (N from) from.requires.1.0.wide
 
-  given : Lent 64 648 top bottom m.before.of-648.result m.of-6482.result
-  given = record { top-long = m.before.before.before.of-64.ensures; bottom-long = m.before.before.of-642.ensures; y-long = m.before.of-648.ensures; z-long = m.of-6482.ensures }
+  given : Lent 64 648 top bottom m.of_648-y.result m.of_648-z.result
+  given = record { top-long = m.of_64-top.ensures; bottom-long = m.of_64-bottom.ensures; y-long = m.of_648-y.ensures; z-long = m.of_648-z.ensures }
 
 -- behind the first frame
-module _ (c : tie.After-z2) where
-  abbrev step : tie.After-first-frame
+module _ (c : tie.After-z-2-1) where
+  abbrev step : tie.After-first_frame
   step = c.before.before.before.before.before
 
-  abbrev made : tie.After-of-6482
-  made = step.before.before.before.before.before.before.before
+  abbrev made : tie.After-of_648-z
+  made = step.before.before.before.before.before.before
 
   abbrev start : tie.Start
   start = from made
 
   abbrev kept : List ℤ
-  kept = step.first_frame.last.1.1.1.0
+  kept = step.first_frame.new.held
 
   abbrev top_left : List ℤ
-  top_left = step.first_frame.last.1.1.1.1.0
+  top_left = step.first_frame.new.top
 
   abbrev bottom-left : List ℤ
-  bottom-left = step.first_frame.last.1.1.1.1.1.0
+  bottom-left = step.first_frame.new.bottom
 
   abbrev top-after : List ℤ
   top-after = top_left ++ drop (half start) (top made)
@@ -104,15 +104,15 @@ module _ (c : tie.After-z2) where
   bottom-after = bottom-left ++ drop (half start) (bottom made)
 
   held-long : length kept ≡ half start
-  held-long = let at-held2 = c.before.before.before.before in at-held2.held2.given ∙ sym (part-long _ (held made) (held_in made))
+  held-long = let at-held2 = c in at-held2.held-2-1.given ∙ sym (part-long _ (held made) (held_in made))
 
   -- the room is as long as it was
-  left : Lent 64 648 top-after bottom-after step.first_frame.last.1.1.1.1.1.1.0 step.first_frame.last.1.1.1.1.1.1.1.0
+  left : Lent 64 648 top-after bottom-after step.first_frame.new.y step.first_frame.new.z
   left = record {
-    top-long = (given made).top-long ∙ sym (front_same (half start) (top made) top_left (top-le (fits made) (given made)) c.before.before.before.top2.given);
-    bottom-long = (given made).bottom-long ∙ sym (front_same (half start) (bottom made) bottom-left (bottom-le (fits made) (given made)) c.before.before.bottom2.given);
-    y-long = sym c.before.y2.given;
-    z-long = sym c.z2.given;
+    top-long = (given made).top-long ∙ sym (front_same (half start) (top made) top_left (top-le (fits made) (given made)) c.top-2-1.given);
+    bottom-long = (given made).bottom-long ∙ sym (front_same (half start) (bottom made) bottom-left (bottom-le (fits made) (given made)) c.bottom-2-1.given);
+    y-long = sym c.y-2-1.given;
+    z-long = sym c.z-2-1.given;
   }
 
   stored : take (half start) (kept ++ drop (half start) (held made)) ≡ kept
@@ -121,37 +121,37 @@ module _ (c : tie.After-z2) where
   after : opened (N start) 1 (pos 0) kept ≡ (taken_back (started (N start)).1 (take (N start) (frames start)) (zeros (N start))).1
   after = (step.first_frame.ensures (taken start)).0
 
-first-frame-requires : tie.Need-first-frame-requires
+first-frame-requires : tie.Need-first_frame-requires
 first-frame-requires c κs =
-    let m = c.before.before.before.before.before.before in
+    let m = c.before.before.before.before.before in
     let s = from m in (
-      s.pre.1.0.wide,
+      s.requires.1.0.wide,
       (
-        s.pre.0,
-        ((sym (part-long _ (frames s) (long s)), none-held (N s) (half s) (held m) (half-wide s) (held-made m).nothing-held.ensures), lent-wide (fits m) (given m)),
+        s.requires.0,
+        ((sym (part-long _ (frames s) (long s)), none-held (N s) (half s) (held m) (half-wide s) (held-made m).nothing_held-held.ensures), lent-wide (fits m) (given m)),
       ),
     )
 
 -- what is lent to the second step
-module _ (c : tie.After-z3) where
-  abbrev behind-first : tie.After-z2
+module _ (c : tie.After-z-3-1) where
+  abbrev behind-first : tie.After-z-2-1
   behind-first = c.before.before.before.before.before.before.before
 
-blocks-before-requires : tie.Need-blocks-before-requires
+blocks-before-requires : tie.Need-blocks_before-requires
 blocks-before-requires c κs =
     let a = behind-first c in
     let s = start a in (
-      s.pre.0,
+      s.requires.0,
       (
-        subst (WholeBlocks (N s)) (sym (rest s)) (rest-blocks (N s) (frames s) (out s) s.pre.1.0 s.pre.1.1.0),
+        subst (WholeBlocks (N s)) (sym (rest s)) (rest-blocks (N s) (frames s) (out s) s.requires.1.0 s.requires.1.1.0),
         (
-          (ap length (stored a) ∙ held-long a ∙ half-wide s, omega (arith, ap length (rest s), length-drop (N s) (frames s), s.pre.1.1.0)),
+          (ap length (stored a) ∙ held-long a ∙ half-wide s, omega (arith, ap length (rest s), length-drop (N s) (frames s), s.requires.1.1.0)),
           (
             lent-wide (fits (made a)) (left a),
             (
               subst (Within folded_limit) (sym (stored a)) ((step a).first_frame.ensures (taken s)).1,
               subst₂ (λ (k l : List ℤ). (answer_from (N s) (N s) (opened (N s) 1 (pos 0) k) (length l / N s) l (out s)).0 ≡ 0) (sym (stored a)) (sym (rest s))
-                  (ap (λ (x : ℕ × ℕ). x.0) (answer-left (N s) (frames s) (out s) s.pre.1.0 s.pre.1.1.0 (opened (N s) 1 (pos 0) (kept a)) (after a) (taken s)) ∙ s.pre.1.1.1),
+                  (ap (λ (x : ℕ × ℕ). x.0) (answer-left (N s) (frames s) (out s) s.requires.1.0 s.requires.1.1.0 (opened (N s) 1 (pos 0) (kept a)) (after a) (taken s)) ∙ s.requires.1.1.1),
             ),
           ),
         ),
@@ -160,15 +160,15 @@ blocks-before-requires c κs =
 
 returns : tie.Need-returns
 returns c =
-    let b = c.before.before.before.before.before.before in
-    let a = behind-first b.before in
+    let b = c in
+    let a = behind-first b.before.before.before.before.before.before.before in
     let s = start a in
-    b.blocks-before.ensures
+    b.blocks_before.ensures
     ∙ ap₂ (λ (k l : List ℤ). outputs_from (N s) (opened (N s) 1 (pos 0) k) (length l / N s) l (out s)) (stored a) (rest s)
-    ∙ outputs-left (N s) (frames s) (out s) s.pre.1.0 s.pre.1.1.0 (opened (N s) 1 (pos 0) (kept a)) (after a)
+    ∙ outputs-left (N s) (frames s) (out s) s.requires.1.0 s.requires.1.1.0 (opened (N s) 1 (pos 0) (kept a)) (after a)
 
-pub readings-of-spec : {M : Type 1} → statement M
-readings-of-spec =
+pub readings_of_spec : {M : Type 1} → statement M
+readings_of_spec =
     tie.close
     (tie.spec
     (λ c κs. tt)
@@ -176,13 +176,13 @@ readings-of-spec =
     (λ c κs. tt)
     (λ c κs. tt)
     (λ c κs. tt)
-    (λ c. let s = from c.before in part-long _ (frames s) (long s))
-    (λ c. held_in c.before)
-    (λ c. let m = c.before.before in part-long _ (held m) (held_in m))
-    (λ c. let m = c.before.before in top-le (fits m) (given m))
-    (λ c. let m = c.before.before.before in part-long _ (top m) (top-le (fits m) (given m)))
-    (λ c. let m = c.before.before.before in bottom-le (fits m) (given m))
-    (λ c. let m = c.before.before.before.before in part-long _ (bottom m) (bottom-le (fits m) (given m)))
+    (λ c. let s = from c in part-long _ (frames s) (long s))
+    (λ c. held_in c)
+    (λ c. let m = c.before in part-long _ (held m) (held_in m))
+    (λ c. let m = c.before in top-le (fits m) (given m))
+    (λ c. let m = c.before.before in part-long _ (top m) (top-le (fits m) (given m)))
+    (λ c. let m = c.before.before in bottom-le (fits m) (given m))
+    (λ c. let m = c.before.before.before in part-long _ (bottom m) (bottom-le (fits m) (given m)))
     (λ c. search rules)
     (λ c. search rules)
     first-frame-requires
@@ -199,5 +199,5 @@ readings-of-spec =
     (λ c. search rules)
     (λ c. search rules)
     blocks-before-requires
-    (λ c. let at-readings = c.before.before.before.before in at-readings.readings.given)
+    (λ c. let at-readings = c in at-readings.readings-1.given)
     returns)

@@ -32,107 +32,107 @@ module _ (s : tie.Start) where
   out = s.args.frames.now
 
 -- the readings are whole blocks, and not too many
-module _ (e : tie.Else1) where
-  abbrev asked : tie.After-in-parts
+module _ (e : tie.Else-number-ne0) where
+  abbrev asked : tie.After-in_parts-asked
   asked = e.before.before
 
   abbrev start : tie.Start
   start = asked.before
 
-  none : (told asked.in_parts.result).0 ≡ 0
-  none = sym e.before.number.ensures ∙ e.if1.left
+  none : (told asked.in_parts-asked.result).0 ≡ 0
+  none = sym e.number.ensures ∙ e.if-number-ne0.false
 
   has_width : half_width (N start) ≡ 0 → ⊥
-  has_width = parts-width (N start) (length (readings start)) _ _ _ asked.in_parts.ensures none
+  has_width = parts-width (N start) (length (readings start)) _ _ _ asked.in_parts-asked.ensures none
 
   wide : 0 < half_width (N start)
   wide = omega (arith, has_width)
 
   whole : length (readings start) % N start ≡ 0
-  whole = parts_whole (N start) (length (readings start)) _ _ _ asked.in_parts.ensures none
+  whole = parts_whole (N start) (length (readings start)) _ _ _ asked.in_parts-asked.ensures none
 
   few : length (readings start) / N start ≤ block_limit
-  few = parts-most (N start) (length (readings start)) _ _ _ asked.in_parts.ensures none
+  few = parts-most (N start) (length (readings start)) _ _ _ asked.in_parts-asked.ensures none
 
   blocks : WholeBlocks (N start) (readings start)
   blocks = record { wide = wide; whole = whole-blocks (N start) (readings start) whole; some = few }
 
 -- the lengths are right
-module _ (f : tie.After-first-fault) where
-  abbrev third : tie.Else1
+module _ (f : tie.After-first_fault-fault) where
+  abbrev third : tie.Else-number-ne0
   third = f.before.before
 
   abbrev from : tie.Start
   from = start third
 
-  seen : first_fault (N from) 0 (length (readings from) / N from) (readings from) ≡ f.first-fault.result
-  seen = sym f.first-fault.ensures
+  seen : first_fault (N from) 0 (length (readings from) / N from) (readings from) ≡ f.first_fault-fault.result
+  seen = sym f.first_fault-fault.ensures
 
-clear : (c : tie.After-enum-told) → let s = from c.before.before in first_fault (N s) 0 (length (readings s) / N s) (readings s) ≡ Clear
-clear c = seen c.before.before ∙ c.enum_told.given.1
+clear : (c : tie.In-Clear) → let s = from c.before in first_fault (N s) 0 (length (readings s) / N s) (readings s) ≡ Clear
+clear c = seen c.before ∙ c.in-Clear.is
 
-returns : tie.Need-returns
+returns : tie.Need-returns-then-number-ne0
 returns c =
-    let n = c.before in
-    let a = n.before in
-    let s = a.before in
-    let h : (told a.in_parts.result).0 ≡ 0 → ⊥ = λ z. c.if1.true (n.number.ensures ∙ z) in
-    (parts-refused (N s) (readings s) (out s) _ a.in_parts.ensures h, λ d. absurd (h (ap (λ (x : ℕ × ℕ). x.0) d)))
+    let n = c in
+    let a = n in
+    let s = a.before.before.before in
+    let h : (told a.in_parts-asked.result).0 ≡ 0 → ⊥ = λ z. c.if-number-ne0.true (n.number.ensures ∙ z) in
+    (parts-refused (N s) (readings s) (out s) _ a.in_parts-asked.ensures h, λ d. absurd (h (ap (λ (x : ℕ × ℕ). x.0) d)))
 
-add-if2 : tie.Need-overflow-add-if2
+add-if2 : tie.Need-overflow_add-readings
 add-if2 c = let s = start c in record { fits = omega (arith, few-readings (N s) (readings s) (blocks c), width-le (N s) (wide c)) }
 
-returns-2 : tie.Need-returns-2
+returns-2 : tie.Need-returns-then-frames-readings
 unfolding told
-returns-2 c = let l = c.before in let s = start l in (whole-output-refused (N s) (readings s) (out s) (has_width l) (whole l) (few l) c.if2.true, λ d. absurd (numbered 6 0 d))
+returns-2 c = let l = c.before in let s = start l in (whole-output-refused (N s) (readings s) (out s) (has_width l) (whole l) (few l) c.if-frames-readings.true, λ d. absurd (numbered 6 0 d))
 
-first-fault-requires : tie.Need-first-fault-requires
+first-fault-requires : tie.Need-first_fault-fault-requires
 first-fault-requires c κs = blocks c.before
 
-enum_told : tie.Need-enum-told
+enum_told : tie.Need-enum_told-1
 enum_told c = search rules
 
-frames-of-requires : tie.Need-frames-of-requires
+frames-of-requires : tie.Need-frames_of-requires
 frames-of-requires c κs =
     let n = c.before in
-    let f = n.before.before in
+    let f = n.before in
     let l = third f in
-    (blocks l, (f.before.if2.false, clear n))
+    (blocks l, (f.if-frames-readings.false, clear n))
 
-returns-3 : tie.Need-returns-3
+returns-3 : tie.Need-returns-in-Dead
 unfolding told told_fault
 returns-3 c =
-    let f = c.before.before.before in
+    let f = c.before in
     let l = third f in
     let s = from f in (
-      by-fault (N s) (readings s) (out s) (has_width l) (whole l) (few l) f.before.if2.false _ (seen f ∙ c.before.fault.given.1),
+      by-fault (N s) (readings s) (out s) (has_width l) (whole l) (few l) f.if-frames-readings.false _ (seen f ∙ c.in-Dead.is),
       λ d. absurd (numbered 7 _ d),
     )
 
-returns-4 : tie.Need-returns-4
+returns-4 : tie.Need-returns-in-Beyond
 unfolding told told_fault
 returns-4 c =
-    let f = c.before.before.before in
+    let f = c.before in
     let l = third f in
     let s = from f in (
-      by-fault (N s) (readings s) (out s) (has_width l) (whole l) (few l) f.before.if2.false _ (seen f ∙ c.before.fault2.given.1),
+      by-fault (N s) (readings s) (out s) (has_width l) (whole l) (few l) f.if-frames-readings.false _ (seen f ∙ c.in-Beyond.is),
       λ d. absurd (numbered 8 _ d),
     )
 
-returns-5 : tie.Need-returns-5
+returns-5 : tie.Need-returns-in-Clear
 unfolding told
 returns-5 c =
     let n = c.before.before.before in
-    let f = n.before.before in
+    let f = n.before in
     let l = third f in
     let s = from f in
-    let made = c.before.frames-of.ensures in (
-      ap (λ (w : List ℤ). ((0, 0), w)) made ∙ whole-done (N s) (readings s) (out s) (has_width l) (whole l) (few l) f.before.if2.false (clear n),
-      λ d. subst (WholeRun (N s) (readings s)) (sym made) (whole_run (N s) (wide l) (readings s) (out s) (blocks l).whole (few l) f.before.if2.false (clear n)),
+    let made = c.frames_of.ensures in (
+      ap (λ (w : List ℤ). ((0, 0), w)) made ∙ whole-done (N s) (readings s) (out s) (has_width l) (whole l) (few l) f.if-frames-readings.false (clear n),
+      λ d. subst (WholeRun (N s) (readings s)) (sym made) (whole_run (N s) (wide l) (readings s) (out s) (blocks l).whole (few l) f.if-frames-readings.false (clear n)),
     )
 
-pub forward-spec : {M : Type 1} → statement M
-forward-spec =
+pub forward_spec : {M : Type 1} → statement M
+forward_spec =
     tie.close
     (tie.spec
     (λ c κs. search rules)

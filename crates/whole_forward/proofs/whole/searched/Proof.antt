@@ -13,10 +13,10 @@ use Rattle.gate.proofs.FaultLaws.{few-readings, block-next, block_in, block-long
 use Rattle.whole_forward.proofs.whole.searched.Statement.{statement}
 use Rattle.whole_forward.proofs.whole.searched.Tie as tie
 
-abbrev invariant-loop : tie.invariant-loop
+abbrev invariant-loop : tie.invariant-loop-left
 invariant-loop width readings at₀ left₀ at left = (at + left * width ≡ length readings) × (first_fault width 0 (length readings / width) readings ≡ first_fault width at left (drop at readings))
 
-abbrev decreases-loop : tie.decreases-loop
+abbrev decreases-loop : tie.decreases-loop-left
 decreases-loop width readings at₀ left₀ at left = left
 
 module _ (s : tie.Start invariant-loop decreases-loop) where
@@ -27,104 +27,104 @@ module _ (s : tie.Start invariant-loop decreases-loop) where
   readings = s.args.readings.now
 
 -- a block is left
-module _ (i : tie.In-loop invariant-loop decreases-loop) where
+module _ (i : tie.In-loop-left invariant-loop decreases-loop) where
   abbrev from : tie.Start invariant-loop decreases-loop
   from = i.before.before
 
   abbrev place : ℕ
-  place = i.before.loop.at
+  place = i.loop-left.at
 
   inner : place + N from ≤ length (readings from)
-  inner = block_in place i.before.loop.left (N from) _ i.before.loop.inv.0 i.loop-test.taken
+  inner = block_in place i.loop-left.left (N from) _ i.loop-left.invariant.0 i.loop-left-test.true
 
   end-le : place + N from ≤ block_limit * 128
-  end-le = omega (arith, inner, few-readings (N from) (readings from) from.pre)
+  end-le = omega (arith, inner, few-readings (N from) (readings from) from.requires)
 
-module _ (f : tie.After-fault-of invariant-loop decreases-loop) where
-  abbrev inside : tie.In-loop invariant-loop decreases-loop
+module _ (f : tie.After-fault_of-fault invariant-loop decreases-loop) where
+  abbrev inside : tie.In-loop-left invariant-loop decreases-loop
   inside = f.before.before
 
   -- the block that was asked
-  seen : fault_of (take (N (from inside)) (drop (place inside) (readings (from inside)))) ≡ f.fault-of.result
-  seen = sym (f.fault-of.ensures ∙ ap fault_of (part-is (place inside) (N (from inside)) (readings (from inside))))
+  seen : fault_of (take (N (from inside)) (drop (place inside) (readings (from inside)))) ≡ f.fault_of-fault.result
+  seen = sym (f.fault_of-fault.ensures ∙ ap fault_of (part-is (place inside) (N (from inside)) (readings (from inside))))
 
   short : length (take (N (from inside)) (drop (place inside) (readings (from inside)))) ≤ 128
-  short = omega (arith, block-long (place inside) (N (from inside)) (readings (from inside)) (inner inside), width-le (N (from inside)) (from inside).pre.wide)
+  short = omega (arith, block-long (place inside) (N (from inside)) (readings (from inside)) (inner inside), width-le (N (from inside)) (from inside).requires.wide)
 
-div-left : tie.Need-nonzero-div-left invariant-loop decreases-loop
+div-left : tie.Need-nonzero_div-left invariant-loop decreases-loop
 div-left c = width-pos (N c) c.requires.wide
 
-loop-holds : tie.Need-loop-init invariant-loop decreases-loop
+loop-holds : tie.Need-loop-left-init invariant-loop decreases-loop
 loop-holds c = (omega (arith, c.requires.whole), refl)
 
-add-end : tie.Need-overflow-add-end invariant-loop decreases-loop
+add-end : tie.Need-overflow_add-end invariant-loop decreases-loop
 add-end c = record { fits = omega (arith, end-le c) }
 
-mul-fault-of : tie.Need-overflow-mul-fault-of invariant-loop decreases-loop
+mul-fault-of : tie.Need-offset_bounds-readings-at invariant-loop decreases-loop
 mul-fault-of c = record { fits = omega (arith, end-le c) }
 
-sub-fault-of : tie.Need-overflow-sub-fault-of invariant-loop decreases-loop
+sub-fault-of : tie.Need-slice_bounds-fault_of-count invariant-loop decreases-loop
 sub-fault-of c = omega arith
 
-part-fault-of-start : tie.Need-slice-bounds-fault-of-start invariant-loop decreases-loop
+part-fault-of-start : tie.Need-slice_bounds-fault_of-start invariant-loop decreases-loop
 part-fault-of-start c = omega arith
 
-part-fault-of-end : tie.Need-slice-bounds-fault-of-end invariant-loop decreases-loop
+part-fault-of-end : tie.Need-slice_bounds-fault_of-end invariant-loop decreases-loop
 part-fault-of-end c = inner c
 
-fault-of-requires : tie.Need-fault-of-requires invariant-loop decreases-loop
+fault-of-requires : tie.Need-fault_of-fault-requires invariant-loop decreases-loop
 fault-of-requires c κs =
     let i = c.before in
     let l = ap length (part-is (place i) (N (from i)) (readings (from i))) ∙ block-long (place i) (N (from i)) (readings (from i)) (inner i) in
     (omega (arith, l, width-le (N (from i)) (from i).requires.wide), ap (λ n. n % 4) l ∙ width-in-fours (N (from i)) (from i).requires.wide)
 
-add-t16 : tie.Need-overflow-add-t16 invariant-loop decreases-loop
+add-t16 : tie.Need-overflow_add-result invariant-loop decreases-loop
 add-t16 c =
-    let f = c.before.before.before in
-    record { fits = omega (arith, end-le (inside f), dead-place _ _ (seen f ∙ c.before.fault.given.1), short f) }
+    let f = c.before in
+    record { fits = omega (arith, end-le (inside f), dead-place _ _ (seen f ∙ c.in-Dead.is), short f) }
 
-returns : tie.Need-returns invariant-loop decreases-loop
+returns : tie.Need-returns-in-Dead invariant-loop decreases-loop
 returns c =
-    let f = c.before.before.before in
-    let k = (inside f).before in
-    dead-here (N k.before) k.loop.at k.loop.left _ (readings k.before) (inside f).loop-test.true k.loop.inv.1 _ (seen f ∙ c.before.fault.given.1)
+    let f = c.before in
+    let k = (inside f) in
+    dead-here (N k.before.before) k.loop-left.at k.loop-left.left _ (readings k.before.before) (inside f).loop-left-test.true k.loop-left.invariant.1 _ (seen f ∙ c.in-Dead.is)
 
-add-t17 : tie.Need-overflow-add-t17 invariant-loop decreases-loop
+add-t17 : tie.Need-overflow_add-result-in-Beyond invariant-loop decreases-loop
 add-t17 c =
-    let f = c.before.before.before in
-    record { fits = omega (arith, end-le (inside f), beyond-place _ _ (seen f ∙ c.before.fault2.given.1), short f) }
+    let f = c.before in
+    record { fits = omega (arith, end-le (inside f), beyond-place _ _ (seen f ∙ c.in-Beyond.is), short f) }
 
-returns-2 : tie.Need-returns-2 invariant-loop decreases-loop
+returns-2 : tie.Need-returns-in-Beyond invariant-loop decreases-loop
 returns-2 c =
-    let f = c.before.before.before in
-    let k = (inside f).before in
-    beyond-here (N k.before) k.loop.at k.loop.left _ (readings k.before) (inside f).loop-test.true k.loop.inv.1 _ (seen f ∙ c.before.fault2.given.1)
+    let f = c.before in
+    let k = (inside f) in
+    beyond-here (N k.before.before) k.loop-left.at k.loop-left.left _ (readings k.before.before) (inside f).loop-left-test.true k.loop-left.invariant.1 _ (seen f ∙ c.in-Beyond.is)
 
-enum_told : tie.Need-enum-told invariant-loop decreases-loop
+enum_told : tie.Need-enum_told-1 invariant-loop decreases-loop
 enum_told c = search rules
 
-sub-left : tie.Need-overflow-sub-left invariant-loop decreases-loop
+sub-left : tie.Need-overflow_sub-left invariant-loop decreases-loop
 sub-left c = omega arith
 
-loop-less : tie.Need-loop-smaller invariant-loop decreases-loop
+loop-less : tie.Need-loop-left-smaller invariant-loop decreases-loop
 loop-less c = omega arith
 
-loop-again : tie.Need-loop-preserved invariant-loop decreases-loop
+loop-again : tie.Need-loop-left-preserved invariant-loop decreases-loop
 loop-again c =
-    let f = c.before.before in
-    let k = (inside f).before in (
-      block-next k.loop.at k.loop.left (N k.before) _ k.loop.inv.0 (inside f).loop-test.true,
-      clear-here (N k.before) k.loop.at k.loop.left _ (readings k.before) (inside f).loop-test.true k.loop.inv.1 (seen f ∙ c.enum_told.given.1),
+    let f = c.before in
+    let k = (inside f) in (
+      block-next k.loop-left.at k.loop-left.left (N k.before.before) _ k.loop-left.invariant.0 (inside f).loop-left-test.true,
+      clear-here (N k.before.before) k.loop-left.at k.loop-left.left _ (readings k.before.before) (inside f).loop-left-test.true k.loop-left.invariant.1 (seen f ∙ c.in-Clear.is),
     )
 
-returns-3 : tie.Need-returns-3 invariant-loop decreases-loop
+returns-3 : tie.Need-returns invariant-loop decreases-loop
 returns-3 c =
-    let k = c.before in
-    let e : k.loop.left ≡ 0 = omega arith in
-    none_left (N k.before) k.loop.at k.loop.left _ e ∙ sym k.loop.invariant.1
+    let k = c in
+    let e : k.loop-left.left ≡ 0 = omega arith in
+    none_left (N k.before.before) k.loop-left.at k.loop-left.left _ e ∙ sym k.loop-left.invariant.1
 
-pub searched-spec : {M : Type 1} → statement M
-searched-spec =
+pub searched_spec : {M : Type 1} → statement M
+searched_spec =
     tie.close
     (tie.spec
     invariant-loop

@@ -27,68 +27,68 @@ module _ (s : tie.Start) where
   room = s.args.room.now
 
   m : Measured N (half_width N)
-  m = measured N s.pre.0.0
+  m = measured N s.requires.0.0
 
   front_long : length (take h room) ≡ h
-  front_long = length-take-le h room (omega (arith, m, s.pre.0.1))
+  front_long = length-take-le h room (omega (arith, m, s.requires.0.1))
 
 -- the first half stands in the room
-module _ (c : tie.After-cosines-by-threes) where
+module _ (c : tie.After-cosines_by_threes) where
   abbrev s1 : tie.Start
   s1 = c.before.before
 
   abbrev ys : List ℤ
-  ys = c.cosines-by-threes.new.1.1.0
+  ys = c.cosines_by_threes.new.out
 
   abbrev room1 : List ℤ
   room1 = put_mid 0 (h s1) (room s1) ys
 
   filled : ys ≡ places (length (take (h s1) (room s1))) (cosine_in (N s1))
-  filled = cosines-by-threes (N s1) (h s1) (m s1).half _ ys c.cosines-by-threes.ensures
+  filled = cosines-by-threes (N s1) (h s1) (m s1).half _ ys c.cosines_by_threes.ensures
 
   room1-long : length room1 ≡ length (room s1)
-  room1-long = room-same (h s1) (cosine_in (N s1)) ys (room s1) filled (omega (arith, m s1, s1.pre.0.1))
+  room1-long = room-same (h s1) (cosine_in (N s1)) ys (room s1) filled (omega (arith, m s1, s1.requires.0.1))
 
   first-half : take (h s1) room1 ≡ places (h s1) (cosine_in (N s1))
-  first-half = front-now (h s1) (cosine_in (N s1)) ys (room s1) filled (omega (arith, m s1, s1.pre.0.1))
+  first-half = front-now (h s1) (cosine_in (N s1)) ys (room s1) filled (omega (arith, m s1, s1.requires.0.1))
 
-div-cosines-by-threes : tie.Need-nonzero-div-cosines-by-threes
+div-cosines-by-threes : tie.Need-nonzero_div-half-2
 div-cosines-by-threes c = omega (arith, m c)
 
-cast-cosines-by-threes : tie.Need-overflow-cast-cosines-by-threes
+cast-cosines-by-threes : tie.Need-overflow_cast-half
 cast-cosines-by-threes c = omega (arith, m c)
 
-slice-relend-prefix-cosines-by-threes : tie.Need-slice-relend-prefix-cosines-by-threes
+slice-relend-prefix-cosines-by-threes : tie.Need-slice_bounds-cosines_by_threes-end
 slice-relend-prefix-cosines-by-threes c = omega (arith, m c, c.requires.0.1)
 
-slice-aggregate-cosines-by-threes : tie.Need-slice-aggregate-cosines-by-threes
+slice-aggregate-cosines-by-threes : tie.Need-slice_bounds-cosines_by_threes-end-2
 slice-aggregate-cosines-by-threes c = sym (front_long c.before)
 
-half-turn-on-requires : tie.Need-half-turn-on-requires
+half-turn-on-requires : tie.Need-half_turn_on-requires
 half-turn-on-requires c κs =
     let a = c.before.before in
     let s = s1 a in
-    (omega (arith, m s), omega (arith, m s, room1-long a, s.pre.0.1), front-small (h s) (2 ^ 28) (cosine_in (N s)) (room1 a) (first-half a) (λ i. cosine-size _) (omega arith))
+    (omega (arith, m s), omega (arith, m s, room1-long a, s.requires.0.1), front-small (h s) (2 ^ 28) (cosine_in (N s)) (room1 a) (first-half a) (λ i. cosine-size _) (omega arith))
 
-same_length : tie.Need-same-length
-same_length c = let a = c.before.before.before.before in c.before.half-turn-on.ensures.long ∙ room1-long a
+same_length : tie.Need-shape_of-room
+same_length c = let a = c.before.before.before.before in c.half_turn_on.ensures.long ∙ room1-long a
 
 returns : tie.Need-returns
 returns c =
     let a = c.before.before.before.before in
     let s = s1 a in
-    both_halves (N s) (h s) (cosine_in (N s)) (omega (arith, m s)) (omega (arith, m s, room1-long a, s.pre.0.1)) (first-half a) (cosine-turn (N s) (h s) (m s).half) c.before.half-turn-on.ensures
+    both_halves (N s) (h s) (cosine_in (N s)) (omega (arith, m s)) (omega (arith, m s, room1-long a, s.requires.0.1)) (first-half a) (cosine-turn (N s) (h s) (m s).half) c.half_turn_on.ensures
     ∙ cosine-list (N s)
 
-pub cosines-spec : {M : Type 1} → statement M
-cosines-spec =
+pub cosines_spec : {M : Type 1} → statement M
+cosines_spec =
     tie.close
     (tie.spec
     div-cosines-by-threes
     cast-cosines-by-threes
     slice-relend-prefix-cosines-by-threes
     slice-aggregate-cosines-by-threes
-    (λ c κs. c.before.requires.1)
+    (λ c κs. c.requires.1)
     half-turn-on-requires
     same_length
     returns)

@@ -12,75 +12,75 @@ use Rattle.products.proofs.RoomLaws.{written_none, written_next, written-before}
 use Rattle.width_tables.proofs.matrices.half_turn_on.Statement.{statement}
 use Rattle.width_tables.proofs.matrices.half_turn_on.Tie as tie
 
-abbrev invariant-loop : tie.invariant-loop
+abbrev invariant-loop : tie.invariant-loop-i
 invariant-loop room₀ half i₀ room i = (i ≤ half) × (i % 4 ≡ 0) × Written (λ j. neg_ℤ (at room₀ j)) half i room₀ room
 
-abbrev decreases-loop : tie.decreases-loop
+abbrev decreases-loop : tie.decreases-loop-i
 decreases-loop room₀ half i₀ room i = half - i
 
-module _ (k : tie.At-loop invariant-loop decreases-loop) where
-  long : length k.loop.room ≡ length k.before.args.room.now
-  long = k.loop.invariant.2.long
+module _ (k : tie.At-loop-i invariant-loop decreases-loop) where
+  long : length k.loop-i.room ≡ length k.args.room.now
+  long = k.loop-i.invariant.2.long
 
   -- four places are left
-  within : k.loop.i < k.before.args.half → k.loop.i + 4 ≤ k.before.args.half
-  within l = omega (arith, k.before.pre.0, k.loop.inv.1)
+  within : k.loop-i.i < k.args.half → k.loop-i.i + 4 ≤ k.args.half
+  within l = omega (arith, k.requires.0, k.loop-i.invariant.1)
 
 -- four numbers of the first half
-module _ (p : tie.After-put-arg invariant-loop decreases-loop) where
-  abbrev turn : tie.At-loop invariant-loop decreases-loop
-  turn = p.before.before.before.before
+module _ (p : tie.After-put-arg-1 invariant-loop decreases-loop) where
+  abbrev turn : tie.At-loop-i invariant-loop decreases-loop
+  turn = p.before.before.before
 
-  left : turn.loop.i + 4 ≤ turn.before.args.half
-  left = within turn p.before.before.before.loop-test.taken
+  left : turn.loop-i.i + 4 ≤ turn.args.half
+  left = within turn p.loop-i-test.true
 
-  first-are : listed p.before.four-at.result ≡ places 4 (λ j. at turn.before.args.room.now (turn.loop.i + j))
-  first-are = p.before.four-at.ensures ∙ places-ext 4 _ _ (λ j l. written-before turn.loop.inv.2 (turn.loop.i + j) (omega (arith, left)))
+  first-are : listed p.four_at-x.result ≡ places 4 (λ j. at turn.args.room.now (turn.loop-i.i + j))
+  first-are = p.four_at-x.ensures ∙ places-ext 4 _ _ (λ j l. written-before turn.loop-i.invariant.2 (turn.loop-i.i + j) (omega (arith, left)))
 
-  first_small : Within (2 ^ 62 - 1) (listed p.before.four-at.result)
-  first_small = subst (Within (2 ^ 62 - 1)) (sym first-are) (within-places 4 _ _ (λ j l. turn.before.pre.2.small (turn.loop.i + j) (omega arith) (omega (arith, left))))
+  first_small : Within (2 ^ 62 - 1) (listed p.four_at-x.result)
+  first_small = subst (Within (2 ^ 62 - 1)) (sym first-are) (within-places 4 _ _ (λ j l. turn.requires.2.small (turn.loop-i.i + j) (omega arith) (omega (arith, left))))
 
-loop-holds : tie.Need-loop-init invariant-loop decreases-loop
+loop-holds : tie.Need-loop-i-init invariant-loop decreases-loop
 loop-holds c = (omega arith, refl, written_none _ _ _)
 
-four-at-requires : tie.Need-four-at-requires invariant-loop decreases-loop
-four-at-requires c κs = let k = c.before.before in omega (arith, k.before.requires.1, within k c.before.loop-test.true, long k)
+four-at-requires : tie.Need-four_at-x-requires invariant-loop decreases-loop
+four-at-requires c κs = let k = c.before in omega (arith, k.requires.1, within k c.loop-i-test.true, long k)
 
-add-put : tie.Need-overflow-add-put invariant-loop decreases-loop
-add-put c = omega (arith, (turn c).before.requires.1, left c, long (turn c))
+add-put : tie.Need-overflow_add-half invariant-loop decreases-loop
+add-put c = omega (arith, (turn c).requires.1, left c, long (turn c))
 
 negated-requires : tie.Need-negated-requires invariant-loop decreases-loop
 negated-requires c κs = first_small c
 
 put-requires : tie.Need-put-requires invariant-loop decreases-loop
-put-requires c κs = let p = c.before in omega (arith, (turn p).before.requires.1, left p, long (turn p))
+put-requires c κs = let p = c.before in omega (arith, (turn p).requires.1, left p, long (turn p))
 
-add-i : tie.Need-overflow-add-i invariant-loop decreases-loop
-add-i c = let p = c.before.before.before in omega (arith, left p, (turn p).before.ranges.half)
+add-i : tie.Need-overflow_add-i invariant-loop decreases-loop
+add-i c = let p = c.before.before.before in omega (arith, left p, (turn p).ranges.half)
 
-loop-less : tie.Need-loop-smaller invariant-loop decreases-loop
+loop-less : tie.Need-loop-i-smaller invariant-loop decreases-loop
 loop-less c = omega arith
 
-loop-again : tie.Need-loop-preserved invariant-loop decreases-loop
+loop-again : tie.Need-loop-i-preserved invariant-loop decreases-loop
 loop-again c =
     let p = c.before.before.before in
     let k = turn p in
-    let a = k.before.args in
-    let z = c.before.before.negated.ensures ∙ places-ext 4 _ _ (λ j l. ap neg_ℤ (ap (λ xs. at xs j) (first-are p) ∙ at_places 4 _ j l)) in
-    (omega (arith, left p), omega (arith, k.loop.inv.1), subst (Written (λ j. neg_ℤ (at a.room.now j)) a.half (k.loop.i + 4) a.room.now) (sym c.before.put.ensures) (written_next k.loop.inv.2 (omega (arith, left p, k.before.pre.1)) c.before.before.negated.result z))
+    let a = k.args in
+    let z = c.negated.ensures ∙ places-ext 4 _ _ (λ j l. ap neg_ℤ (ap (λ xs. at xs j) (first-are p) ∙ at_places 4 _ j l)) in
+    (omega (arith, left p), omega (arith, k.loop-i.invariant.1), subst (Written (λ j. neg_ℤ (at a.room.now j)) a.half (k.loop-i.i + 4) a.room.now) (sym c.put.ensures) (written_next k.loop-i.invariant.2 (omega (arith, left p, k.requires.1)) c.negated.result z))
 
-same_length : tie.Need-same-length invariant-loop decreases-loop
+same_length : tie.Need-shape_of-room invariant-loop decreases-loop
 same_length c = long c.before
 
 returns : tie.Need-returns invariant-loop decreases-loop
 returns c =
-    let k = c.before in
-    let a = k.before.args in
-    let e : k.loop.i ≡ a.half = omega (arith, k.loop.invariant.0) in
-    subst (λ n. Written (λ j. neg_ℤ (at a.room.now j)) a.half n a.room.now k.loop.room) e k.loop.invariant.2
+    let k = c in
+    let a = k.args in
+    let e : k.loop-i.i ≡ a.half = omega (arith, k.loop-i.invariant.0) in
+    subst (λ n. Written (λ j. neg_ℤ (at a.room.now j)) a.half n a.room.now k.loop-i.room) e k.loop-i.invariant.2
 
-pub half-turn-on-spec : {M : Type 1} → statement M
-half-turn-on-spec =
+pub half_turn_on_spec : {M : Type 1} → statement M
+half_turn_on_spec =
     tie.close
     (tie.spec
     invariant-loop

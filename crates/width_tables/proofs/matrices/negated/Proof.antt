@@ -18,18 +18,18 @@ module _ (s : tie.Start) (i : ℕ) where
   holds = held w64 (at (listed s.args.x) i) (small w64 (at (listed s.args.x) i) (omega (arith, s.requires.size i)))
 
   fits : SFits w64 (pos 0 -ℤ at (listed s.args.x) i)
-  fits = minus-small w64 (at (listed s.args.x) i) (omega (arith, s.pre.size i))
+  fits = minus-small w64 (at (listed s.args.x) i) (omega (arith, s.requires.size i))
 
-sub-t2 : tie.Need-overflow-sub-t2
+sub-t2 : tie.Need-overflow_sub-result
 sub-t2 c = let s = c.before.before in asks-minus (holds s 0) (fits s 0)
 
-sub-t3 : tie.Need-overflow-sub-t3
+sub-t3 : tie.Need-overflow_sub-result-2
 sub-t3 c = let s = c.before.before.before.before in asks-minus (holds s 1) (fits s 1)
 
-sub-t4 : tie.Need-overflow-sub-t4
+sub-t4 : tie.Need-overflow_sub-result-3
 sub-t4 c = let s = c.before.before.before.before.before.before in asks-minus (holds s 2) (fits s 2)
 
-sub-t5 : tie.Need-overflow-sub-t5
+sub-t5 : tie.Need-overflow_sub-result-4
 sub-t5 c = let s = c.before.before.before.before.before.before.before.before in asks-minus (holds s 3) (fits s 3)
 
 returns : tie.Need-returns
@@ -41,5 +41,5 @@ returns c =
     (h-minus (holds s 2) (fits s 2)).is
     (h-minus (holds s 3) (fits s 3)).is
 
-pub negated-spec : {M : Type 1} → statement M
-negated-spec = tie.close (tie.spec sub-t2 sub-t3 sub-t4 sub-t5 returns)
+pub negated_spec : {M : Type 1} → statement M
+negated_spec = tie.close (tie.spec sub-t2 sub-t3 sub-t4 sub-t5 returns)

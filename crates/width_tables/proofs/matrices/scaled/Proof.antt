@@ -14,61 +14,61 @@ use Rattle.integers.proofs.Num.{Num, num, mul-asks, num-mul}
 use Rattle.width_tables.proofs.matrices.scaled.Statement.{statement}
 use Rattle.width_tables.proofs.matrices.scaled.Tie as tie
 
-abbrev invariant-loop : tie.invariant-loop
+abbrev invariant-loop : tie.invariant-loop-k
 invariant-loop by list₀ k₀ list k = (k ≤ length list₀) × Filling (λ k. to_z w64 by *ℤ at list₀ k) list₀ k list
 
-abbrev decreases-loop : tie.decreases-loop
+abbrev decreases-loop : tie.decreases-loop-k
 decreases-loop by list₀ k₀ list k = length list₀ - k
 
 -- the number of a turn, and what it is taken times
-module _ (c : tie.After-list invariant-loop decreases-loop) where
+module _ (c : tie.After-list-1 invariant-loop decreases-loop) where
   abbrev by : ℤ
-  by = c.before.before.before.args.by
+  by = c.args.by
 
   abbrev value : ℤ
-  value = at c.before.before.loop.list c.before.before.loop.k
+  value = at c.loop-k.list c.loop-k.k
 
   times : Num w64 16 (of_z w64 by) by
-  times = num w64 by c.before.before.before.requires.0 tt
+  times = num w64 by c.requires.0 tt
 
   size : nat_abs value ≤ 11000000000
-  size = rw (filling-here c.before.before.loop.invariant.1) (c.before.before.before.requires.1.size c.before.before.loop.k)
+  size = rw (filling-here c.loop-k.invariant.1) (c.requires.1.size c.loop-k.k)
 
   number : Num w64 11000000000 (of_z w64 value) value
   number = num w64 value size tt
 
-loop-holds : tie.Need-loop-init invariant-loop decreases-loop
+loop-holds : tie.Need-loop-k-init invariant-loop decreases-loop
 loop-holds c = (omega arith, filling-none _ _)
 
-slice-copy-out-list : tie.Need-slice-copy-out-list invariant-loop decreases-loop
+slice-copy-out-list : tie.Need-slice_copy_out-list invariant-loop decreases-loop
 slice-copy-out-list c = omega arith
 
-mul-list-2 : tie.Need-overflow-mul-list-2 invariant-loop decreases-loop
+mul-list-2 : tie.Need-overflow_mul-list invariant-loop decreases-loop
 mul-list-2 c = mul-asks (times c) (number c) tt
 
-slice-set-from-list : tie.Need-slice-set-from-list invariant-loop decreases-loop
+slice-set-from-list : tie.Need-bounds-list-k invariant-loop decreases-loop
 slice-set-from-list c = omega arith
 
-add-k : tie.Need-overflow-add-k invariant-loop decreases-loop
+add-k : tie.Need-overflow_add-k invariant-loop decreases-loop
 add-k c = omega arith
 
-loop-less : tie.Need-loop-smaller invariant-loop decreases-loop
+loop-less : tie.Need-loop-k-smaller invariant-loop decreases-loop
 loop-less c = omega arith
 
-loop-again : tie.Need-loop-preserved invariant-loop decreases-loop
-loop-again c = (omega arith, filling-next c.before.before.loop.invariant.1 ((num-mul (times c) (number c) tt).holds.is ∙ ap₂ ◌*ℤ◌ (sym (times c).holds.is) (filling-here c.before.before.loop.invariant.1)))
+loop-again : tie.Need-loop-k-preserved invariant-loop decreases-loop
+loop-again c = (omega arith, filling-next c.loop-k.invariant.1 ((num-mul (times c) (number c) tt).holds.is ∙ ap₂ ◌*ℤ◌ (sym (times c).holds.is) (filling-here c.loop-k.invariant.1)))
 
-same_length : tie.Need-same-length invariant-loop decreases-loop
+same_length : tie.Need-shape_of-list invariant-loop decreases-loop
 same_length c = omega arith
 
 returns : tie.Need-returns invariant-loop decreases-loop
 returns c =
-    let s = c.before.before in
-    filling-all c.before.loop.invariant.1 (omega arith)
+    let s = c in
+    filling-all c.loop-k.invariant.1 (omega arith)
     ∙ ap (λ b. places (length s.args.list.now) (λ k. b *ℤ at s.args.list.now k)) (held w64 s.args.by s.ranges.by).is
 
-pub scaled-spec : {M : Type 1} → statement M
-scaled-spec =
+pub scaled_spec : {M : Type 1} → statement M
+scaled_spec =
     tie.close
     (tie.spec
     invariant-loop

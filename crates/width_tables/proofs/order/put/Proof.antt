@@ -18,37 +18,37 @@ use Rattle.width_tables.proofs.order.put.Statement.{statement}
 use Rattle.width_tables.proofs.order.put.Tie as tie
 
 -- the sign, and what it is taken times
-module _ (c : tie.After-signed2) where
-  times : Num w64 4 (of_z w64 c.before.before.args.scale) c.before.before.args.scale
-  times = num w64 c.before.before.args.scale c.before.before.requires.4 tt
+module _ (c : tie.After-signed) where
+  times : Num w64 4 (of_z w64 c.args.scale) c.args.scale
+  times = num w64 c.args.scale c.requires.4 tt
 
-  sign : Num w64 1 (of_z w64 c.before.signed.result) (signed c.before.before.args.minus (pos 1))
-  sign = num-call w64 c.before.signed.result c.before.signed.type-inv c.before.signed.ensures (rw (signed-size c.before.before.args.minus (pos 1)) (omega arith))
+  sign : Num w64 1 (of_z w64 c.signed-sign.result) (signed c.args.minus (pos 1))
+  sign = num-call w64 c.signed-sign.result c.signed-sign.type_inv c.signed-sign.ensures (rw (signed-size c.args.minus (pos 1)) (omega arith))
 
-slice-set-from-sign : tie.Need-slice-set-from-sign
-slice-set-from-sign c = simp length-set (omega (arith, c.before.requires))
+slice-set-from-sign : tie.Need-bounds-t-half-2
+slice-set-from-sign c = simp length-set (omega (arith, c.requires))
 
-signed-requires-2 : tie.Need-signed-requires-2
-signed-requires-2 c κs = sign_fits _ c.signed.result c.signed.type-inv c.signed.ensures
+signed-requires-2 : tie.Need-signed-requires
+signed-requires-2 c κs = sign_fits _ c.signed-sign.result c.signed-sign.type_inv c.signed-sign.ensures
 
-slice-set-from-t-2 : tie.Need-slice-set-from-t-2
-slice-set-from-t-2 c = simp length-set (omega (arith, c.before.before.requires))
+slice-set-from-t-2 : tie.Need-bounds-t-half-3
+slice-set-from-t-2 c = simp length-set (omega (arith, c.requires))
 
-slice-set-from-t-3 : tie.Need-slice-set-from-t-3
-slice-set-from-t-3 c = simp length-set (omega (arith, c.before.before.requires))
+slice-set-from-t-3 : tie.Need-bounds-t-half-4
+slice-set-from-t-3 c = simp length-set (omega (arith, c.requires))
 
-mul-t-7 : tie.Need-overflow-mul-t-7
+mul-t-7 : tie.Need-overflow_mul-t-4
 mul-t-7 c = mul-asks (times c) (sign c) tt
 
-slice-set-from-t-4 : tie.Need-slice-set-from-t-4
-slice-set-from-t-4 c = simp length-set (omega (arith, c.before.before.requires))
+slice-set-from-t-4 : tie.Need-bounds-t-half-5
+slice-set-from-t-4 c = simp length-set (omega (arith, c.requires))
 
 returns : tie.Need-returns
 unfolding alternate
 returns c =
-    let s = c.before.before in
+    let s = c in
     let one = (sign c).holds.is in
-    let two = (held-ok w64 c.signed2.result c.signed2.type-inv).is ∙ c.signed2.ensures in
+    let two = (held-ok w64 c.signed.result c.signed.type_inv).is ∙ c.signed.ensures in
     put_is s.args.half s.args.scale s.args.e s.args.place s.args.minus s.args.t.now
     (nat-is s.args.place (omega arith)) one (two ∙ ap (signed (eqb (s.args.place % 2) 1)) one) (nat-is s.args.e (omega arith))
     (num-mul (times c) (sign c) tt).holds.is
