@@ -16,7 +16,6 @@ use Rattle.integers.proofs.Words.{to_below}
 use Rattle.text_runs.specs.Decimal.{is_digit, all_digits, value_of, valued, leads, sized, negative, positive, signed_in, least64}
 use Rattle.decimal.specs.Own.Reading.{size_within}
 use Rattle.text_runs.specs.declared.number.Size.{Size}
-use Rattle.text_runs.specs.declared.number.Size.TheVariants as Size
 use Rattle.text_runs.specs.declared.number.Field.TheVariants as Field
 use Rattle.text_runs.proofs.SizeLaws.{value-least}
 

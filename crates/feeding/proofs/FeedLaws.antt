@@ -20,7 +20,7 @@ use Rattle.feeding.specs.Theorems.{FedTwice}
 pub fed-twice : FedTwice
 unfolding fed
 fed-twice P r [] q = refl
-fed-twice P r (b ∷ p) q = fed-twice P _ p q
+fed-twice P r (b ∷ p) q = fed-twice P (byte_fed P r b) p q
 
 -- ---- one byte, in the four ways that it can go: the reader afterwards, and how many lines are handed on
 module _ (P : Program) (r : Reader P) (b : ℕ) (Q : Reader P → ℕ → Type 0) where

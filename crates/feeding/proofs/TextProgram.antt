@@ -26,7 +26,7 @@ line_same s line = ⊎_elim (λ w. rw w) (λ w. rw w) (tested (line.0 && leb (le
 lines_same : (s : Session) (lines : List Line) → Lines.printed_from text_program s lines ≡ printed_from s.state lines
 unfolding Lines.printed_from printed_from text_end session_after
 lines_same s [] = refl
-lines_same s (line ∷ lines) = rw (line_same s line) (ap (λ (t : List ℕ). (line_taken s.state line.0 line.1).1 ++ t) (lines_same _ lines))
+lines_same s (line ∷ lines) = rw (line_same s line) (ap (λ (t : List ℕ). (line_taken s.state line.0 line.1).1 ++ t) (lines_same (session_after s.ending (line_taken s.state line.0 line.1)).0 lines))
 
 pub input-same : (s : Session) (input : List ℕ) → Lines.printed_of text_program s input ≡ printed_from s.state (lines_of input)
 unfolding Lines.printed_of

@@ -7,7 +7,7 @@ use native.Mathlib.Omega.{arith}
 use lib.IntN.{ℤ}
 use lib.ListN.{length, get_or, take}
 use Rattle.text_runs.specs.Decimal.{decimal}
-use Rattle.text_runs.specs.Lines.{comma, line_feed, refused_tag, end_tag, end_line, refusal}
+use Rattle.text_runs.specs.Lines.{comma, line_feed, refused_tag, end_tag, row, end_line, refusal}
 use Rattle.text_runs.specs.Own.Lacks.{lacks}
 use Rattle.text_runs.specs.Input.{Line, lines_of}
 use Rattle.text_runs.specs.Return.{row_lines, text_of}
@@ -23,7 +23,7 @@ last_of line (next ∷ lines) = last_of next lines
 last-between : (first last : Line) (rows : List (List ℤ)) → last_of first (lines_between rows (last ∷ [])) ≡ last
 unfolding last_of lines_between
 last-between first last [] = refl
-last-between first last (xs ∷ rows) = last-between _ last rows
+last-between first last (xs ∷ rows) = last-between (true, row xs) last rows
 
 -- of a text that is not empty, whatever is handed in first
 pub last_line_of : List ℕ → Line

@@ -120,7 +120,7 @@ pub make-asked : (valve : Valve) (ticket : Ticket) (limits more same : Answer)
     → same ≡ ask OtherCount (alike valve.count ticket.count) Done
     → cond (passes limits) (cond (passes more) same more) limits ≡ make_answer valve ticket
 unfolding make_answer passes told
-make-asked valve ticket limits more same l m s =
+make-asked valve ticket _ more same l m s =
     rw (l, m, s) (rw (first-asked AllMade (lt_z valve.count (pos count_limit)) (ask OtherCount (alike valve.count ticket.count) Done) refl) (first-asked Limits _ _ refl))
 
 -- ---- what an ask gives by its answer, and a make

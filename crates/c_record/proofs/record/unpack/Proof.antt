@@ -1,6 +1,5 @@
 -- `c_record::record::unpack` meets its contract.
 use borrow.Author.Rules.{rules}
-use borrow.Author.Tests.{not-true, not-false}
 use native.Mathlib.Omega.{arith}
 use mathlib.Core.Path.{◌≡◌, sym, ap, ap₂, ◌∙◌}
 use mathlib.Core.Bool.{true}
@@ -24,7 +23,7 @@ module _ (e : tie.Else-not-is_record) where
   from = e.before.before.before
 
   is-record : is_record (numbers from) ≡ true
-  is-record = sym e.is_record.ensures ∙ not-false _ e.if-not-is_record.false
+  is-record = sym e.is_record.ensures ∙ e.if-not-is_record.false
 
   long : 67 ≤ length (numbers from)
   long = omega (arith, has_room (numbers from) is-record)
@@ -32,7 +31,7 @@ module _ (e : tie.Else-not-is_record) where
 returns : tie.Need-returns-then-not-is_record
 returns c =
     let t = c in
-    c.make.ensures ∙ no_record (numbers t.before.before.before.before) _ t.nothing_held-held.ensures (sym t.is_record.ensures ∙ not-true _ t.if-not-is_record.true)
+    c.make.ensures ∙ no_record (numbers t.before.before.before.before) _ t.nothing_held-held.ensures (sym t.is_record.ensures ∙ t.if-not-is_record.true)
 
 copy-requires : tie.Need-copy-requires
 copy-requires c κs =

@@ -35,7 +35,7 @@ loop-less c = omega arith
 
 loop-again : tie.Need-loop-rest-preserved invariant-loop decreases-loop
 loop-again c =
-    let k = c.loop in
+    let k = c.loop-rest in
     let more : 1 < k.i = digits-left k.i k.rest k.invariant.3 (omega arith) (omega arith) in (
       omega (arith, more),
       omega arith,
@@ -61,7 +61,7 @@ same_length c = length-set c.loop-rest.work _ _ ∙ c.loop-rest.invariant.2 ∙ 
 
 returns : tie.Need-returns invariant-loop decreases-loop
 returns c =
-    let k = c.loop in
+    let k = c.loop-rest in
     (omega arith, last_written k.i k.rest k.work (omega arith) (omega arith) (omega arith) ∙ k.invariant.4)
 
 pub digits_spec : {M : Type 1} → statement M

@@ -1,5 +1,4 @@
 -- `decimal::print::last_natural` meets its contract.
-use borrow.Author.Rules.{rules}
 use native.Mathlib.Omega.{arith}
 use mathlib.Core.Path.{◌∙◌}
 use Rattle.decimal.proofs.PutLaws.{put_then}

@@ -25,8 +25,8 @@ part-bytes-start c = search rules
 part-bytes-end : tie.Need-slice_bounds-bytes-end
 part-bytes-end c = search rules
 
-text : (c : tie.After-bytes-arg-2-1) → let at-digits = c.before.before.before.before in take (20 - at-digits.digits-from.result) (drop at-digits.digits-from.result at-digits.digits-from.new.work) ≡ decimal at-digits.args.n
-text c = let at-digits = c in last-part at-digits.digits-from.result _ _ c.work-2-1.given at-digits.digits-from.ensures.1
+text : (c : tie.After-bytes-arg-2-1) → take (20 - c.digits-from.result) (drop c.digits-from.result c.digits-from.new.work) ≡ decimal c.args.n
+text c = last-part c.digits-from.result _ _ c.work-2-1.given c.digits-from.ensures.1
 
 bytes-requires : tie.Need-bytes-requires
 bytes-requires c κs = omega (arith, ap length (text c))

@@ -58,7 +58,7 @@ loop-again : tie.Need-loop-i-preserved invariant-loop decreases-loop
 loop-again c =
     let at-loop = c in
     let start = at-loop in
-    let k = at-loop.loop in
+    let k = at-loop.loop-i in
     let x = start.args.x.now in
     let q = c.next_number-n.ensures in
     let s : k.i + 1 ≡ suc k.i = omega arith in

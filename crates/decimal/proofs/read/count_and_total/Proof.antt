@@ -1,7 +1,6 @@
 -- `decimal::read::count_and_total` meets its contract.
 use borrow.Author.Rules.{rules}
 use native.Mathlib.Omega.{arith}
-use borrow.Author.Tests.{not-true, not-false}
 use mathlib.Core.Path.{◌≡◌, sym, ap, ◌∙◌}
 use mathlib.Core.List.{List}
 use Prim.Native.Nat.{ℕ, ◌≤◌}
@@ -62,7 +61,7 @@ returns-3 c =
     let n = next i in
     sym
     (other-count (count (first n)) (line (first n)) (first n).end_of-end.ensures n.if-end-long.false n.end_of-stop.ensures i.if-stop-long.false
-    (sym (asked i) ∙ not-true _ c.if-not-is_count.true))
+    (sym (asked i) ∙ c.if-not-is_count.true))
 
 part-total-end : tie.Need-slice_bounds-total-end
 part-total-end c = stops (next c.before)
@@ -76,7 +75,7 @@ returns-4 c =
     ∙ ap total_in (part_cut comma (line (first n)) _ n.end_of-stop.result n.end_of-stop.ensures)
     ∙ sym
     (this-count (count (first n)) (line (first n)) (first n).end_of-end.ensures n.if-end-long.false n.end_of-stop.ensures i.if-stop-long.false
-    (sym (asked i) ∙ not-false _ e.if-not-is_count.false))
+    (sym (asked i) ∙ e.if-not-is_count.false))
 
 pub count_and_total_spec : {M : Type 1} → statement M
 count_and_total_spec =

@@ -1,7 +1,6 @@
 -- `decimal::read::end_total` meets its contract.
 use borrow.Author.Rules.{rules}
 use native.Mathlib.Omega.{arith}
-use borrow.Author.Tests.{not-true, not-false}
 use mathlib.Core.Path.{sym, ap, ◌∙◌}
 use lib.Seq.{length-take-le}
 use Rattle.text_runs.specs.Lines.{end_tag, fields, count_and_total}
@@ -18,7 +17,7 @@ slice-aggregate-same c = sym (length-take-le 4 c.args.line.now (omega arith))
 
 returns-2 : tie.Need-returns-then-not-same
 unfolding end_tag
-returns-2 c = sym (end-other _ _ (sym c.same.ensures ∙ not-true _ c.if-not-same.true))
+returns-2 c = sym (end-other _ _ (sym c.same.ensures ∙ c.if-not-same.true))
 
 returns-3 : tie.Need-returns
 unfolding end_tag
@@ -27,7 +26,7 @@ returns-3 c =
     let s = t.args in
     c.count_and_total.ensures
     ∙ ap (λ bs. count_and_total s.count (fields bs)) (rest_part 4 s.line.now)
-    ∙ sym (end-tagged s.count s.line.now (sym t.same.ensures ∙ not-false _ c.if-not-same.false))
+    ∙ sym (end-tagged s.count s.line.now (sym t.same.ensures ∙ c.if-not-same.false))
 
 pub end_total_spec : {M : Type 1} → statement M
 end_total_spec =

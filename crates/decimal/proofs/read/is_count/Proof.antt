@@ -35,15 +35,15 @@ returns c =
 returns-2 : tie.Need-returns-then-n-lt0
 returns-2 c =
     let k = c.before in
-    sym (ap (is_count (count k)) (seen k) ∙ count-below (count k) (x k) (sign-told (x k) k.known_told-1.given.0.1 c.if-n-lt0.true))
+    sym (ap (is_count (count k)) (seen k) ∙ count-below (count k) (x k) (sign-told (x k) k.in-Number.known_told-1-own.given.0.1 c.if-n-lt0.true))
 
 cast-said : tie.Need-overflow_cast-said
-cast-said c = asks-usize (x c.before) c.known_told-1.given.0.1 c.if-n-lt0.false
+cast-said c = asks-usize (x c.before) c.in-Number.known_told-1-own.given.0.1 c.if-n-lt0.false
 
 returns-3 : tie.Need-returns
 returns-3 c =
     let k = c.before in
-    let fits = k.known_told-1.given.0.1 in
+    let fits = k.in-Number.known_told-1-own.given.0.1 in
     ap (λ (n : ℕ). eqb n (count k)) (usize-is (x k) fits) ∙ sym (ap (is_count (count k)) (seen k) ∙ count-from (count k) (x k) (sign-told (x k) fits c.if-n-lt0.false))
 
 pub is_count_spec : {M : Type 1} → statement M

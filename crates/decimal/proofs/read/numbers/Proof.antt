@@ -95,7 +95,7 @@ returns c =
     (sym (k.loop-at.invariant.3 ∙ read-bad _ _ k.loop-at.out k.loop-at.n m.loop-at-test.true (seen m ∙ c.in_default.is)), tt)
 
 cast-out : tie.Need-overflow_cast-out invariant-loop decreases-loop
-cast-out c = asks-narrow _ (x c) c.known_told-1.given.0.1 (is_number c)
+cast-out c = asks-narrow _ (x c) c.in-Number.known_told-1-own.given.0.1 (is_number c)
 
 mul-t8 : tie.Need-offset_bounds-out-n invariant-loop decreases-loop
 mul-t8 c = search rules
@@ -119,7 +119,7 @@ loop-again c =
       omega (arith, past c, k.loop-at.invariant),
       omega (arith, ends f),
       length-set k.loop-at.out k.loop-at.n _ ∙ k.loop-at.invariant.2,
-      k.loop-at.invariant.3 ∙ read_number _ _ _ _ f.loop-at-test.true f.end_of-end.ensures (room c) (narrow-is _ (x c) c.known_told-1.given.0.1 (is_number c)) (is_number c),
+      k.loop-at.invariant.3 ∙ read_number _ _ _ _ f.loop-at-test.true f.end_of-end.ensures (room c) (narrow-is _ (x c) c.in-Number.known_told-1-own.given.0.1 (is_number c)) (is_number c),
     )
 
 same-length-2 : tie.Need-shape_of-out invariant-loop decreases-loop

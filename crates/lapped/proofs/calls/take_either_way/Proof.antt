@@ -1,6 +1,5 @@
 -- `lapped::calls::take_either_way` meets its contract, either way.
 use borrow.Author.Rules.{rules}
-use borrow.Author.Tests.{not-true, not-false}
 use native.Mathlib.Omega.{arith}
 use mathlib.Core.Path.{◌≡◌, refl, sym, ap, ◌∙◌}
 use mathlib.Core.Bool.{true}
@@ -31,7 +30,7 @@ module _ (e : tie.Else-not-is_record) where
   from = e.before.before
 
   is-record : is_record (numbers from) ≡ true
-  is-record = sym e.is_record.ensures ∙ not-false _ e.if-not-is_record.false
+  is-record = sym e.is_record.ensures ∙ e.if-not-is_record.false
 
   room : length (numbers from) ≡ run_length
   room = has_room (numbers from) is-record
@@ -73,7 +72,7 @@ returns : tie.Need-returns-then-not-is_record
 returns c =
     let i = c in
     let s = i.before.before.before.before in
-    no_call (numbers s) s.args.given.now s.args.out.now (sym i.is_record.ensures ∙ not-true _ c.if-not-is_record.true) s.args.back _ c.tell.ensures
+    no_call (numbers s) s.args.given.now s.args.out.now (sym i.is_record.ensures ∙ c.if-not-is_record.true) s.args.back _ c.tell.ensures
 
 front-requires : tie.Need-front-head-requires
 front-requires c κs = is-record c

@@ -9,7 +9,7 @@ use Rattle.reels.specs.Reel.{frame_line}
 use Rattle.reel_lines.proofs.frame.take_row.Statement.{statement}
 use Rattle.reel_lines.proofs.frame.take_row.Tie as tie
 
-room : (c : tie.In-Numbers-2) → c.in-Numbers.n ≤ 1024
+room : (c : tie.In-Numbers) → c.in-Numbers.n ≤ 1024
 unfolding count_within
 room c = subst (count_within 1024) c.in-Numbers.is c.numbers-fields.ensures.1
 
@@ -33,16 +33,16 @@ unfolding frame_line shown_as
 returns c =
     let at-numbers2 = c in
     let s = at-numbers2.args in
-    let r = at-numbers2.numbers2 in
-    c.by.ensures ∙ sym (ap (frame_line s.reel) (sym r.ensures.0 ∙ ap (λ f. shown_as f r.new.1.0) c.in_default.is))
+    let r = at-numbers2.numbers-fields in
+    c.by.ensures ∙ sym (ap (frame_line s.reel) (sym r.ensures.0 ∙ ap (λ f. shown_as f r.new.out) c.in_default.is))
 
 array-share-prefix-numbers : tie.Need-slice_bounds-numbers-end-2
-array-share-prefix-numbers c = omega (arith, room c.before, c.numbers-2-1.given)
+array-share-prefix-numbers c = omega (arith, room c, c.numbers-2-1.given)
 
 slice-aggregate-take-frame : tie.Need-slice_bounds-take_frame-end
 slice-aggregate-take-frame c =
     let at-numbers3 = c in
-    sym (length-take-le _ _ (omega (arith, room c.before.before, at-numbers3.numbers-2-1.given)))
+    sym (length-take-le _ _ (omega (arith, room c.before, at-numbers3.numbers-2-1.given)))
 
 take-frame-requires : tie.Need-take_frame-requires
 take-frame-requires c κs = let start = c in start.requires.0
@@ -52,8 +52,8 @@ unfolding shown_as
 returns-2 c =
     let at-numbers2 = c in
     let s = at-numbers2.args in
-    let r = at-numbers2.numbers2 in
-    c.take_frame.ensures ∙ sym (ap (frame_line s.reel) (sym r.ensures.0 ∙ ap (λ f. shown_as f r.new.1.0) c.in-Numbers.is))
+    let r = at-numbers2.numbers-fields in
+    c.take_frame.ensures ∙ sym (ap (frame_line s.reel) (sym r.ensures.0 ∙ ap (λ f. shown_as f r.new.out) c.in-Numbers.is))
 
 pub take_row_spec : {M : Type 1} → statement M
 take_row_spec =

@@ -50,10 +50,10 @@ returns-2 : tie.Need-returns-then-width-lt0
 returns-2 c =
     let k = c.before.before in
     let s = k.args in
-    c.by-then-width-lt0.ensures ∙ below s.reel (x k) (sign-told (x k) k.known_told-1.given.0.1 c.if-width-lt0.true) ∙ sym (ap (width_line s.reel) k.in-Number.is)
+    c.by-then-width-lt0.ensures ∙ below s.reel (x k) (sign-told (x k) k.in-Number.known_told-1-own.given.0.1 c.if-width-lt0.true) ∙ sym (ap (width_line s.reel) k.in-Number.is)
 
 cast-start-run : tie.Need-overflow_cast-width
-cast-start-run c = asks-usize (x c.before) c.known_told-1.given.0.1 c.if-width-lt0.false
+cast-start-run c = asks-usize (x c.before) c.in-Number.known_told-1-own.given.0.1 c.if-width-lt0.false
 
 start-run-requires : tie.Need-start_run-requires
 start-run-requires c κs = let start = c in start.requires
@@ -62,7 +62,7 @@ returns-3 : tie.Need-returns
 returns-3 c =
     let k = c.before.before in
     let s = k.args in
-    let fits = k.known_told-1.given.0.1 in
+    let fits = k.in-Number.known_told-1-own.given.0.1 in
     c.start_run.ensures
     ∙ ap (started s.reel) (usize-is (x k) fits)
     ∙ from s.reel (x k) (sign-told (x k) fits c.if-width-lt0.false)

@@ -46,7 +46,7 @@ unfolding end_in input_ended
 returns-3 c =
     let k = c in
     let state = k.args.state in
-    let total = (held-ok w64 _ k.known_told-1.given.0.1).is in
+    let total = (held-ok w64 _ k.in-Ended.known_told-1-own.given.0.1).is in
     (c.finish.ensures.0 ∙ ap (λ (t : ℤ). end_in (Ended t) state) total ∙ sym (ap (λ p. end_in p state) k.in-Ended.is), c.finish.ensures.1)
 
 returns-4 : tie.Need-returns-in-Over

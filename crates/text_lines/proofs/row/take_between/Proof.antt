@@ -19,7 +19,7 @@ module _ (k : tie.In-Number) where
   total = k.in-Number.total
 
   total-is : to_z w64 (of_z w64 total) ≡ total
-  total-is = (held-ok w64 _ k.known_told-1.given.0.1).is
+  total-is = (held-ok w64 _ k.in-Number.known_told-1-own.given.0.1).is
 
 end-total-requires : tie.Need-end_total-end-requires
 end-total-requires c κs = search rules

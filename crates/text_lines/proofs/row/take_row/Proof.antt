@@ -9,7 +9,7 @@ use Rattle.text_runs.specs.Line.{row_taken}
 use Rattle.text_lines.proofs.row.take_row.Statement.{statement}
 use Rattle.text_lines.proofs.row.take_row.Tie as tie
 
-room : (c : tie.In-Numbers-2) → c.in-Numbers.n ≤ 1024
+room : (c : tie.In-Numbers) → c.in-Numbers.n ≤ 1024
 unfolding count_within
 room c = subst (count_within 1024) c.in-Numbers.is c.numbers-fields.ensures.1
 
@@ -33,16 +33,16 @@ unfolding row_taken shown_as
 returns c =
     let at-numbers2 = c in
     let s = at-numbers2.args in
-    let r = at-numbers2.numbers2 in
-    (c.bad_form.ensures.0 ∙ sym (ap (row_taken s.state) (sym r.ensures.0 ∙ ap (λ f. shown_as f r.new.1.0) c.in_default.is)), c.bad_form.ensures.1)
+    let r = at-numbers2.numbers-fields in
+    (c.bad_form.ensures.0 ∙ sym (ap (row_taken s.state) (sym r.ensures.0 ∙ ap (λ f. shown_as f r.new.out) c.in_default.is)), c.bad_form.ensures.1)
 
 array-share-prefix-numbers : tie.Need-slice_bounds-numbers-end-2
-array-share-prefix-numbers c = omega (arith, room c.before, c.numbers-2-1.given)
+array-share-prefix-numbers c = omega (arith, room c, c.numbers-2-1.given)
 
 slice-aggregate-take-numbers : tie.Need-slice_bounds-take_numbers-end
 slice-aggregate-take-numbers c =
     let at-numbers3 = c in
-    sym (length-take-le _ _ (omega (arith, room c.before.before, at-numbers3.numbers-2-1.given)))
+    sym (length-take-le _ _ (omega (arith, room c.before, at-numbers3.numbers-2-1.given)))
 
 take-numbers-requires : tie.Need-take_numbers-requires
 take-numbers-requires c κs = search rules
@@ -52,8 +52,8 @@ unfolding row_taken shown_as
 returns-2 c =
     let at-numbers2 = c in
     let s = at-numbers2.args in
-    let r = at-numbers2.numbers2 in
-    (c.take_numbers.ensures.0 ∙ sym (ap (row_taken s.state) (sym r.ensures.0 ∙ ap (λ f. shown_as f r.new.1.0) c.in-Numbers.is)), c.take_numbers.ensures.1)
+    let r = at-numbers2.numbers-fields in
+    (c.take_numbers.ensures.0 ∙ sym (ap (row_taken s.state) (sym r.ensures.0 ∙ ap (λ f. shown_as f r.new.out) c.in-Numbers.is)), c.take_numbers.ensures.1)
 
 pub take_row_spec : {M : Type 1} → statement M
 take_row_spec =

@@ -46,11 +46,11 @@ returns-2 : tie.Need-returns-then-width-lt0
 returns-2 c =
     let k = c.before.before in
     let s = k.args in
-    let told = sign-told (x k) k.known_told-1.given.0.1 c.if-width-lt0.true in
+    let told = sign-told (x k) k.in-Number.known_told-1-own.given.0.1 c.if-width-lt0.true in
     (c.by.ensures.0 ∙ below s.state (x k) told ∙ sym (ap (width_taken s.state) k.in-Number.is), c.by.ensures.1)
 
 cast-start-run : tie.Need-overflow_cast-width
-cast-start-run c = asks-usize (x c.before) c.known_told-1.given.0.1 c.if-width-lt0.false
+cast-start-run c = asks-usize (x c.before) c.in-Number.known_told-1-own.given.0.1 c.if-width-lt0.false
 
 start-run-requires : tie.Need-start_run-requires
 start-run-requires c κs = search rules
@@ -59,7 +59,7 @@ returns-3 : tie.Need-returns
 returns-3 c =
     let k = c.before.before in
     let s = k.args in
-    let fits = k.known_told-1.given.0.1 in (
+    let fits = k.in-Number.known_told-1-own.given.0.1 in (
       c.start_run.ensures.0
           ∙ ap (width_started s.state) (usize-is (x k) fits)
           ∙ from s.state (x k) (sign-told (x k) fits c.if-width-lt0.false)

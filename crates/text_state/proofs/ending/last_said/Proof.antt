@@ -1,7 +1,6 @@
 -- `text_state::ending::last_said` meets its contract.
 use borrow.Author.Rules.{rules}
 use native.Mathlib.Omega.{arith}
-use borrow.Author.Tests.{not-true, not-false}
 use mathlib.Core.Path.{◌≡◌, sym, ap, ◌∙◌}
 use Prim.Native.Nat.{◌-◌, ◌≤◌}
 use lib.ListN.{length, drop, length-drop, length-take}
@@ -24,7 +23,7 @@ same-requires c κs = search rules
 
 returns-2 : tie.Need-returns-then-not-same
 unfolding refused_tag
-returns-2 c = sym (said-other _ (sym c.same.ensures ∙ not-true _ c.if-not-same.true))
+returns-2 c = sym (said-other _ (sym c.same.ensures ∙ c.if-not-same.true))
 
 end-of-requires : tie.Need-end_of-end-requires
 end-of-requires c κs = search rules
@@ -58,7 +57,7 @@ returns-3 c =
     let bytes = start.args.text.now in
     c.refused_by.ensures
     ∙ ap (λ bs. refused_by (numbers_in bs)) (part_cut 10 bytes 8 _ c.end_of-end.ensures)
-    ∙ sym (said-refused bytes (sym t.same.ensures ∙ not-false _ c.if-not-same.false))
+    ∙ sym (said-refused bytes (sym t.same.ensures ∙ c.if-not-same.false))
 
 pub last_said_spec : {M : Type 1} → statement M
 last_said_spec =

@@ -47,9 +47,8 @@ returns-3 c =
     let n = c in
     let b = n in
     let t = b in
-    let x = t.ending-1.given in
-    let same = refused_as (held-ok w32 _ t.known_told-1.given.0.1).is (held-ok w32 _ t.known_told-1.given.1.0.1).is (held-ok w32 _ t.known_told-1.given.1.1.0.1).is in (
-      put_as _ _ _ _ (ap ending_line same ∙ sym (ap ending_line x.1)) (put_then b.bytes-n.ensures n.row_line.ensures.0),
+    let same = refused_as (held-ok w32 _ t.in-Refused.known_told-1-own.given.0.1).is (held-ok w32 _ t.in-Refused.known_told-1-own.given.1.0.1).is (held-ok w32 _ t.in-Refused.known_told-1-own.given.1.1.0.1).is in (
+      put_as _ _ _ _ (ap ending_line same ∙ sym (ap ending_line t.in-Refused.is)) (put_then b.bytes-n.ensures n.row_line.ensures.0),
       omega (arith, b.bytes-n.ensures.count, n.row_line.ensures.1),
     )
 

@@ -1,6 +1,5 @@
 -- `valve_moves::questions::in_limits` meets its contract.
 use borrow.Author.Rules.{rules}
-use borrow.Author.Tests.{not-true, not-false}
 use mathlib.Core.Path.{◌≡◌, refl, sym, ap, ◌∙◌}
 use lib.IntN.{ℤ, pos}
 use mathlib.Core.Bool.{Bool}
@@ -15,14 +14,14 @@ travelled c = c.in_travel.ensures ∙ ap in_travel (held w32 _ c.ranges.position
 
 returns : tie.Need-returns-then-not-in_travel
 unfolding in_limits
-returns c = let t = c.before in rw (sym (travelled t) ∙ not-true _ c.if-not-in_travel.true) refl
+returns c = let t = c.before in rw (sym (travelled t) ∙ c.if-not-in_travel.true) refl
 
 returns-2 : tie.Need-returns
 unfolding in_limits
 returns-2 c =
     let e = c in
     let s = e in
-    c.between.ensures ∙ ap (between (pos 0) (pos count_limit)) (held w32 _ s.ranges.count).is ∙ rw (sym (travelled e.before.before) ∙ not-false _ e.if-not-in_travel.false) refl
+    c.between.ensures ∙ ap (between (pos 0) (pos count_limit)) (held w32 _ s.ranges.count).is ∙ rw (sym (travelled e.before.before) ∙ e.if-not-in_travel.false) refl
 
 pub in_limits_spec : {M : Type 1} → statement M
 in_limits_spec = tie.close (tie.spec (λ c κs. search rules) returns (λ c κs. search rules) returns-2)

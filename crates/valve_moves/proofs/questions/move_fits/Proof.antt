@@ -1,6 +1,5 @@
 -- `valve_moves::questions::move_fits` meets its contract.
 use borrow.Author.Rules.{rules}
-use borrow.Author.Tests.{not-true, not-false}
 use mathlib.Core.Path.{◌≡◌, refl, sym, ap, subst, ◌∙◌}
 use mathlib.Core.Bool.{true}
 use lib.IntN.{ℤ, pos, neg_ℤ, nat_abs, ◌+ℤ◌}
@@ -27,13 +26,13 @@ module _ (e : tie.Else-not-between) where
   s = e.before.before
 
   small : between (neg_ℤ (pos greatest_move)) (pos greatest_move) s.args.steps ≡ true
-  small = sym (is-between e.before) ∙ not-false _ e.if-not-between.false
+  small = sym (is-between e.before) ∙ e.if-not-between.false
 
   fits : SFits w32 (s.args.position +ℤ s.args.steps)
   fits = moved-fits _ _ s.requires small
 
 returns : tie.Need-returns-then-not-between
-returns c = rw (sym (is-between c.before) ∙ not-true _ c.if-not-between.true) refl
+returns c = rw (sym (is-between c.before) ∙ c.if-not-between.true) refl
 
 add-in-travel : tie.Need-overflow_add-position
 add-in-travel c = asks-add (position (s c)) (steps (s c)) (fits c)

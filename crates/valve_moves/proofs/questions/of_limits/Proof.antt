@@ -1,6 +1,5 @@
 -- `valve_moves::questions::of_limits` meets its contract.
 use borrow.Author.Rules.{rules}
-use borrow.Author.Tests.{not-true, not-false}
 use mathlib.Core.Path.{◌≡◌, refl, sym, ap₂, ◌∙◌}
 use mathlib.Core.Bool.{true}
 use lib.IntN.{ℤ}
@@ -34,22 +33,22 @@ fits-are : (c : tie.After-move_fits) → let s = c.before.before.before in c.mov
 fits-are c = let s = c.before.before.before in c.move_fits.ensures ∙ ap₂ move_fits (position s).is (steps s).is
 
 in-limits : (e : tie.Else-not-in_limits) → in_limits (valve e.before.before) ≡ true
-in-limits e = sym (limits-are e.before) ∙ not-false _ e.if-not-in_limits.false
+in-limits e = sym (limits-are e.before) ∙ e.if-not-in_limits.false
 
 returns : tie.Need-returns-then-not-in_limits
 unfolding ask move_allowed
-returns c = rw (sym (limits-are c.before) ∙ not-true _ c.if-not-in_limits.true) refl
+returns c = rw (sym (limits-are c.before) ∙ c.if-not-in_limits.true) refl
 
 move-fits-requires : tie.Need-move_fits-requires
 move-fits-requires c κs = let s = c.before.before in rw (position s).is (limits-travel (valve s) (in-limits c))
 
 returns-2 : tie.Need-returns-then-not-move_fits
 unfolding ask move_allowed
-returns-2 c = let f = c.before in rw (in-limits f.before, sym (fits-are f) ∙ not-true _ c.if-not-move_fits.true) refl
+returns-2 c = let f = c.before in rw (in-limits f.before, sym (fits-are f) ∙ c.if-not-move_fits.true) refl
 
 returns-3 : tie.Need-returns
 unfolding ask move_allowed
-returns-3 c = let f = c.before in rw (in-limits f.before, sym (fits-are f) ∙ not-false _ c.if-not-move_fits.false) refl
+returns-3 c = let f = c.before in rw (in-limits f.before, sym (fits-are f) ∙ c.if-not-move_fits.false) refl
 
 pub of_limits_spec : {M : Type 1} → statement M
 of_limits_spec =
