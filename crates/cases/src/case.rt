@@ -1,7 +1,8 @@
 // One case.
 ghost use Rattle.std.specs.Prelude.{◌≡◌, ◌≤◌, length};
 
-use crate::{call, line};
+use crate::call;
+use case_lines::line;
 use runs::answer::Answer;
 use runs::record::{Outcome, Run};
 use runs::{answer, record};

@@ -2,22 +2,22 @@
 // and numbers with commas between them, where 0*64 stands for 64 zeros. The numbers are
 //     total before, total after, kind, times, answer, place, length of the input, record before, record after, input, output
 // and a record is its width, its count, 1 if it is finished and else 0, and 64 held values; its total has 64 bits, and stands in front. Every place of
-// an output is 7 before the call. The kinds are in `call`. The lines of records.txt, calls.txt and valve.txt are told in `sound`, `series`, `valve`.
+// an output is 7 before the call. The kinds are in `call`. The lines of records.txt and calls.txt are told in `sound` and `series`.
 #![tactic(auto)]
 
 mod call;
 mod case;
-mod line;
 mod series;
 mod sound;
-mod valve;
 
 ghost use Rattle.std.specs.Prelude.{◌≡◌, ◌≤◌, length};
 
 use calls_forward::forward;
 use case::Totals;
+use case_lines::{line, report, stored};
 use runs::record::Run;
 use series::Given;
+use std::rt::Files;
 use text_runs::number::Field;
 
 // What the lines of a file are.
@@ -26,14 +26,6 @@ enum Table {
     Cases,
     Records,
     Calls,
-    Valve,
-}
-
-// Room for a file. The `ensures` gives the length, which lending it needs.
-fn text_room() -> [u8; 131072]
-    ensures { 131072 ≡ length result }
-{
-    [0; 131072]
 }
 
 // Room for the numbers of a line, which are 65,538 frames of 8 and 147 more in the longest.
@@ -41,11 +33,6 @@ fn number_room() -> [i32; 525000]
     ensures { 525000 ≡ length result }
 {
     [0; 525000]
-}
-
-fn count(text: &[u8], n: usize) {
-    io::write_all(1, text);
-    io::print_decimal(1, n as u64);
 }
 
 // A case without its name. A line that is no case does not agree.
@@ -82,28 +69,7 @@ fn tried(table: Table, run: Run, text: &[u8]) -> Given {
             same: sound::agrees(text),
         },
         Table::Calls => series::next(run, text),
-        Table::Valve => Given {
-            run: run,
-            same: valve::agrees(text),
-        },
     }
-}
-
-// 1 for a line that differs, whose number is printed, and 0 for one that does not.
-fn differs(number: usize, same: bool) -> usize
-    ensures { result ≤ 1 }
-{
-    if same {
-        return 0;
-    }
-    count(b"\nline ", number);
-    1
-}
-
-fn total(cases: usize, differ: usize) {
-    count(b"\ncases ", cases);
-    count(b", differ ", differ);
-    io::write_all(1, b"\n");
 }
 
 // The record after a line, and what the line adds to the counts.
@@ -115,7 +81,7 @@ struct Added {
 }
 
 // A remark adds nothing.
-fn counted(table: Table, run: Run, number: usize, text: &[u8]) -> Added
+fn counted<P: Print>(rt: &P, table: Table, run: Run, number: usize, text: &[u8]) -> Added
     ensures { (result.differ ≤ result.cases) × (result.cases ≤ 1) }
 {
     if line::is(text, 0, b' ', b"#") {
@@ -130,11 +96,11 @@ fn counted(table: Table, run: Run, number: usize, text: &[u8]) -> Added
     Added {
         run: after,
         cases: 1,
-        differ: differs(number, given.same),
+        differ: report::differs(rt, number, given.same),
     }
 }
 
-fn each(table: Table, text: &[u8]) {
+fn each<P: Print>(rt: &P, table: Table, text: &[u8]) {
     let mut run = forward::start(0).run;
     let mut lines: usize = 0;
     let mut cases: usize = 0;
@@ -143,30 +109,27 @@ fn each(table: Table, text: &[u8]) {
     while at < text.len() {
         let end = line::end(text, at, b'\n');
         lines += 1;
-        let line = counted(table, run, lines, &text[at..end]);
+        let line = counted(rt, table, run, lines, &text[at..end]);
         run = line.run;
         cases += line.cases;
         differ += line.differ;
         at = end + 1;
     }
-    total(cases, differ);
+    report::total(rt, cases, differ);
 }
 
 // A file that cannot be read has no case.
-fn file(table: Table, name: &[u8]) {
-    io::write_all(1, name);
-    let opened = os::open_read(name);
-    let mut buffer = text_room();
-    let n = io::read_full(opened, &mut buffer);
-    libc::close(opened);
-    each(table, &buffer[..n]);
+fn file<R: Files + Print>(rt: &R, table: Table, name: &str) {
+    let _ = print!(rt; "{name}");
+    let mut buffer = stored::text_room();
+    let n = stored::read(rt, name, &mut buffer);
+    each(rt, table, &buffer[..n]);
 }
 
-fn main() {
-    file(Table::Cases, b"forward");
-    file(Table::Cases, b"back");
-    file(Table::Cases, b"stages");
-    file(Table::Records, b"records.txt");
-    file(Table::Calls, b"calls.txt");
-    file(Table::Valve, b"valve.txt");
+fn main(rt: HostRuntime) {
+    file(&rt, Table::Cases, "forward");
+    file(&rt, Table::Cases, "back");
+    file(&rt, Table::Cases, "stages");
+    file(&rt, Table::Records, "records.txt");
+    file(&rt, Table::Calls, "calls.txt");
 }

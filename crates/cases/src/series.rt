@@ -1,8 +1,9 @@
 // Calls one after another, each with the record that the one before handed back. A line of calls.txt is a call, and what it tells:
 //     start WIDTH | block READINGS LENGTH | finish LENGTH | frame COEFFICIENTS LENGTH | finish_back 0   -> number place count total
 // The length is that of the output. A list of no number is a -.
-use crate::{call, case, line};
+use crate::{call, case};
 use calls_forward::forward;
+use case_lines::line;
 use runs::answer;
 use runs::record::{Outcome, Run};
 use text_runs::number::Field;

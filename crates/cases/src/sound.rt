@@ -3,7 +3,8 @@
 // Held values that are not zero are given as place:value, parted by commas; there is a - where all are zero.
 ghost use Rattle.std.specs.Prelude.{◌≤◌};
 
-use crate::{call, line};
+use crate::call;
+use case_lines::line;
 use runs::record::Run;
 use runs::{answer, record};
 use text_runs::number::Field;

@@ -7,6 +7,7 @@ use calls_forward::forward;
 use decimal::print;
 use runs::answer;
 use runs::record::Outcome;
+use std::io::Write;
 
 // One block of width 8, and the finish. Each call has an output of its own.
 fn sample(one: &mut [i32], two: &mut [i32]) -> Outcome {
@@ -20,32 +21,33 @@ fn sample(one: &mut [i32], two: &mut [i32]) -> Outcome {
 }
 
 // A frame as one line: its numbers, parted by commas.
-fn show(frame: &[i32])
+fn show<W: Write>(output: &mut W, frame: &[i32])
     requires { length frame.now ≡ 8 }
 {
     let mut line = [0u8; 96];
     let n = print::numbers(&mut line, 0, frame);
-    io::write_all(1, &line[0..n]);
-    io::write_all(1, b"\n");
+    let _ = output.write_all(&line[0..n]);
+    let _ = output.write_all(b"\n");
 }
 
 // The end line of the two frames.
-fn show_end(total: i64) {
+fn show_end<W: Write>(output: &mut W, total: i64) {
     let mut line = [0u8; 96];
     let n = print::end_line(&mut line, 0, 2, total);
-    io::write_all(1, &line[0..n]);
-    io::write_all(1, b"\n");
+    let _ = output.write_all(&line[0..n]);
+    let _ = output.write_all(b"\n");
 }
 
-fn main() {
+fn main(rt: HostRuntime) {
+    let mut output = rt.stdout();
     let mut one = [0; 8];
     let mut two = [0; 8];
     let last = sample(&mut one, &mut two);
     let answer = last.answer;
     let run = last.run;
     if answer::number(answer) == 0 {
-        show(&one);
-        show(&two);
-        show_end(run.total);
+        show(&mut output, &one);
+        show(&mut output, &two);
+        show_end(&mut output, run.total);
     }
 }

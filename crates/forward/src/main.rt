@@ -1,10 +1,24 @@
 // Readings on standard input to frames on standard output.
 #![tactic(auto)]
 
+use pieces::reading;
+use pieces::reading::Source;
+use pieces::writing::Target;
 use stream::run;
 use text_runs::state::Way;
 
-fn main() {
-    let mut buffer = io::large_buffer();
-    run::tell(run::run(Way::Forward, 0, 1, &mut buffer));
+fn main(rt: HostRuntime) {
+    let mut buffer = reading::large_buffer();
+    let mut input = Source {
+        input: rt.stdin(),
+        errors: rt.stderr(),
+    };
+    let mut output = Target {
+        output: rt.stdout(),
+        errors: rt.stderr(),
+    };
+    run::tell(
+        run::run(Way::Forward, &mut input, &mut output, &mut buffer),
+        &mut rt.stderr(),
+    );
 }

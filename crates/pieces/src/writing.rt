@@ -1,10 +1,66 @@
 // Writes what is printed.
+ghost use Rattle.std.specs.Prelude.{◌≤◌, length};
+
+use decimal::search;
+use std::io;
+use std::io::Write;
+
+// An output, and where it is told that a write to it has failed.
+#[derive(Drop)]
+pub struct Target<W, E> {
+    pub output: W,
+    pub errors: E,
+}
+
+// Writes a text, or stops at the first write that takes nothing or fails, and answers whether all of it is written.
+pub fn put<W: Write>(output: &mut W, text: &[u8]) -> bool {
+    let mut done = 0;
+    while done < text.len() {
+        match output.write(&text[done..]) {
+            Ok(n) if 0 < n => done += n,
+            _ => return false,
+        }
+    }
+    true
+}
 
 // A program has no exit status, so it says on standard error that its output is not whole.
-pub fn write(output: i32, text: &[u8]) -> bool {
-    if io::write_all(output, text) {
+pub fn write<W: Write, E: Write>(output: &mut Target<W, E>, text: &[u8]) -> bool {
+    if put(&mut output.output, text) {
         return true;
     }
-    io::write_all(libc::STDERR_FILENO, b"the output cannot be written\n");
+    put(&mut output.errors, b"the output cannot be written\n");
     false
+}
+
+// Where the words of the system end: behind them stands its number, ` (os error 21)`.
+fn words_end(text: &[u8]) -> usize
+    ensures { result ≤ length text.now }
+{
+    let number = search::end_of(text, 0, b'(');
+    if number == text.len() {
+        return number;
+    }
+    number.saturating_sub(1)
+}
+
+// Puts the system's words at the start of a text.
+fn reason(why: &io::Error, text: &mut [u8; 256]) -> usize
+    ensures { result ≤ 256 }
+{
+    let mut rest = &mut text[..];
+    let _ = write!(rest, "{why}");
+    let left = rest.len();
+    let told = text.len().saturating_sub(left);
+    words_end(&text[..told])
+}
+
+// Writes a line to standard error: what failed, as the caller names it, a colon and the system's words.
+pub fn fail<E: Write>(errors: &mut E, what: &[u8], why: &io::Error) {
+    let mut text = [0u8; 256];
+    let n = reason(why, &mut text);
+    put(errors, what);
+    put(errors, b": ");
+    put(errors, &text[..n]);
+    put(errors, b"\n");
 }

@@ -9,14 +9,21 @@ ghost use Rattle.reel_stream.specs.Run.{Finished, EndedAs};
 
 use crate::piece;
 use crate::piece::Progress;
-use pieces::reading::PieceRead;
+use pieces::reading::{PieceRead, Source};
+use pieces::writing::Target;
 use pieces::{reading, writing};
 use reel_page::page;
 use reels::reel;
 use reels::reel::ReelPhase;
+use std::io::{Read, Write};
 
 // The end of the input. Where the last of it cannot be written, the reel did not end.
-fn end_input(output: i32, line: &[u8], out: &mut [u8], progress: Progress) -> ReelPhase
+fn end_input<W: Write, E: Write>(
+    output: &mut Target<W, E>,
+    line: &[u8],
+    out: &mut [u8],
+    progress: Progress,
+) -> ReelPhase
     requires came { Came reel_program reel_begun line.now (place_of progress) }
     requires within_limits { WithinLimits progress.reel × (length line.now ≡ 2048) × (progress.had ≤ 2048) × (progress.waiting ≡ 0) × (most_printed + most_printed ≤ length out.old) }
     ensures { Finished result out.new }
@@ -31,11 +38,15 @@ fn end_input(output: i32, line: &[u8], out: &mut [u8], progress: Progress) -> Re
 }
 
 // Reads pieces of at most the buffer's length. It answers the phase that the reel came to, or `FirstRun` where reading or writing failed.
-pub fn run(input: i32, output: i32, buffer: &mut [u8]) -> ReelPhase
+pub fn run<R: Read, W: Write, E: Write>(
+    input: &mut Source<R, E>,
+    output: &mut Target<W, E>,
+    buffer: &mut [u8],
+) -> ReelPhase
     ensures { EndedAs result }
 {
     let mut line = [0u8; 2048];
-    let mut out = io::large_buffer();
+    let mut out = reading::large_buffer();
     let fresh = reel::begin();
     let mut progress = Progress {
         reel: fresh,
@@ -69,8 +80,8 @@ pub fn run(input: i32, output: i32, buffer: &mut [u8]) -> ReelPhase
 }
 
 // A refusal's line on standard error, for whoever keeps standard output.
-pub fn tell(phase: ReelPhase) {
+pub fn tell<E: Write>(phase: ReelPhase, errors: &mut E) {
     let mut text = [0u8; 71];
     let n = page::refusal(phase, &mut text, 0);
-    io::write_all(libc::STDERR_FILENO, &text[..n]);
+    writing::put(errors, &text[..n]);
 }

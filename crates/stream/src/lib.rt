@@ -1,4 +1,4 @@
-// The text programs: the loop from one file descriptor to another.
+// The text programs: the loop from an input to an output.
 #![tactic(auto)]
 
 pub mod run;

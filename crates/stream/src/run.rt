@@ -6,15 +6,23 @@ ghost use Rattle.text_pieces.specs.Text.{place_of};
 ghost use Rattle.stream.specs.Run.{Finished, EndedAs};
 
 use feeding::session::Ending;
-use pieces::reading::PieceRead;
+use pieces::reading::{PieceRead, Source};
+use pieces::writing::Target;
 use pieces::{reading, writing};
+use std::io::{Read, Write};
 use text_pieces::piece::Progress;
 use text_pieces::{piece, session};
 use text_runs::state::Way;
 use text_state::ending;
 
 // The end of the input. Where the last of it cannot be written, the run did not end.
-fn end_input(way: Way, output: i32, line: &[u8], out: &mut [u8], progress: Progress) -> Ending
+fn end_input<W: Write, E: Write>(
+    way: Way,
+    output: &mut Target<W, E>,
+    line: &[u8],
+    out: &mut [u8],
+    progress: Progress,
+) -> Ending
     requires came { Came text_program (session_begun way) line.now (place_of progress) }
     requires line_len { (length line.now ≡ 2048) × (progress.had ≤ 2048) × (progress.waiting ≡ 0) × (4096 ≤ length out.old) }
     ensures { Finished way result out.new }
@@ -29,11 +37,16 @@ fn end_input(way: Way, output: i32, line: &[u8], out: &mut [u8], progress: Progr
 }
 
 // Reads pieces of at most the buffer's length, each answered before the next one, so that a live input is answered as it comes.
-pub fn run(way: Way, input: i32, output: i32, buffer: &mut [u8]) -> Ending
+pub fn run<R: Read, W: Write, E: Write>(
+    way: Way,
+    input: &mut Source<R, E>,
+    output: &mut Target<W, E>,
+    buffer: &mut [u8],
+) -> Ending
     ensures { EndedAs way result }
 {
     let mut line = [0u8; 2048];
-    let mut out = io::large_buffer();
+    let mut out = reading::large_buffer();
     let fresh = session::begin(way);
     let mut progress = Progress {
         session: fresh,
@@ -67,8 +80,8 @@ pub fn run(way: Way, input: i32, output: i32, buffer: &mut [u8]) -> Ending
 }
 
 // A refusal's line on standard error, for whoever keeps standard output.
-pub fn tell(ending: Ending) {
+pub fn tell<E: Write>(ending: Ending, errors: &mut E) {
     let mut text = [0u8; 64];
     let n = ending::refusal_line(ending, &mut text);
-    io::write_all(libc::STDERR_FILENO, &text[..n]);
+    writing::put(errors, &text[..n]);
 }
