@@ -4,6 +4,9 @@ ghost use Rattle.std.specs.Prelude.{◌≤◌};
 use crate::files;
 use crate::files::Tried;
 use decimal::print;
+use pieces::writing;
+use std::fs::File;
+use std::io::Write;
 
 const BLOCKS: usize = 12000;
 
@@ -15,7 +18,7 @@ fn reading(i: usize, j: usize) -> i32
     n as i32
 }
 
-fn write_block(file: i32, i: usize)
+fn write_block<W: Write>(file: &mut W, i: usize)
     requires { i ≤ 12000 }
 {
     let mut block = [0i32; 8];
@@ -27,35 +30,37 @@ fn write_block(file: i32, i: usize)
     let mut text = [0u8; 128];
     let n = print::numbers(&mut text, 0, &block);
     let m = print::bytes(&mut text, n, b"\n");
-    io::write_all(file, &text[..m]);
+    writing::put(file, &text[..m]);
 }
 
 // The total is 96 times the sum of 0 to 999: at each place every number comes twelve times.
-fn write_run(file: i32) {
-    io::write_all(file, b"8\n");
+fn write_run<W: Write>(file: &mut W) {
+    writing::put(file, b"8\n");
     let mut i = 0;
     while i < BLOCKS {
         write_block(file, i);
         i += 1;
     }
-    io::write_all(file, b"end,12000,47952000\n");
+    writing::put(file, b"end,12000,47952000\n");
 }
 
 // The run forward into one file and back into another gives its own bytes again.
-pub fn show(one: i32, other: i32, length: usize)
+pub fn show(rt: &HostRuntime, one: &mut File, other: &mut File, length: usize)
     requires { length ≤ 65536 }
 {
-    let readings = files::temporary();
-    write_run(readings);
-    files::rewind(readings);
+    let Some(mut readings) = files::temporary(rt) else {
+        return;
+    };
+    write_run(&mut readings);
+    files::rewind(&mut readings);
     files::empty(one);
-    files::pass(Tried::Forward, readings, one, length);
+    files::pass(rt, Tried::Forward, &mut readings, one, length);
     files::rewind(one);
     files::empty(other);
-    files::pass(Tried::Back, one, other, length);
+    files::pass(rt, Tried::Back, one, other, length);
     files::say(
-        files::same(readings, other),
+        &mut rt.stdout(),
+        files::same(&mut readings, other),
         b"after 12000 blocks forward and back\n",
     );
-    libc::close(readings);
 }

@@ -7,12 +7,16 @@ mod samples;
 
 use files::Tried;
 
-fn main() {
-    let one = files::temporary();
-    let other = files::temporary();
-    samples::show_listed(Tried::Forward, b"forward_runs", one, other);
-    samples::show_listed(Tried::Back, b"back_runs", one, other);
-    samples::show_listed(Tried::Squares, b"squares_runs", one, other);
-    long::show(one, other, 65536);
-    long::show(one, other, 7);
+fn main(rt: HostRuntime) {
+    let Some(mut one) = files::temporary(&rt) else {
+        return;
+    };
+    let Some(mut other) = files::temporary(&rt) else {
+        return;
+    };
+    samples::show_listed(&rt, Tried::Forward, b"forward_runs", &mut one, &mut other);
+    samples::show_listed(&rt, Tried::Back, b"back_runs", &mut one, &mut other);
+    samples::show_listed(&rt, Tried::Squares, b"squares_runs", &mut one, &mut other);
+    long::show(&rt, &mut one, &mut other, 65536);
+    long::show(&rt, &mut one, &mut other, 7);
 }

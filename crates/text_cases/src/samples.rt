@@ -4,6 +4,9 @@ ghost use Rattle.std.specs.Prelude.{◌≤◌};
 use crate::files;
 use crate::files::Tried;
 use decimal::search;
+use pieces::{reading, writing};
+use std::fs::File;
+use std::io::Write;
 
 // The lengths of the pieces, besides 65,536.
 fn piece_length(i: usize) -> usize
@@ -18,26 +21,23 @@ fn piece_length(i: usize) -> usize
     }
 }
 
-fn run_from(tried: Tried, name: &[u8], output: i32, length: usize)
+fn run_from<W: Write>(rt: &HostRuntime, tried: Tried, name: &[u8], output: &mut W, length: usize)
     requires { length ≤ 65536 }
 {
-    let opened = os::open_read(name);
-    if opened < 0 {
-        os::fail(name);
+    let Some(mut opened) = files::open(rt, name) else {
         return;
-    }
-    files::pass(tried, opened, output, length);
-    libc::close(opened);
+    };
+    files::pass(rt, tried, &mut opened, output, length);
 }
 
 // Whether the run prints the same in pieces of each length.
-fn agrees(tried: Tried, name: &[u8], one: i32, other: i32) -> bool {
+fn agrees(rt: &HostRuntime, tried: Tried, name: &[u8], one: &mut File, other: &mut File) -> bool {
     files::empty(one);
-    run_from(tried, name, one, 65536);
+    run_from(rt, tried, name, one, 65536);
     let mut i = 0;
     while i < 5 {
         files::empty(other);
-        run_from(tried, name, other, piece_length(i));
+        run_from(rt, tried, name, other, piece_length(i));
         if !files::same(one, other) {
             return false;
         }
@@ -46,34 +46,33 @@ fn agrees(tried: Tried, name: &[u8], one: i32, other: i32) -> bool {
     true
 }
 
-fn show(tried: Tried, name: &[u8], one: i32, other: i32) {
-    io::write_all(1, name);
-    io::write_all(1, b"\n");
-    run_from(tried, name, 1, 65536);
+fn show(rt: &HostRuntime, tried: Tried, name: &[u8], one: &mut File, other: &mut File) {
+    let mut output = rt.stdout();
+    writing::put(&mut output, name);
+    writing::put(&mut output, b"\n");
+    run_from(rt, tried, name, &mut output, 65536);
     files::say(
-        agrees(tried, name, one, other),
+        &mut output,
+        agrees(rt, tried, name, one, other),
         b"in pieces of 1, 7, 2047, 2048 and 2049 bytes\n",
     );
 }
 
 // One on a line.
-fn show_each(tried: Tried, list: &[u8], one: i32, other: i32) {
+fn show_each(rt: &HostRuntime, tried: Tried, list: &[u8], one: &mut File, other: &mut File) {
     let mut at = 0;
     while at < list.len() {
         let end = search::end_of(list, at, b'\n');
-        show(tried, &list[at..end], one, other);
+        show(rt, tried, &list[at..end], one, other);
         at = end + 1;
     }
 }
 
-pub fn show_listed(tried: Tried, name: &[u8], one: i32, other: i32) {
-    let opened = os::open_read(name);
-    if opened < 0 {
-        os::fail(name);
+pub fn show_listed(rt: &HostRuntime, tried: Tried, name: &[u8], one: &mut File, other: &mut File) {
+    let Some(mut opened) = files::open(rt, name) else {
         return;
-    }
-    let mut buffer = io::buffer();
-    let n = io::read_full(opened, &mut buffer);
-    libc::close(opened);
-    show_each(tried, &buffer[..n], one, other);
+    };
+    let mut buffer = [0u8; 4096];
+    let n = reading::read_full(&mut opened, &mut buffer);
+    show_each(rt, tried, &buffer[..n], one, other);
 }

@@ -33,8 +33,8 @@ loop-on-preserved g c =
     let k = c.loop-on.invariant in
     record {
       turns =
-        turn-again reel_program k.turns c.refill-filled.ensures c.refill-filled.auto.buffer c.loop-on-test.true c.take_piece-progress.ensures c.take_piece-progress.auto.line c.take_piece-progress.auto.out
-        (λ e. (c.reads_on-on.ensures.count_nonzero e).1);
+          turn-again reel_program k.turns c.refill-filled.ensures c.refill-filled.auto.buffer c.loop-on-test.true c.take_piece-progress.ensures c.take_piece-progress.auto.line c.take_piece-progress.auto.out
+          (λ e. (c.reads_on-on.ensures.count_nonzero e).1);
       same_buffer = c.refill-filled.auto.buffer ∙ k.same_buffer;
       same_out = c.take_piece-progress.auto.out ∙ k.same_out;
       stopped = λ e. record {
