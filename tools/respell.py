@@ -503,8 +503,18 @@ def turn(text, names, bare):
         word = re.compile(r"(?<!\.)" + word.pattern)
     return word.sub(lambda m: names[m[1]], text)
 
+def turned():
+    for path in glob.glob("crates/**/*.antt", recursive=True):
+        with open(path, encoding="utf-8") as f:
+            if "frame_on_lem" in f.read():
+                return True
+    return False
+
+
 def main():
     names, lemmas = table(NAMES), table(LEMMAS)
+    if turned():
+        raise SystemExit("the names have been turned already")
     for kind in ("rt", "antt", "edit"):
         for path in sorted(glob.glob(f"crates/**/*.{kind}", recursive=True)):
             if "/out/" in path:

@@ -14,16 +14,10 @@ use text_runs::state::Way;
 const TEMPORARY: &str = "lapped.temporary";
 
 // A file of its own in the folder that the program runs in, which is gone with the program.
-pub fn temporary(rt: &HostRuntime) -> Option<File> {
-    let made = match File::create_new(rt, TEMPORARY) {
-        Ok(file) => file,
-        Err(why) => {
-            writing::fail(&mut rt.stderr(), b"a temporary file", &why);
-            return None;
-        }
-    };
+pub fn temporary(rt: &HostRuntime) -> io::Result<File> {
+    let made = File::create_new(rt, TEMPORARY)?;
     let _ = fs::remove_file(rt, TEMPORARY);
-    Some(made)
+    Ok(made)
 }
 
 fn opened(rt: &HostRuntime, name: &[u8]) -> io::Result<File> {

@@ -6,6 +6,7 @@ use crate::files::Tried;
 use decimal::print;
 use pieces::writing;
 use std::fs::File;
+use std::io;
 use std::io::Write;
 
 const BLOCKS: usize = 12000;
@@ -45,12 +46,10 @@ fn write_run<W: Write>(file: &mut W) {
 }
 
 // The run forward into one file and back into another gives its own bytes again.
-pub fn show(rt: &HostRuntime, one: &mut File, other: &mut File, length: usize)
+pub fn show(rt: &HostRuntime, one: &mut File, other: &mut File, length: usize) -> io::Result<()>
     requires { length ≤ 65536 }
 {
-    let Some(mut readings) = files::temporary(rt) else {
-        return;
-    };
+    let mut readings = files::temporary(rt)?;
     write_run(&mut readings);
     files::rewind(&mut readings);
     files::empty(one);
@@ -63,4 +62,5 @@ pub fn show(rt: &HostRuntime, one: &mut File, other: &mut File, length: usize)
         files::same(&mut readings, other),
         b"after 12000 blocks forward and back\n",
     );
+    Ok(())
 }
