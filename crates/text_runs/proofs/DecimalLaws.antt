@@ -12,7 +12,7 @@ use lib.ListN.{length}
 use Rattle.text_runs.specs.Decimal.{spelled, decimal, is_digit, all_digits}
 -- what is computed comes before what is proved: a wrong definition fails first at a sample
 use Rattle.text_runs.specs.Samples as Samples
-use Rattle.text_runs.specs.InputSamples as InputSamples
+use Rattle.text_runs.proofs.InputSamples as InputSamples
 
 module _ (k n : ℕ) (after : List ℕ) where
   pub spelled-last : n < 10 → spelled (suc k) n after ≡ (48 + n) ∷ after

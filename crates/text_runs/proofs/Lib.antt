@@ -1,3 +1,4 @@
+mod InputSamples
 pub mod DecimalLaws
 pub mod TextLaws
 pub mod UpToLaws

@@ -8,5 +8,4 @@ pub mod Return
 pub mod EveryInput
 pub mod Bytes
 pub mod Samples
-pub mod InputSamples
 pub mod Own
