@@ -3,7 +3,7 @@ ghost use Rattle.std.specs.Prelude.{◌≤◌, length};
 
 use decimal::search;
 use std::io;
-use std::io::Write;
+use std::io::{ErrorKind, Write};
 
 // An output, and where it is told that a write to it has failed.
 #[derive(Drop)]
@@ -12,24 +12,51 @@ pub struct Target<W, E> {
     pub errors: E,
 }
 
-// Writes a text, or stops at the first write that takes nothing or fails, and answers whether all of it is written.
-pub fn put<W: Write>(output: &mut W, text: &[u8]) -> bool {
+// How far a text was written: to its end, or up to a write that took nothing or failed, as one fails where nobody reads any more.
+#[derive(Clone, Copy)]
+enum Written {
+    Whole,
+    Cut,
+    Unread,
+}
+
+fn cut_by(why: &io::Error) -> Written {
+    if why.kind() == ErrorKind::BrokenPipe {
+        return Written::Unread;
+    }
+    Written::Cut
+}
+
+fn written_up_to<W: Write>(output: &mut W, text: &[u8]) -> Written {
     let mut done = 0;
     while done < text.len() {
         match output.write(&text[done..]) {
             Ok(n) if 0 < n => done += n,
-            _ => return false,
+            Ok(_) => return Written::Cut,
+            Err(why) => return cut_by(&why),
         }
     }
-    true
+    Written::Whole
+}
+
+// Writes a text, or stops at the first write that takes nothing or fails, and answers whether all of it is written.
+pub fn put<W: Write>(output: &mut W, text: &[u8]) -> bool {
+    match written_up_to(output, text) {
+        Written::Whole => true,
+        _ => false,
+    }
 }
 
 // A program has no exit status, so it says on standard error that its output is not whole.
 pub fn write<W: Write, E: Write>(output: &mut Target<W, E>, text: &[u8]) -> bool {
-    if put(&mut output.output, text) {
-        return true;
-    }
-    put(&mut output.errors, b"the output cannot be written\n");
+    match written_up_to(&mut output.output, text) {
+        Written::Whole => return true,
+        Written::Cut => put(&mut output.errors, b"the output cannot be written\n"),
+        Written::Unread => put(
+            &mut output.errors,
+            b"the output cannot be written: Broken pipe\n",
+        ),
+    };
     false
 }
 
