@@ -16,9 +16,8 @@ use Rattle.steps.specs.Limits.{folded_limit}
 use Rattle.steps.specs.Steps.{stages, unstages}
 use Rattle.steps.proofs.Lengths.{width-half, length-stages, length-unstages}
 use Rattle.runs.specs.Answers.{told, first_beyond}
-use Rattle.runs.specs.declared.answer.Answer.{Answer}
-use Rattle.runs.specs.declared.answer.Found.{Found}
-use Rattle.runs.specs.declared.answer.Found.TheVariants.{At, Nothing}
+use Rattle.runs.specs.Answers.{Answer}
+use Rattle.std.specs.Prelude.{Option, Some, None}
 use Rattle.runs.specs.Alone.{StagesResult, refused_at, shaped, stages_asked, unstages_asked, stages_alone, unstages_alone}
 use Rattle.runs.proofs.RecordLaws.{width-pos}
 use Rattle.runs.proofs.Searches.{none_within}
@@ -30,18 +29,18 @@ use Rattle.frames.proofs.UnstagedLaws.{unstaged-inside, unstaged-made, unstaged-
 
 -- ---- question 10 of folded values
 module _ (made work : List ℤ) (answer : ℕ × ℕ) where
-  abbrev Asked : Found → Type 0
+  abbrev Asked : Option ℕ → Type 0
   Asked f = ◌≡◌ {A = StagesResult} (answer, work) (refused_at 10 f work ((0, 0), made))
 
-  nothing : (f : Found) → Asked f → answer.0 ≡ 0 → (f ≡ Nothing) × (work ≡ made)
+  nothing : (f : Option ℕ) → Asked f → answer.0 ≡ 0 → (f ≡ None) × (work ≡ made)
   unfolding refused_at
-  nothing (At place) e z = absurd (omega (arith, z, ap (λ (x : StagesResult). x.0.0) e))
-  nothing Nothing e z = (refl, ap (λ (x : StagesResult). x.1) e)
+  nothing (Some place) e z = absurd (omega (arith, z, ap (λ (x : StagesResult). x.0.0) e))
+  nothing None e z = (refl, ap (λ (x : StagesResult). x.1) e)
 
-  something : (f : Found) → Asked f → (answer.0 ≡ 0 → ⊥) → (out : List ℤ) → (answer, out) ≡ refused_at 10 f out ((0, 0), made)
+  something : (f : Option ℕ) → Asked f → (answer.0 ≡ 0 → ⊥) → (out : List ℤ) → (answer, out) ≡ refused_at 10 f out ((0, 0), made)
   unfolding refused_at
-  something (At place) e h out = ap (λ (x : StagesResult). (x.0, out)) e
-  something Nothing e h out = absurd (h (ap (λ (x : StagesResult). x.0.0) e))
+  something (Some place) e h out = ap (λ (x : StagesResult). (x.0, out)) e
+  something None e h out = absurd (h (ap (λ (x : StagesResult). x.0.0) e))
 
 -- ---- either way
 abbrev pub asked_way : Bool → ℕ → List ℤ → List ℤ → StagesResult
@@ -53,7 +52,7 @@ pub record Made (undo : Bool) (N : ℕ) (given work : List ℤ) (answer : Answer
   pub given_is : (out : List ℤ) → (told answer, work) ≡ asked_way undo N given out
 
 module _ (N : ℕ) (given work : List ℤ) (answer : Answer) where
-  abbrev value : Found
+  abbrev value : Option ℕ
   value = first_beyond (pos folded_limit) given 0
 
   staged-made : (told answer, work) ≡ stages_asked N given work → (told answer).0 ≡ 0 → 0 < half_width N → length given ≡ N → Made false N given work answer
@@ -63,7 +62,7 @@ module _ (N : ℕ) (given work : List ℤ) (answer : Answer) where
       record {
         long = ap length n.1 ∙ length-stages N given ∙ width-half N w;
         within = subst (Within (2 ^ 30)) (sym n.1) (stages-within N given l (width-half N w) (none_within folded_limit given n.0));
-        given_is = λ out. e ∙ ap (λ (f : Found). refused_at 10 f work ((0, 0), stages N given)) n.0 ∙ sym (ap (λ (f : Found). refused_at 10 f out ((0, 0), stages N given)) n.0);
+        given_is = λ out. e ∙ ap (λ (f : Option ℕ). refused_at 10 f work ((0, 0), stages N given)) n.0 ∙ sym (ap (λ (f : Option ℕ). refused_at 10 f out ((0, 0), stages N given)) n.0);
       }
 
   staged-refused : (told answer, work) ≡ stages_asked N given work → ((told answer).0 ≡ 0 → ⊥) → (out : List ℤ) → (told answer, out) ≡ stages_asked N given out

@@ -5,18 +5,15 @@ ghost use Rattle.runs.specs.Alone.{stages_alone, unstages_alone};
 
 use crate::transform;
 use gate::questions;
-use runs::answer::Answer;
+use runs::answer::{Answer, Refusal};
 
 // Questions 1, 6 and 7, then the stages or their undoing.
 fn alone(undo: bool, width: usize, given: &[i32], out: &mut [i32]) -> Answer
     ensures { (told result, out.new) ≡ cond undo (unstages_alone width given.now out.old) (stages_alone width given.now out.old) }
 {
-    let asked = questions::in_parts(width, given.len(), 1, 1);
-    if runs::answer::number(asked) != 0 {
-        return asked;
-    }
+    questions::in_parts(width, given.len(), 1, 1)?;
     if out.len() != width {
-        return Answer::OutputLength;
+        return Err(Refusal::OutputLength);
     }
     transform::in_room(undo, width, given, out)
 }

@@ -1,9 +1,8 @@
-// A frame from its folded values by the five stages, and its way back, with the questions about their numbers. t has what the width takes; top and
-// bottom are room for the halves, y and z for a product each. What is made lies in the front of y.
+// A frame from its folded values by the five stages, and its way back, with the questions about their numbers. top and bottom are room for
+// the halves, y and z for a product each. What is made lies in the front of y.
 ghost use Rattle.std.specs.Prelude.{cond, ◌≡◌, ◌++◌, ◌+◌, ◌*◌, ◌<◌, length, take};
 ghost use Rattle.integers.specs.Places.{places, at, Within};
 ghost use Rattle.tables.specs.Widths.{half_width};
-ghost use Rattle.width_tables.specs.Filled.{Filled};
 ghost use Rattle.steps.specs.Limits.{folded_limit};
 ghost use Rattle.steps.specs.Steps.{stages};
 ghost use Rattle.runs.specs.Answers.{told};
@@ -12,20 +11,19 @@ ghost use Rattle.frames.specs.Own.WideRoom.{WideRoom};
 
 use frames::transform;
 use gate::questions;
-use runs::answer::{Answer, Found};
+use runs::answer::{Answer, Refusal};
 use runs::limits;
 use slices::{room, vectors};
 use width_tables::fill;
+use width_tables::parts::Tables;
 
 // The numbers at the even places, or else at the odd ones: first is 0 or 1.
 fn every_second(x: &[i32], first: usize, out: &mut [i64])
     requires { (first < 2) × (length x.now ≡ length out.old + length out.old) }
     ensures { out.new ≡ places (length out.old) (λ i. at x.now (2 * i + first)) }
 {
-    let mut i = 0;
-    while i < out.len() {
-        out[i] = x[2 * i + first] as i64;
-        i += 1;
+    for (i, v) in out.iter_mut().enumerate() {
+        *v = i64::from(x[2 * i + first]);
     }
 }
 
@@ -35,77 +33,67 @@ fn join(top: &[i64], bottom: &[i64], out: &mut [i64])
     ensures { out.new ≡ top.now ++ bottom.now }
 {
     let half = top.len();
-    vectors::copy(top, &mut out[..half]);
-    vectors::copy(bottom, &mut out[half..]);
+    out[..half].copy_from_slice(top);
+    out[half..].copy_from_slice(bottom);
 }
 
 fn stages(
-    width: usize,
-    t: &[i64],
+    t: &Tables,
     given: &[i32],
     top: &mut [i64],
     bottom: &mut [i64],
     y: &mut [i64],
     z: &mut [i64],
 )
-    requires width_nonzero { 0 < half_width width }
-    requires filled { Filled width t.now }
-    requires wide_room { WideRoom width top.old bottom.old y.old z.old }
-    requires given_len { length given.now ≡ width }
+    requires wide_room { WideRoom t.now.width top.old bottom.old y.old z.old }
+    requires given_len { length given.now ≡ t.now.width }
     requires within { Within folded_limit given.now }
-    ensures { take width y.new ≡ Rattle.steps.specs.Steps.stages width given.now }
+    ensures { take t.now.width y.new ≡ Rattle.steps.specs.Steps.stages t.now.width given.now }
 {
     every_second(given, 0, top);
     every_second(given, 1, bottom);
-    stages::stages::forward(width, t, top, bottom, y, z);
-    join(top, bottom, &mut y[..width]);
+    stages::stages::forward(t, top, bottom, y, z);
+    join(top, bottom, &mut y[..t.width]);
 }
 
 // Question 10, then the stages: folded values to the frame. Where question 10 says no, y may hold any numbers.
 fn staged(
-    width: usize,
-    t: &[i64],
+    t: &Tables,
     folded: &[i32],
     top: &mut [i64],
     bottom: &mut [i64],
     y: &mut [i64],
     z: &mut [i64],
 ) -> Answer
-    requires width_nonzero { 0 < half_width width }
-    requires filled { Filled width t.now }
-    requires wide_room { WideRoom width top.old bottom.old y.old z.old }
-    requires folded_len { length folded.now ≡ width }
-    ensures { (told result, take width y.new) ≡ stages_asked width folded.now (take width y.new) }
+    requires wide_room { WideRoom t.now.width top.old bottom.old y.old z.old }
+    requires folded_len { length folded.now ≡ t.now.width }
+    ensures { (told result, take t.now.width y.new) ≡ stages_asked t.now.width folded.now (take t.now.width y.new) }
 {
-    let value = questions::seldom_beyond(folded, limits::FOLDED_LIMIT, &mut y[..width]);
-    if let Found::At(place) = value {
-        return Answer::Folded(place);
+    if let Some(place) = questions::seldom_beyond(folded, limits::FOLDED_LIMIT, &mut y[..t.width]) {
+        return Err(Refusal::Folded(place));
     }
-    stages(width, t, folded, top, bottom, y, z);
-    Answer::Done
+    stages(t, folded, top, bottom, y, z);
+    Ok(())
 }
 
 // One way or the other.
 fn either_way(
     undo: bool,
-    width: usize,
-    t: &[i64],
+    t: &Tables,
     given: &[i32],
     top: &mut [i64],
     bottom: &mut [i64],
     y: &mut [i64],
     z: &mut [i64],
 ) -> Answer
-    requires width_nonzero { 0 < half_width width }
-    requires filled { Filled width t.now }
-    requires wide_room { WideRoom width top.old bottom.old y.old z.old }
-    requires given_len { length given.now ≡ width }
-    ensures { (told result, take width y.new) ≡ cond undo (unstages_asked width given.now (take width y.new)) (stages_asked width given.now (take width y.new)) }
+    requires wide_room { WideRoom t.now.width top.old bottom.old y.old z.old }
+    requires given_len { length given.now ≡ t.now.width }
+    ensures { (told result, take t.now.width y.new) ≡ cond undo (unstages_asked t.now.width given.now (take t.now.width y.new)) (stages_asked t.now.width given.now (take t.now.width y.new)) }
 {
     if undo {
-        return transform::unstaged(width, t, given, top, bottom, y, z);
+        return transform::unstaged(t, given, top, bottom, y, z);
     }
-    staged(width, t, given, top, bottom, y, z)
+    staged(t, given, top, bottom, y, z)
 }
 
 // In room of its own.
@@ -116,25 +104,25 @@ pub fn in_room(undo: bool, width: usize, given: &[i32], out: &mut [i32]) -> Answ
 {
     let half = width / 2;
     let long = fill::tables_long(width);
-    let mut t = room::of_1906();
-    let mut top = room::of_64();
-    let mut bottom = room::of_64();
-    let mut y = room::of_648();
-    let mut z = room::of_648();
+    let mut t = room::zeros::<1906>();
+    let mut top = room::zeros::<64>();
+    let mut bottom = room::zeros::<64>();
+    let mut y = room::zeros::<648>();
+    let mut z = room::zeros::<648>();
     fill::fill(width, &mut t[..long], &mut y);
-    let answer = either_way(
-        undo,
+    let tables = Tables {
         width,
-        &t[..long],
+        numbers: &t[..long],
+    };
+    either_way(
+        undo,
+        &tables,
         given,
         &mut top[..half],
         &mut bottom[..half],
         &mut y,
         &mut z,
-    );
-    if runs::answer::number(answer) != 0 {
-        return answer;
-    }
+    )?;
     vectors::narrow(&y[..width], out);
-    answer
+    Ok(())
 }

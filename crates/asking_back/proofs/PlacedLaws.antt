@@ -1,18 +1,23 @@
--- An answer's place counted through the run.
-use mathlib.Core.Path.{◌≡◌, sym, ap, subst}
-use Prim.Native.Nat.{ℕ, ◌+◌, ◌-◌, ◌≤◌, ◌<◌}
-use native.Mathlib.Omega.{arith}
+-- A refusal's place counted through the run.
+use Rattle.std.proofs.Common.{◌≡◌, ℕ, refl}
+use Rattle.std.specs.Prelude.{Err}
+use Rattle.runs.specs.declared.answer.Refusal.{Refusal}
+use Rattle.runs.specs.declared.answer.Refusal.TheVariants.{Width, Record, Closed, Full, Empty, InputLength, OutputLength, DeadMark, Range, Folded, Halves, Unfolded}
 use Rattle.runs.specs.Answers.{told, placed}
-use Rattle.runs.specs.declared.answer.Answer.{Answer}
 
--- the place of an answer that is known
-pub place-le : (a b : Answer) → a ≡ b → (told a).1 ≤ 128 → (told b).1 ≤ 128
-place-le a b e h = subst (λ (x : Answer). (told x).1 ≤ 128) e h
-
-module _ (N offset : ℕ) where
-  pub known : (a b : Answer) (p : ℕ × ℕ) → a ≡ b → p ≡ placed N offset (told b) → p ≡ placed N offset (told a)
-  known a b p e h = subst (λ (x : Answer). p ≡ placed N offset (told x)) (sym e) h
-
-  pub placed_first : (i : ℕ) → offset < N → told (Answer.Unfolded i) ≡ placed N offset (told (Answer.Unfolded i))
-  unfolding told placed
-  placed_first i h = let e : i ≡ offset - N + i = omega arith in ap (λ (p : ℕ). (12, p)) e
+-- questions 1 to 7 name no place
+pub placed-other : (N offset : ℕ) (r : Refusal) → ((i : ℕ) → r ≡ DeadMark i → ⊥) → ((i : ℕ) → r ≡ Range i → ⊥) → ((i : ℕ) → r ≡ Folded i → ⊥) → ((i : ℕ) → r ≡ Halves i → ⊥) → ((i : ℕ) → r ≡ Unfolded i → ⊥)
+    → told (Err r) ≡ placed N offset (told (Err r))
+unfolding told placed
+placed-other N offset Width d r f h u = refl
+placed-other N offset Record d r f h u = refl
+placed-other N offset Closed d r f h u = refl
+placed-other N offset Full d r f h u = refl
+placed-other N offset Empty d r f h u = refl
+placed-other N offset InputLength d r f h u = refl
+placed-other N offset OutputLength d r f h u = refl
+placed-other N offset (DeadMark i) d r f h u = absurd (d i refl)
+placed-other N offset (Range i) d r f h u = absurd (r i refl)
+placed-other N offset (Folded i) d r f h u = absurd (f i refl)
+placed-other N offset (Halves i) d r f h u = absurd (h i refl)
+placed-other N offset (Unfolded i) d r f h u = absurd (u i refl)

@@ -14,9 +14,8 @@ use Rattle.integers.proofs.Sums.{sum-none}
 use Rattle.tables.specs.Widths.{half_width}
 use Rattle.steps.specs.Limits.{folded_limit}
 use Rattle.runs.specs.Answers.{told, first_beyond}
-use Rattle.runs.specs.declared.answer.Answer.{Answer}
-use Rattle.runs.specs.declared.answer.Found.{Found}
-use Rattle.runs.specs.declared.answer.Found.TheVariants.{At, Nothing}
+use Rattle.runs.specs.Answers.{Answer}
+use Rattle.std.specs.Prelude.{Option, Some, None}
 use Rattle.runs.specs.declared.record.Run.{Run}
 use Rattle.runs.specs.Record.{frame_limit, next_count, next_total, readings_given, opened}
 use Rattle.runs.specs.Gate.{CallResult}
@@ -89,6 +88,9 @@ pub record AnswerLeft (whole : ℕ × ℕ) (N place count left : ℕ) (frames ou
   pub reached : ReachedBack N count total low
   pub same : whole ≡ answer_from N place (opened N count total low) left (drop place frames) (drop place out)
 
+pub left-at : {whole : ℕ × ℕ} {N place count left place₂ left₂ : ℕ} {frames out low : List ℤ} → place ≡ place₂ → left ≡ left₂ → AnswerLeft whole N place count left frames out low → AnswerLeft whole N place₂ count left₂ frames out low
+left-at {whole} {N} {count = count} {frames = frames} {out} {low} e d g = subst₂ (λ (p l : ℕ). AnswerLeft whole N p count l frames out low) e d g
+
 -- what the answer to the next frame tells of it
 pub record FrameAnswer (whole : ℕ × ℕ) (N place count left : ℕ) (frames out after : List ℤ) (answer : Answer) : Type 0 where
   pub small : (told answer).1 ≤ 128
@@ -121,7 +123,7 @@ module _ {whole : ℕ × ℕ} {N place count left : ℕ} {frames out low : List 
 
   -- behind the last frame, question 11 at the finish
   module _ (n : count ≡ 0 → ⊥) where
-    held-asked : (f : Found) → first_beyond (pos 0) low 0 ≡ f → first_held now ≡ f
+    held-asked : (f : Option ℕ) → first_beyond (pos 0) low 0 ≡ f → first_held now ≡ f
     unfolding first_held opened
     held-asked f e = ap (λ (xs : List ℤ). first_beyond (pos 0) xs 0) (take-filled (half_width N) low g.reached.long) ∙ e
 
@@ -129,9 +131,9 @@ module _ {whole : ℕ × ℕ} {N place count left : ℕ} {frames out low : List 
     unfolding told placed opened told_held
     end-told before = by (first_beyond (pos 0) low 0) refl
       where
-        by : (f : Found) → first_beyond (pos 0) low 0 ≡ f → told_held before f ≡ placed N before (ended_back now).0
-        by (At place) e = ap (λ (x : CallResult). placed N before x.0) (end-held-refused now (back-sound N count g.total low g.reached) refl n place (held-asked (At place) e))
-        by Nothing e = ap (λ (x : CallResult). placed N before x.0) (ended-done now (back-sound N count g.total low g.reached) refl n (held-asked Nothing e))
+        by : (f : Option ℕ) → first_beyond (pos 0) low 0 ≡ f → told_held before f ≡ placed N before (ended_back now).0
+        by (Some place) e = ap (λ (x : CallResult). placed N before x.0) (end-held-refused now (back-sound N count g.total low g.reached) refl n place (held-asked (Some place) e))
+        by None e = ap (λ (x : CallResult). placed N before x.0) (ended-done now (back-sound N count g.total low g.reached) refl n (held-asked None e))
 
     pub end-answer : left ≡ 0 → told_held (place - N) (first_beyond (pos 0) low 0) ≡ whole
     end-answer z = end-told (place - N) ∙ answer-end N place left now (drop place frames) (drop place out) z ∙ sym g.same

@@ -18,15 +18,15 @@ pub fn tell(answer: Answer, place: &mut usize) -> u32
 }
 
 // The record is packed where the call has worked.
+#[tactic(auto, using(crate::proofs::AnswerLaws::hand_back))]
 pub fn hand_back(outcome: Outcome, numbers: &mut [i64], place: &mut usize) -> u32
     requires { (told outcome.answer).0 ≡ 0 → Packable outcome.run numbers.old }
     ensures place_after { (result, place.new) ≡ told outcome.answer }
     ensures numbers_after { numbers.new ≡ numbers_after (told outcome.answer).0 outcome.run numbers.old }
 {
     let answer = outcome.answer;
-    if runs::answer::number(answer) == 0 {
-        let run = outcome.run;
-        record::pack(run, numbers);
+    if answer.is_ok() {
+        record::pack(outcome.run, numbers);
     }
     tell(answer, place)
 }

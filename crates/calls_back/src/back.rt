@@ -7,7 +7,7 @@ ghost use Rattle.runs.specs.Back.{taken_back, first_held, ended_back};
 use crate::in_place;
 use constants::widths;
 use gate::questions;
-use runs::answer::{Answer, Found};
+use runs::answer::Refusal;
 use runs::record::{Outcome, Run};
 use runs::{limits, record};
 
@@ -31,7 +31,7 @@ pub fn take(run: Run, frame: &[i32], block: &mut [i32]) -> Outcome
 }
 
 // Question 11 at the finish: the first held value that is not zero.
-fn first_held(run: Run, half: usize) -> Found
+fn first_held(run: Run, half: usize) -> Option<usize>
     requires { Ready run half }
     ensures { result ≡ first_held run }
 {
@@ -53,18 +53,18 @@ pub fn finish(run: Run) -> Outcome
         total,
         &held,
     );
-    if runs::answer::number(asked) != 0 {
-        return record::hand_back(run, asked);
+    if let Err(refusal) = asked {
+        return record::hand_back(run, Err(refusal));
     }
     if run.count == 0 {
-        return record::hand_back(run, Answer::Empty);
+        return record::hand_back(run, Err(Refusal::Empty));
     }
     let lower = first_held(run, widths::half_width(run.width));
-    if let Found::At(place) = lower {
-        return record::hand_back(run, Answer::Halves(place));
+    if let Some(place) = lower {
+        return record::hand_back(run, Err(Refusal::Halves(place)));
     }
     record::hand_back(
         record::make(run.width, run.count, record::nothing_held(), true, total),
-        Answer::Done,
+        Ok(()),
     )
 }

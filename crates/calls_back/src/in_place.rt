@@ -3,6 +3,7 @@ ghost use Rattle.std.specs.Prelude.{◌≡◌, ◌≤◌, ◌<◌, ℤ, nat_abs,
 ghost use Rattle.integers.specs.Places.{Within};
 ghost use Rattle.integers.specs.Vectors.{sum_of};
 ghost use Rattle.tables.specs.Widths.{half_width};
+ghost use Rattle.width_tables.specs.Filled.{tables_long, list_room, product_room};
 ghost use Rattle.steps.specs.Limits.{folded_limit};
 ghost use Rattle.runs.specs.Answers.{told};
 ghost use Rattle.runs.specs.Record.{record_of, next_count, next_total, readings_given, opened};
@@ -15,16 +16,18 @@ use runs::answer::Answer;
 use runs::limits;
 use slices::room;
 use width_tables::fill;
+use width_tables::parts::Tables;
 
 // Room is cleared when it is made, so there are two sizes: at width 8, room for 128 costs more than the step.
-fn in_small_room(
+fn in_room<const T: usize, const H: usize, const P: usize>(
     width: usize,
     count: usize,
     frame: &[i32],
     held: &mut [i64],
     block: &mut [i32],
 ) -> Answer
-    requires width_bound { width ≤ 32 }
+    requires room_wide { (tables_long width ≤ T) × (half_width width ≤ H) × (list_room width ≤ P) × (product_room width ≤ P) × (width ≤ P) }
+    requires room_few { (T ≤ 1906) × (H ≤ 64) × (P ≤ 648) }
     requires width_nonzero { 0 < half_width width }
     requires frame_len { (length frame.now ≡ width) × (length held.old ≡ half_width width) × (length block.old ≡ width) }
     requires within { Within folded_limit held.old }
@@ -32,50 +35,19 @@ fn in_small_room(
 {
     let half = width / 2;
     let long = fill::tables_long(width);
-    let mut t = room::of_274();
-    let mut top = room::of_16();
-    let mut bottom = room::of_16();
-    let mut y = room::of_72();
-    let mut z = room::of_72();
+    let mut t = room::zeros::<T>();
+    let mut top = room::zeros::<H>();
+    let mut bottom = room::zeros::<H>();
+    let mut y = room::zeros::<P>();
+    let mut z = room::zeros::<P>();
     fill::fill(width, &mut t[..long], &mut y);
-    undo::undo(
+    let tables = Tables {
         width,
-        count,
-        &t[..long],
-        frame,
-        held,
-        block,
-        &mut top[..half],
-        &mut bottom[..half],
-        &mut y,
-        &mut z,
-    )
-}
-
-fn in_large_room(
-    width: usize,
-    count: usize,
-    frame: &[i32],
-    held: &mut [i64],
-    block: &mut [i32],
-) -> Answer
-    requires width_nonzero { 0 < half_width width }
-    requires frame_len { (length frame.now ≡ width) × (length held.old ≡ half_width width) × (length block.old ≡ width) }
-    requires within { Within folded_limit held.old }
-    ensures { (total : ℤ) → (told result, opened width (next_count (told result).0 count) (next_total (told result).0 total (readings_given count block.new)) held.new, block.new) ≡ undone_in (opened width count total held.old) frame.now block.old }
-{
-    let half = width / 2;
-    let long = fill::tables_long(width);
-    let mut t = room::of_1906();
-    let mut top = room::of_64();
-    let mut bottom = room::of_64();
-    let mut y = room::of_648();
-    let mut z = room::of_648();
-    fill::fill(width, &mut t[..long], &mut y);
+        numbers: &t[..long],
+    };
     undo::undo(
-        width,
         count,
-        &t[..long],
+        &tables,
         frame,
         held,
         block,
@@ -93,9 +65,10 @@ fn undo_in(width: usize, count: usize, frame: &[i32], held: &mut [i64], block: &
     ensures { (total : ℤ) → (told result, opened width (next_count (told result).0 count) (next_total (told result).0 total (readings_given count block.new)) held.new, block.new) ≡ undone_in (opened width count total held.old) frame.now block.old }
 {
     if width <= 32 {
-        return in_small_room(width, count, frame, held, block);
+        in_room::<274, 16, 72>(width, count, frame, held, block)
+    } else {
+        in_room::<1906, 64, 648>(width, count, frame, held, block)
     }
-    in_large_room(width, count, frame, held, block)
 }
 
 // The total after a frame that is the first or has given a block.
@@ -122,7 +95,7 @@ pub fn take(
     requires { length held.old ≡ 64 }
     ensures { (told result, record_of width (next_count (told result).0 count) held.new finished (next_total (told result).0 total (readings_given count block.new)), block.new) ≡ taken_back (record_of width count held.old finished total) frame.now block.old }
 {
-    let asked = questions::admitted(
+    questions::admitted(
         limits::FRAME_LIMIT,
         width,
         count,
@@ -131,10 +104,7 @@ pub fn take(
         held,
         frame.len(),
         block.len(),
-    );
-    if runs::answer::number(asked) != 0 {
-        return asked;
-    }
+    )?;
     let half = width / 2;
     undo_in(width, count, frame, &mut held[..half], block)
 }

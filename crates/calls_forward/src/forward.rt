@@ -9,7 +9,7 @@ use crate::in_place;
 use constants::widths;
 use frames::step;
 use gate::questions;
-use runs::answer::Answer;
+use runs::answer::Refusal;
 use runs::record::{Outcome, Run};
 use runs::{limits, record};
 
@@ -20,9 +20,9 @@ pub fn start(width: usize) -> Outcome
     let held = record::nothing_held();
     let half = widths::half_width(width);
     if half == 0 {
-        return record::hand_back(record::make(0, 0, held, false, 0), Answer::Width);
+        return record::hand_back(record::make(0, 0, held, false, 0), Err(Refusal::Width));
     }
-    record::hand_back(record::make(width, 0, held, false, 0), Answer::Done)
+    record::hand_back(record::make(width, 0, held, false, 0), Ok(()))
 }
 
 fn close(run: Run, half: usize, frame: &mut [i32]) -> Run
@@ -71,11 +71,11 @@ pub fn finish(run: Run, frame: &mut [i32]) -> Outcome
         run.total,
         &held,
     );
-    if runs::answer::number(asked) != 0 {
-        return record::hand_back(run, asked);
+    if let Err(refusal) = asked {
+        return record::hand_back(run, Err(refusal));
     }
     if frame.len() != width {
-        return record::hand_back(run, Answer::OutputLength);
+        return record::hand_back(run, Err(Refusal::OutputLength));
     }
-    record::hand_back(close(run, widths::half_width(width), frame), Answer::Done)
+    record::hand_back(close(run, widths::half_width(width), frame), Ok(()))
 }

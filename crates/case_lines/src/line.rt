@@ -1,8 +1,10 @@
 // The numbers and words of a line.
 ghost use Rattle.std.specs.Prelude.{◌+◌, ◌≤◌, length};
 
-use decimal::{compare, read, search};
-use text_runs::number::Field;
+use decimal::{read, search};
+
+// What stands for a number that is missing or below zero, where a call takes any: no length, count or answer of a case is as great.
+const NONE: usize = 1000000;
 
 // Where a byte ends a part of a text.
 pub fn end(text: &[u8], from: usize, byte: u8) -> usize
@@ -17,53 +19,48 @@ pub fn begin(text: &[u8], n: usize, byte: u8) -> usize
     ensures { result ≤ length text.now }
 {
     let mut at = 0;
-    let mut left = n;
-    while 0 < left {
+    for _ in 0..n {
         at = end(text, at, byte);
         if at == text.len() {
             return at;
         }
         at += 1;
-        left -= 1;
     }
     at
 }
 
+// Part n.
+fn part(text: &[u8], n: usize, byte: u8) -> &[u8] {
+    let from = begin(text, n, byte);
+    &text[from..end(text, from, byte)]
+}
+
 // Whether part n is a word.
 pub fn is(text: &[u8], n: usize, byte: u8, word: &[u8]) -> bool {
-    let from = begin(text, n, byte);
-    compare::same(&text[from..end(text, from, byte)], word)
+    part(text, n, byte) == word
 }
 
 // Part n as a number of 64 bits.
-pub fn whole(text: &[u8], n: usize, byte: u8) -> Field {
-    let from = begin(text, n, byte);
-    read::total(&text[from..end(text, from, byte)])
+pub fn whole(text: &[u8], n: usize, byte: u8) -> Option<i64> {
+    read::total(part(text, n, byte))
 }
 
-// Part n as a size, and a million if it is no number.
-pub fn count(text: &[u8], n: usize, byte: u8) -> usize {
-    let found = whole(text, n, byte);
-    let Field::Number(x) = found else {
-        return 1000000;
-    };
-    size(x)
+// Part n as a size.
+pub fn count(text: &[u8], n: usize, byte: u8) -> Option<usize> {
+    usize::try_from(whole(text, n, byte)?).ok()
 }
 
-// A number below zero counts as a million, which no length, count or answer of a case is.
-pub fn size(x: i64) -> usize {
-    if x < 0 {
-        return 1000000;
-    }
-    x as usize
+// Part n as a size that a call takes.
+pub fn size(text: &[u8], n: usize, byte: u8) -> usize {
+    count(text, n, byte).unwrap_or(NONE)
 }
 
-// The number at a place, and a million past the end too.
+// The number at a place as a size that a call takes.
 pub fn at(x: &[i32], i: usize) -> usize {
-    if i < x.len() {
-        return size(x[i] as i64);
+    match x.get(i) {
+        Some(n) => usize::try_from(*n).unwrap_or(NONE),
+        None => NONE,
     }
-    1000000
 }
 
 // Behind the n numbers that are there a value as often as told; nothing if there is no room.
@@ -75,11 +72,7 @@ fn fill(numbers: &mut [i32], n: usize, times: usize, value: i32) -> usize
         return n;
     }
     let end = n + times;
-    let mut i = n;
-    while i < end {
-        numbers[i] = value;
-        i += 1;
-    }
+    numbers[n..end].fill(value);
     end
 }
 
@@ -91,11 +84,10 @@ fn often(text: &[u8], star: usize) -> usize
         return 1;
     }
     let from = star + 1;
-    let found = read::number(&text[from..]);
-    let Field::Number(times) = found else {
-        return 0;
-    };
-    size(times)
+    match read::number(&text[from..]) {
+        Some(times) => usize::try_from(times).unwrap_or(NONE),
+        None => 0,
+    }
 }
 
 // A field that is no number puts nothing.
@@ -104,11 +96,10 @@ fn field(text: &[u8], numbers: &mut [i32], n: usize) -> usize
     ensures { result ≤ length numbers.old }
 {
     let star = end(text, 0, b'*');
-    let found = read::number(&text[0..star]);
-    let Field::Number(x) = found else {
-        return n;
-    };
-    fill(numbers, n, often(text, star), x as i32)
+    match read::number(&text[0..star]) {
+        Some(x) => fill(numbers, n, often(text, star), x as i32),
+        None => n,
+    }
 }
 
 // The numbers of all fields from a place on; none if a field puts nothing.

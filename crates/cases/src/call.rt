@@ -1,52 +1,77 @@
-// The calls of the library by kind: 0 start, 1 take a block, 2 finish, 3 take a frame back, 4 finish back, 5 whole run, 6 whole run back, 7 stages
-// alone, 8 stages alone back. Of the record 0 and those from 5 on take the width, and these hand it back as it was.
+// The calls of the library by kind. Of the record a start and those on whole runs and stages take the width, and these hand it back as it was.
 use alone::frame;
 use calls_back::back;
 use calls_forward::forward;
-use runs::answer::Answer;
 use runs::record::{Outcome, Run};
 
-// A place that no refusal names.
-const NOWHERE: usize = 4294967296;
-
-fn by_width(kind: usize, width: usize, input: &[i32], output: &mut [i32]) -> Answer {
-    match kind {
-        5 => whole_forward::whole::forward(width, input, output),
-        6 => whole_back::whole::back(width, input, output),
-        7 => frame::stages(width, input, output),
-        8 => frame::unstages(width, input, output),
-        _ => Answer::Unfolded(NOWHERE),
-    }
+#[derive(Clone, Copy, PartialEq, Eq)]
+pub enum Call {
+    Start,
+    Take,
+    Finish,
+    TakeBack,
+    FinishBack,
+    WholeForward,
+    WholeBack,
+    Stages,
+    Unstages,
 }
 
-fn once(kind: usize, run: Run, input: &[i32], output: &mut [i32]) -> Outcome {
-    match kind {
-        0 => forward::start(run.width),
-        1 => forward::take(run, input, output),
-        2 => forward::finish(run, output),
-        3 => back::take(run, input, output),
-        4 => back::finish(run),
-        _ => {
-            let answer = by_width(kind, run.width, input, output);
-            Outcome {
-                run: run,
-                answer: answer,
-            }
+// A number that is no call's.
+#[derive(Clone, Copy, PartialEq, Eq)]
+pub struct NoCall;
+
+// The number that a case has for a call.
+impl TryFrom<usize> for Call {
+    type Error = NoCall;
+
+    fn try_from(number: usize) -> Result<Call, NoCall> {
+        match number {
+            0 => Ok(Call::Start),
+            1 => Ok(Call::Take),
+            2 => Ok(Call::Finish),
+            3 => Ok(Call::TakeBack),
+            4 => Ok(Call::FinishBack),
+            5 => Ok(Call::WholeForward),
+            6 => Ok(Call::WholeBack),
+            7 => Ok(Call::Stages),
+            8 => Ok(Call::Unstages),
+            _ => Err(NoCall),
         }
     }
 }
 
-// The same call as often as told, each with the record of the one before; what the last one gives.
-pub fn repeated(kind: usize, times: usize, run: Run, input: &[i32], output: &mut [i32]) -> Outcome {
-    let mut given = Outcome {
-        run: run,
-        answer: Answer::Unfolded(NOWHERE),
+// One call with a record.
+pub fn once(call: Call, run: Run, input: &[i32], output: &mut [i32]) -> Outcome {
+    let width = run.width;
+    let answer = match call {
+        Call::Start => return forward::start(width),
+        Call::Take => return forward::take(run, input, output),
+        Call::Finish => return forward::finish(run, output),
+        Call::TakeBack => return back::take(run, input, output),
+        Call::FinishBack => return back::finish(run),
+        Call::WholeForward => whole_forward::whole::forward(width, input, output),
+        Call::WholeBack => whole_back::whole::back(width, input, output),
+        Call::Stages => frame::stages(width, input, output),
+        Call::Unstages => frame::unstages(width, input, output),
     };
-    let mut left = times;
-    while 0 < left {
-        let before = given.run;
-        given = once(kind, before, input, output);
-        left -= 1;
+    Outcome { run, answer }
+}
+
+// The same call as often as told, each with the record of the one before; what the last one gives.
+pub fn repeated(
+    call: Call,
+    times: usize,
+    run: Run,
+    input: &[i32],
+    output: &mut [i32],
+) -> Option<Outcome> {
+    let mut given = None;
+    let mut before = run;
+    for _ in 0..times {
+        let outcome = once(call, before, input, output);
+        before = outcome.run;
+        given = Some(outcome);
     }
     given
 }

@@ -2,6 +2,7 @@
 ghost use Rattle.std.specs.Prelude.{◌≡◌, ◌≤◌, length};
 
 use crate::call;
+use crate::call::Call;
 use case_lines::line;
 use runs::answer::Answer;
 use runs::record::{Outcome, Run};
@@ -31,43 +32,8 @@ fn record_in(x: &[i32], total: i64) -> Run
     record::make(line::at(x, 0), line::at(x, 1), held, finished, total)
 }
 
-fn same_held(x: &[i64; 64], y: &[i64; 64]) -> bool {
-    let mut i = 0;
-    while i < 64 {
-        if x[i] != y[i] {
-            return false;
-        }
-        i += 1;
-    }
-    true
-}
-
-fn same_record(x: Run, y: Run) -> bool {
-    let x_held = x.held;
-    let y_held = y.held;
-    (x.width == y.width)
-        & (x.count == y.count)
-        & (x.finished == y.finished)
-        & (x.total == y.total)
-        & same_held(&x_held, &y_held)
-}
-
-// Whether an output begins with what is told.
-fn begins(output: &[i32; 1024], told: &[i32]) -> bool
-    requires { length told.now ≤ 1024 }
-{
-    let mut i = 0;
-    while i < told.len() {
-        if output[i] != told[i] {
-            return false;
-        }
-        i += 1;
-    }
-    true
-}
-
 fn same_answer(answer: Answer, x: &[i32]) -> bool {
-    (answer::number(answer) == line::at(x, 2)) & (answer::place(answer) == line::at(x, 3))
+    (answer::number(answer) == line::at(x, 2)) && (answer::place(answer) == line::at(x, 3))
 }
 
 fn as_told(given: Outcome, x: &[i32], after: i64) -> bool
@@ -75,14 +41,15 @@ fn as_told(given: Outcome, x: &[i32], after: i64) -> bool
 {
     let answer = given.answer;
     let run = given.run;
-    same_answer(answer, x) & same_record(run, record_in(&x[72..139], after))
+    same_answer(answer, x) && run == record_in(&x[72..139], after)
 }
 
-fn outcome(x: &[i32], before: i64, end: usize, output: &mut [i32]) -> Outcome
+fn outcome(x: &[i32], before: i64, end: usize, output: &mut [i32]) -> Option<Outcome>
     requires { (139 ≤ end) × (end ≤ length x.now) }
 {
+    let call = Call::try_from(line::at(x, 0)).ok()?;
     let run = record_in(&x[5..72], before);
-    call::repeated(line::at(x, 0), line::at(x, 1), run, &x[139..end], output)
+    call::repeated(call, line::at(x, 1), run, &x[139..end], output)
 }
 
 // Room for an output, with 7 in every place.
@@ -98,8 +65,10 @@ fn tried(x: &[i32], totals: Totals, end: usize, told: &[i32]) -> bool
 {
     let m = told.len();
     let mut output = marked();
-    let given = outcome(x, totals.before, end, &mut output[0..m]);
-    as_told(given, x, totals.after) & begins(&output, told)
+    match outcome(x, totals.before, end, &mut output[0..m]) {
+        Some(given) => as_told(given, x, totals.after) && &output[0..m] == told,
+        None => false,
+    }
 }
 
 pub fn agrees(x: &[i32], totals: Totals) -> bool {

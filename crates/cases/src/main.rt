@@ -2,7 +2,7 @@
 // and numbers with commas between them, where 0*64 stands for 64 zeros. The numbers are
 //     total before, total after, kind, times, answer, place, length of the input, record before, record after, input, output
 // and a record is its width, its count, 1 if it is finished and else 0, and 64 held values; its total has 64 bits, and stands in front. Every place of
-// an output is 7 before the call. The kinds are in `call`. The lines of records.txt and calls.txt are told in `sound` and `series`.
+// an output is 7 before the call. The kinds are numbered in `call`. The lines of records.txt and calls.txt are told in `sound` and `series`.
 #![tactic(auto)]
 
 mod call;
@@ -10,7 +10,7 @@ mod case;
 mod series;
 mod sound;
 
-ghost use Rattle.std.specs.Prelude.{◌≡◌, ◌≤◌, length};
+ghost use Rattle.std.specs.Prelude.{◌≡◌, length};
 
 use calls_forward::forward;
 use case::Totals;
@@ -18,10 +18,9 @@ use case_lines::{line, report, stored};
 use runs::record::Run;
 use series::Given;
 use std::rt::Files;
-use text_runs::number::Field;
 
 // What the lines of a file are.
-#[derive(Clone, Copy)]
+#[derive(Clone, Copy, PartialEq, Eq)]
 enum Table {
     Cases,
     Records,
@@ -37,18 +36,11 @@ fn number_room() -> [i32; 525000]
 
 // A case without its name. A line that is no case does not agree.
 fn case_agrees(text: &[u8]) -> bool {
-    let before = line::whole(text, 0, b',');
-    let Field::Number(one) = before else {
+    let (Some(before), Some(after)) = (line::whole(text, 0, b','), line::whole(text, 1, b','))
+    else {
         return false;
     };
-    let after = line::whole(text, 1, b',');
-    let Field::Number(other) = after else {
-        return false;
-    };
-    let totals = Totals {
-        before: one,
-        after: other,
-    };
+    let totals = Totals { before, after };
     let mut numbers = number_room();
     let n = line::numbers(text, line::begin(text, 2, b','), &mut numbers);
     case::agrees(&numbers[0..n], totals)
@@ -72,58 +64,18 @@ fn tried(table: Table, run: Run, text: &[u8]) -> Given {
     }
 }
 
-// The record after a line, and what the line adds to the counts.
-#[derive(Clone, Copy)]
-struct Added {
-    run: Run,
-    cases: usize,
-    differ: usize,
-}
-
-// A remark adds nothing.
-fn counted<P: Print>(rt: &P, table: Table, run: Run, number: usize, text: &[u8]) -> Added
-    ensures { (result.differ ≤ result.cases) × (result.cases ≤ 1) }
-{
-    if line::is(text, 0, b' ', b"#") {
-        return Added {
-            run: run,
-            cases: 0,
-            differ: 0,
-        };
-    }
-    let given = tried(table, run, text);
-    let after = given.run;
-    Added {
-        run: after,
-        cases: 1,
-        differ: report::differs(rt, number, given.same),
-    }
-}
-
-fn each<P: Print>(rt: &P, table: Table, text: &[u8]) {
-    let mut run = forward::start(0).run;
-    let mut lines: usize = 0;
-    let mut cases: usize = 0;
-    let mut differ: usize = 0;
-    let mut at = 0;
-    while at < text.len() {
-        let end = line::end(text, at, b'\n');
-        lines += 1;
-        let line = counted(rt, table, run, lines, &text[at..end]);
-        run = line.run;
-        cases += line.cases;
-        differ += line.differ;
-        at = end + 1;
-    }
-    report::total(rt, cases, differ);
-}
-
 // A file that cannot be read has no case.
 fn file<R: Files + Print>(rt: &R, table: Table, name: &str) {
     let _ = print!(rt; "{name}");
     let mut buffer = stored::text_room();
     let n = stored::read(rt, name, &mut buffer);
-    each(rt, table, &buffer[..n]);
+    let mut run = forward::start(0).run;
+    let counts = report::each(rt, &buffer[..n], |text| {
+        let given = tried(table, run, text);
+        run = given.run;
+        given.same
+    });
+    report::total(rt, counts);
 }
 
 fn main(rt: HostRuntime) {

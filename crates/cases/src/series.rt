@@ -1,12 +1,12 @@
 // Calls one after another, each with the record that the one before handed back. A line of calls.txt is a call, and what it tells:
 //     start WIDTH | block READINGS LENGTH | finish LENGTH | frame COEFFICIENTS LENGTH | finish_back 0   -> number place count total
 // The length is that of the output. A list of no number is a -.
+use crate::call::Call;
 use crate::{call, case};
 use calls_forward::forward;
 use case_lines::line;
 use runs::answer;
 use runs::record::{Outcome, Run};
-use text_runs::number::Field;
 
 // The record after a line, and whether the call gave what is told.
 #[derive(Clone, Copy)]
@@ -15,45 +15,43 @@ pub struct Given {
     pub same: bool,
 }
 
-// The kind of a call, as `call` has it, and 9 for none.
-fn kind_of(text: &[u8]) -> usize {
+fn named(text: &[u8]) -> Option<Call> {
     if line::is(text, 0, b' ', b"start") {
-        return 0;
+        return Some(Call::Start);
     }
     if line::is(text, 0, b' ', b"block") {
-        return 1;
+        return Some(Call::Take);
     }
     if line::is(text, 0, b' ', b"finish") {
-        return 2;
+        return Some(Call::Finish);
     }
     if line::is(text, 0, b' ', b"frame") {
-        return 3;
+        return Some(Call::TakeBack);
     }
     if line::is(text, 0, b' ', b"finish_back") {
-        return 4;
+        return Some(Call::FinishBack);
     }
-    9
+    None
 }
 
 // A call with a list that comes in, and an output of a length; an output longer than there is room for is one of no number.
-fn lent(kind: usize, run: Run, text: &[u8], list: &[u8], place: usize) -> Outcome {
+fn lent(call: Call, run: Run, text: &[u8], list: &[u8], place: usize) -> Outcome {
     let mut numbers = case::marked();
     let mut output = case::marked();
     let n = line::numbers(list, 0, &mut numbers);
-    let m = line::count(text, place, b' ');
+    let m = line::size(text, place, b' ');
     if m <= 1024 {
-        return call::repeated(kind, 1, run, &numbers[0..n], &mut output[0..m]);
+        return call::once(call, run, &numbers[0..n], &mut output[0..m]);
     }
-    call::repeated(kind, 1, run, &numbers[0..n], &mut output[0..0])
+    call::once(call, run, &numbers[0..n], &mut output[0..0])
 }
 
-fn called(kind: usize, run: Run, text: &[u8]) -> Outcome {
+fn called(call: Call, run: Run, text: &[u8]) -> Outcome {
     let from = line::begin(text, 1, b' ');
-    match kind {
-        0 => forward::start(line::count(text, 1, b' ')),
-        2 => lent(kind, run, text, b"-", 1),
-        4 => lent(kind, run, text, b"-", 1),
-        _ => lent(kind, run, text, &text[from..line::end(text, from, b' ')], 2),
+    match call {
+        Call::Start => forward::start(line::size(text, 1, b' ')),
+        Call::Finish | Call::FinishBack => lent(call, run, text, b"-", 1),
+        _ => lent(call, run, text, &text[from..line::end(text, from, b' ')], 2),
     }
 }
 
@@ -61,22 +59,21 @@ fn called(kind: usize, run: Run, text: &[u8]) -> Outcome {
 fn as_told(given: Outcome, told: &[u8]) -> bool {
     let run = given.run;
     let answer = given.answer;
-    let found = line::whole(told, 4, b' ');
-    let Field::Number(total) = found else {
-        return false;
-    };
-    (answer::number(answer) == line::count(told, 1, b' '))
-        & (answer::place(answer) == line::count(told, 2, b' '))
-        & (run.count == line::count(told, 3, b' '))
-        & (run.total == total)
+    line::count(told, 1, b' ') == Some(answer::number(answer))
+        && line::count(told, 2, b' ') == Some(answer::place(answer))
+        && line::count(told, 3, b' ') == Some(run.count)
+        && line::whole(told, 4, b' ') == Some(run.total)
 }
 
+// A line that names no call leaves the record as it is.
 pub fn next(run: Run, text: &[u8]) -> Given {
-    let given = called(kind_of(text), run, text);
-    let after = given.run;
+    let Some(call) = named(text) else {
+        return Given { run, same: false };
+    };
+    let given = called(call, run, text);
     let from = line::begin(text, 1, b'>');
     Given {
-        run: after,
+        run: given.run,
         same: as_told(given, &text[from..]),
     }
 }

@@ -1,19 +1,16 @@
 // Question 2 alone. A line of records.txt is a record, and whether it is sound that way:
 //     way width count finished total held -> sound, or 2
 // Held values that are not zero are given as place:value, parted by commas; there is a - where all are zero.
-ghost use Rattle.std.specs.Prelude.{◌≤◌};
-
 use crate::call;
+use crate::call::Call;
 use case_lines::line;
+use runs::answer::Refusal;
+use runs::record;
 use runs::record::Run;
-use runs::{answer, record};
-use text_runs::number::Field;
 
 // What has no place and value puts nothing.
 fn put(text: &[u8], held: &mut [i64]) {
-    let place = line::count(text, 0, b':');
-    let value = line::whole(text, 1, b':');
-    let Field::Number(x) = value else {
+    let (Some(place), Some(x)) = (line::count(text, 0, b':'), line::whole(text, 1, b':')) else {
         return;
     };
     if place < held.len() {
@@ -35,52 +32,42 @@ fn held_in(text: &[u8]) -> [i64; 64] {
 fn record_in(text: &[u8], total: i64) -> Run {
     let from = line::begin(text, 5, b' ');
     let held = held_in(&text[from..line::end(text, from, b' ')]);
-    let width = line::count(text, 1, b' ');
-    let finished = line::count(text, 3, b' ') == 1;
-    record::make(width, line::count(text, 2, b' '), held, finished, total)
+    let width = line::size(text, 1, b' ');
+    let finished = line::count(text, 3, b' ') == Some(1);
+    record::make(width, line::size(text, 2, b' '), held, finished, total)
 }
 
-// The kind of the call that takes, this way; 0 where there is no way.
-fn taking(text: &[u8]) -> usize
-    ensures { result ≤ 3 }
-{
+// The take and the finish of the way that a line names.
+fn calls(text: &[u8]) -> Option<(Call, Call)> {
     if line::is(text, 0, b' ', b"forward") {
-        return 1;
+        return Some((Call::Take, Call::Finish));
     }
     if line::is(text, 0, b' ', b"back") {
-        return 3;
+        return Some((Call::TakeBack, Call::FinishBack));
     }
-    0
+    None
 }
 
-// Whether a call refuses the record with 2. Nothing comes in and nothing is lent, so that a take never works.
-fn unsound(kind: usize, run: Run) -> bool {
+// Whether a call refuses the record as unsound. Nothing comes in and nothing is lent, so that a take never works.
+fn unsound(call: Call, run: Run) -> bool {
     let nothing = [0; 8];
     let mut room = [0; 8];
-    let given = call::repeated(kind, 1, run, &nothing[..0], &mut room[..0]);
-    let answer = given.answer;
-    answer::number(answer) == 2
+    let given = call::once(call, run, &nothing[..0], &mut room[..0]);
+    given.answer == Err(Refusal::Record)
 }
 
-// The take and the finish of the way both say what is told.
-fn both(kind: usize, run: Run, told: bool) -> bool
-    requires { kind ≤ 3 }
-{
-    (unsound(kind, run) == told) & (unsound(kind + 1, run) == told)
+// Both calls of the way say what is told.
+fn both(calls: (Call, Call), run: Run, told: bool) -> bool {
+    unsound(calls.0, run) == told && unsound(calls.1, run) == told
 }
 
 pub fn agrees(text: &[u8]) -> bool {
-    let kind = taking(text);
-    let found = line::whole(text, 4, b' ');
-    let Field::Number(total) = found else {
+    let (Some(calls), Some(total)) = (calls(text), line::whole(text, 4, b' ')) else {
         return false;
     };
-    if kind == 0 {
-        return false;
-    }
     let run = record_in(text, total);
     if line::is(text, 7, b' ', b"sound") {
-        return both(kind, run, false);
+        return both(calls, run, false);
     }
-    line::is(text, 7, b' ', b"2") & both(kind, run, true)
+    line::is(text, 7, b' ', b"2") && both(calls, run, true)
 }

@@ -9,15 +9,16 @@ pub struct QuadrantAngle {
     pub minus: bool,
 }
 
-// The angle less its whole turns: while there is one it is subtracted, and the function calls itself.
+// The angle less its whole turns: while there is one it is subtracted, and the function calls itself, a rule of the project.
 pub fn within_turn(angle: u16, turn: u16) -> u16
     requires { 0 < turn }
     ensures { result ≡ angle % turn }
 {
     if angle < turn {
-        return angle;
+        angle
+    } else {
+        within_turn(angle - turn, turn)
     }
-    within_turn(angle - turn, turn)
 }
 
 fn half_turn(angle: u16, quarter: u16) -> u16
@@ -26,9 +27,10 @@ fn half_turn(angle: u16, quarter: u16) -> u16
 {
     let part = within_turn(angle, 4 * quarter);
     if part <= 2 * quarter {
-        return part;
+        part
+    } else {
+        4 * quarter - part
     }
-    4 * quarter - part
 }
 
 // The angle brought into the first quadrant.
@@ -38,24 +40,23 @@ pub fn first_quadrant(angle: u16, quarter: u16) -> QuadrantAngle
 {
     let half = half_turn(angle, quarter);
     if half <= quarter {
-        return QuadrantAngle {
+        QuadrantAngle {
             angle: half,
             minus: false,
-        };
-    }
-    QuadrantAngle {
-        angle: 2 * quarter - half,
-        minus: true,
+        }
+    } else {
+        QuadrantAngle {
+            angle: 2 * quarter - half,
+            minus: true,
+        }
     }
 }
 
 // A table number with the sign of its cosine.
+#[tactic(auto, unfolding(tables::specs::Angles::signed))]
 pub fn signed(minus: bool, x: i64) -> i64
     requires { nat_abs x < 2 ^ 63 }
     ensures { result ≡ Rattle.tables.specs.Angles.signed minus x }
 {
-    if minus {
-        return 0 - x;
-    }
-    x
+    if minus { -x } else { x }
 }

@@ -6,13 +6,13 @@ ghost use Rattle.tables.specs.Numbers.{secants, secant_of};
 
 use crate::angles;
 
-const SECANTS_8: [i64; 2] = [290552444, 701455651];
+static SECANTS_8: [i64; 2] = [290552444, 701455651];
 
-const SECANTS_32: [i64; 8] = [
+static SECANTS_32: [i64; 8] = [
     269734300, 280514308, 304375761, 347259801, 423137291, 569446997, 924731745, 2738658311,
 ];
 
-const SECANTS_128: [i64; 32] = [
+static SECANTS_128: [i64; 32] = [
     268516328,
     269164770,
     270469513,
@@ -47,54 +47,28 @@ const SECANTS_128: [i64; 32] = [
     10938142553,
 ];
 
-// The secants at r = 1, 3, 5, .. from the table of a width: that of the angle in the first quadrant, with the sign of the cosine.
-fn odd_ones(width: usize, table: &[i64], out: &mut [i64])
-    requires { (0 < half_width width) × (table.now ≡ map pos (secants width)) × (length out.old ≤ 128) }
-    ensures { out.new ≡ places (length out.old) (λ k. secant_of width (pos (2 * k + 1))) }
+fn table_of(width: usize) -> &'static [i64]
+    ensures { result.now ≡ map pos (secants width) }
 {
-    let quarter = (width / 2) as u16;
-    let mut r: u16 = 1;
-    let mut k = 0;
-    while k < out.len() {
-        let folded = angles::first_quadrant(r, quarter);
-        let at = (folded.angle / 2) as usize;
-        out[k] = angles::signed(folded.minus, table[at]);
-        r += 2;
-        k += 1;
+    match width {
+        8 => &SECANTS_8,
+        32 => &SECANTS_32,
+        128 => &SECANTS_128,
+        _ => &[],
     }
 }
 
-// A function writes out the table that it names, so each table has its own.
-fn odd_ones_8(out: &mut [i64])
-    requires { length out.old ≤ 128 }
-    ensures { out.new ≡ places (length out.old) (λ k. secant_of 8 (pos (2 * k + 1))) }
-{
-    odd_ones(8, &SECANTS_8, out);
-}
-
-fn odd_ones_32(out: &mut [i64])
-    requires { length out.old ≤ 128 }
-    ensures { out.new ≡ places (length out.old) (λ k. secant_of 32 (pos (2 * k + 1))) }
-{
-    odd_ones(32, &SECANTS_32, out);
-}
-
-fn odd_ones_128(out: &mut [i64])
-    requires { length out.old ≤ 128 }
-    ensures { out.new ≡ places (length out.old) (λ k. secant_of 128 (pos (2 * k + 1))) }
-{
-    odd_ones(128, &SECANTS_128, out);
-}
-
-// The secants of a width at r = 1, 3, 5, .., one to each place of out.
+// The secants of a width at r = 1, 3, 5, .., one to each place of out: that of the angle in the first quadrant, with the sign of the cosine.
 pub fn secants(width: usize, out: &mut [i64])
     requires { (0 < half_width width) × (length out.old ≤ 128) }
     ensures { out.new ≡ places (length out.old) (λ k. secant_of width (pos (2 * k + 1))) }
 {
-    match width {
-        8 => odd_ones_8(out),
-        32 => odd_ones_32(out),
-        128 => odd_ones_128(out),
-        _ => {}
+    let table = table_of(width);
+    let quarter = (width / 2) as u16;
+    for (k, o) in out.iter_mut().enumerate() {
+        let r = (2 * k + 1) as u16;
+        let folded = angles::first_quadrant(r, quarter);
+        let at = usize::from(folded.angle / 2);
+        *o = angles::signed(folded.minus, table[at]);
     }
 }

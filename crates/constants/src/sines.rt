@@ -5,7 +5,7 @@ ghost use Rattle.tables.specs.Numbers.{sines, cosine_of};
 
 use crate::angles;
 
-const SINES: [i32; 257] = [
+static SINES: [i32; 257] = [
     0, 1647089, 3294116, 4941019, 6587736, 8234205, 9880364, 11526151, 13171504, 14816361,
     16460660, 18104339, 19747337, 21389592, 23031041, 24671623, 26311276, 27949938, 29587548,
     31224045, 32859365, 34493449, 36126234, 37757659, 39387662, 41016182, 42643158, 44268529,
@@ -40,7 +40,7 @@ const SINES: [i32; 257] = [
     268435456,
 ];
 
-// The table. A function writes out a constant that it names, so who needs more than one number takes it once and lends it.
+// A copy of the table: who needs more than one number takes it once and lends it.
 pub fn quarter() -> [i32; 257]
     ensures { result ≡ map pos sines }
 {
@@ -53,8 +53,8 @@ fn cosine(table: &[i32], j: u16) -> i64
     ensures { result ≡ cosine_of j }
 {
     let folded = angles::first_quadrant(j, 256);
-    let at = 256 - folded.angle as usize;
-    angles::signed(folded.minus, table[at] as i64)
+    let at = 256 - usize::from(folded.angle);
+    angles::signed(folded.minus, i64::from(table[at]))
 }
 
 // The cosines of first, first + step, first + 2·step, .. in parts of π/512, one to each place of out.
@@ -64,11 +64,9 @@ pub fn cosines(table: &[i32], first: u16, step: u16, out: &mut [i64])
 {
     let by = angles::within_turn(step, 1024);
     let mut j = angles::within_turn(first, 1024);
-    let mut e = 0;
-    while e < out.len() {
-        out[e] = cosine(table, j);
+    for o in out.iter_mut() {
+        *o = cosine(table, j);
         j = angles::within_turn(j + by, 1024);
-        e += 1;
     }
 }
 
@@ -78,10 +76,8 @@ pub fn cosines_by_threes(table: &[i32], first: u16, out: &mut [i64])
     ensures { out.new ≡ places (length out.old) (λ e. cosine_of (3 ^ e * first)) }
 {
     let mut j = angles::within_turn(first, 1024);
-    let mut e = 0;
-    while e < out.len() {
-        out[e] = cosine(table, j);
+    for o in out.iter_mut() {
+        *o = cosine(table, j);
         j = angles::within_turn(3 * j, 1024);
-        e += 1;
     }
 }

@@ -1,17 +1,17 @@
 // Half tangents tan((2m+1)π/(8N)), times 2^28.
-ghost use Rattle.std.specs.Prelude.{◌≡◌, ◌<◌, neg_ℤ, length};
-ghost use Rattle.integers.specs.Places.{places, at};
+ghost use Rattle.std.specs.Prelude.{◌≡◌, map, ◌<◌, pos, neg_ℤ, length};
+ghost use Rattle.integers.specs.Places.{places};
 ghost use Rattle.tables.specs.Widths.{half_width};
-ghost use Rattle.tables.specs.Numbers.{half_tangent_of};
+ghost use Rattle.tables.specs.Numbers.{half_tangents, half_tangent_of};
 
-const HALF_TANGENTS_8: [i64; 4] = [13187388, 39818638, 67239581, 96047742];
+static HALF_TANGENTS_8: [i64; 4] = [13187388, 39818638, 67239581, 96047742];
 
-const HALF_TANGENTS_32: [i64; 16] = [
+static HALF_TANGENTS_32: [i64; 16] = [
     3294364, 9887063, 16491695, 23116279, 29768931, 36457905, 43191631, 49978763, 56828222,
     63749246, 70751442, 77844840, 85039957, 92347864, 99780257, 107349540,
 ];
 
-const HALF_TANGENTS_128: [i64; 64] = [
+static HALF_TANGENTS_128: [i64; 64] = [
     823552, 2470719, 4118071, 5765734, 7413831, 9062487, 10711826, 12361973, 14013053, 15665190,
     17318512, 18973143, 20629210, 22286839, 23946158, 25607295, 27270377, 28935534, 30602896,
     32272592, 33944753, 35619511, 37296998, 38977348, 40660695, 42347174, 44036921, 45730074,
@@ -21,39 +21,15 @@ const HALF_TANGENTS_128: [i64; 64] = [
     95119773, 96977750, 98843983, 100718668, 102602005, 104494197, 106395450, 108305973, 110225980,
 ];
 
-// Each number of a table with its sign changed.
-fn negate(table: &[i64], out: &mut [i64])
-    requires out_len { length out.old ≡ length table.now }
-    requires within { Rattle.integers.specs.Places.Within 268435456 table.now }
-    ensures { out.new ≡ places (length out.old) (λ m. neg_ℤ (at table.now m)) }
+fn table_of(width: usize) -> &'static [i64]
+    ensures { result.now ≡ map pos (half_tangents width) }
 {
-    let mut m = 0;
-    while m < out.len() {
-        out[m] = 0 - table[m];
-        m += 1;
+    match width {
+        8 => &HALF_TANGENTS_8,
+        32 => &HALF_TANGENTS_32,
+        128 => &HALF_TANGENTS_128,
+        _ => &[],
     }
-}
-
-// A function writes out the table that it names, so each table has its own.
-fn negate_8(out: &mut [i64])
-    requires { length out.old ≡ half_width 8 }
-    ensures { out.new ≡ places (half_width 8) (λ m. neg_ℤ (half_tangent_of 8 m)) }
-{
-    negate(&HALF_TANGENTS_8, out);
-}
-
-fn negate_32(out: &mut [i64])
-    requires { length out.old ≡ half_width 32 }
-    ensures { out.new ≡ places (half_width 32) (λ m. neg_ℤ (half_tangent_of 32 m)) }
-{
-    negate(&HALF_TANGENTS_32, out);
-}
-
-fn negate_128(out: &mut [i64])
-    requires { length out.old ≡ half_width 128 }
-    ensures { out.new ≡ places (half_width 128) (λ m. neg_ℤ (half_tangent_of 128 m)) }
-{
-    negate(&HALF_TANGENTS_128, out);
 }
 
 // −t(m), as the lifts take it.
@@ -61,10 +37,8 @@ pub fn half_tangents(width: usize, out: &mut [i64])
     requires { (0 < half_width width) × (length out.old ≡ half_width width) }
     ensures { out.new ≡ places (half_width width) (λ m. neg_ℤ (half_tangent_of width m)) }
 {
-    match width {
-        8 => negate_8(out),
-        32 => negate_32(out),
-        128 => negate_128(out),
-        _ => {}
+    let table = table_of(width);
+    for (m, o) in out.iter_mut().enumerate() {
+        *o = -table[m];
     }
 }

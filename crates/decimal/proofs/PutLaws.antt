@@ -7,21 +7,6 @@ use lib.ListN.{length, take, set, get_or, length-append}
 use lib.Seq.{take-suc, take-suc-set, take-length}
 use Rattle.decimal.specs.Own.Put.{Put}
 
--- ---- byte by byte
-pub put_byte : (at i : ℕ) (out₀ out text : List ℕ) → at + i < length out → i < length text
-    → take (at + i) out ≡ take at out₀ ++ take i text → take (at + (i + 1)) (set out (at + i) (get_or text i 0)) ≡ take at out₀ ++ take (i + 1) text
-put_byte at i out₀ out text h l e =
-    let s : at + (i + 1) ≡ suc (at + i) = omega arith in
-    let t : i + 1 ≡ suc i = omega arith in
-    rw (s, t) (take-suc-set out (at + i) _ h
-    ∙ ap (λ (xs : List ℕ). xs ++ (get_or text i 0 ∷ [])) e
-    ∙ append_assoc (take at out₀) (take i text) _
-    ∙ ap (λ (xs : List ℕ). take at out₀ ++ xs) (sym (take-suc text i 0 l)))
-
-pub put_all : (at i : ℕ) (out₀ out text : List ℕ) → i ≡ length text → take (at + i) out ≡ take at out₀ ++ take i text → Put at out₀ text (at + i) out
-put_all at i out₀ out text h e =
-    record { count = ap (λ (n : ℕ). at + n) h; is = e ∙ ap (λ (n : ℕ). take at out₀ ++ take n text) h ∙ ap (λ (xs : List ℕ). take at out₀ ++ xs) (take-length text) }
-
 -- ---- one behind the other
 pub put-none : (at : ℕ) (out : List ℕ) → Put at out [] at out
 put-none at out = record { count = omega arith; is = sym (append-nil (take at out)) }

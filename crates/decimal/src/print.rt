@@ -9,12 +9,9 @@ pub fn bytes(out: &mut [u8], at: usize, text: &[u8]) -> usize
     requires { at + length text.now ≤ length out.old }
     ensures { Put at out.old text.now result out.new }
 {
-    let mut i = 0;
-    while i < text.len() {
-        out[at + i] = text[i];
-        i += 1;
-    }
-    at + i
+    let end = at + text.len();
+    out[at..end].copy_from_slice(text);
+    end
 }
 
 // The digits of n in the last places of a work array; answers where they begin.
@@ -52,23 +49,23 @@ pub fn last_natural(out: &mut [u8], at: usize, n: u64) -> usize
     bytes(out, m, b"\n")
 }
 
-// A number of 64 bits. The size of the least is above the greatest, so what is turned is one less.
+// A number of 64 bits.
 fn signed(out: &mut [u8], at: usize, x: i64) -> usize
     requires { at + length (printed x) ≤ length out.old }
     ensures { Put at out.old (printed x) result out.new }
 {
     if x < 0 {
         let n = bytes(out, at, b"-");
-        return natural(out, n, (-1 - x) as u64 + 1);
+        return natural(out, n, x.unsigned_abs());
     }
-    natural(out, at, x as u64)
+    natural(out, at, x.unsigned_abs())
 }
 
 pub fn number(out: &mut [u8], at: usize, x: i32) -> usize
     requires { at + 11 ≤ length out.old }
     ensures { Put at out.old (printed x) result out.new × (result ≤ at + 11) }
 {
-    signed(out, at, x as i64)
+    signed(out, at, i64::from(x))
 }
 
 // A number behind a comma.
@@ -85,14 +82,12 @@ pub fn numbers(out: &mut [u8], at: usize, x: &[i32]) -> usize
     requires { at + 12 * length x.now ≤ length out.old }
     ensures { Put at out.old (row x.now) result out.new × (result ≤ at + 12 * length x.now) }
 {
-    if x.len() == 0 {
+    let [first, rest @ ..] = x else {
         return at;
-    }
-    let mut n = number(out, at, x[0]);
-    let mut i = 1;
-    while i < x.len() {
-        n = next_number(out, n, x[i]);
-        i += 1;
+    };
+    let mut n = number(out, at, *first);
+    for y in rest {
+        n = next_number(out, n, *y);
     }
     n
 }

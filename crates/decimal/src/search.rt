@@ -7,12 +7,8 @@ pub fn end_of(text: &[u8], from: usize, byte: u8) -> usize
     requires { from ≤ length text.now }
     ensures { result ≡ from + length (up_to byte (drop from text.now)) }
 {
-    let mut i = from;
-    while i < text.len() {
-        if text[i] == byte {
-            return i;
-        }
-        i += 1;
+    match text[from..].iter().position(|b| *b == byte) {
+        Some(n) => from + n,
+        None => text.len(),
     }
-    i
 }

@@ -3,7 +3,7 @@ use mathlib.Core.Path.{◌≡◌, refl, sym, ap, subst, ◌∙◌}
 use mathlib.Core.Logic.{⊎_elim}
 use mathlib.Core.Bool.{Bool, true, false, not, cond, false≢true}
 use mathlib.Core.List.{List, [], ◌∷◌, ◌++◌}
-use mathlib.Core.Option.{Option, none, some}
+use Rattle.std.specs.Prelude.{Option, None, Some}
 use Prim.Native.Nat.{ℕ, suc, ◌+◌, ◌-◌, ◌≤◌, ◌<◌}
 use native.Mathlib.Omega.{arith}
 use borrow.Author.Tests.{eqb-true, ltb-true}
@@ -12,8 +12,6 @@ use lib.IntN.{ℤ, pos, negsuc}
 use lib.ListN.{length}
 use Rattle.feeding.specs.Budget.{Bounded}
 use Rattle.text_runs.proofs.UpToLaws.{tested}
-use Rattle.runs.specs.declared.answer.Found.{Found}
-use Rattle.runs.specs.declared.answer.Found.TheVariants.{At, Nothing}
 use Rattle.tables.specs.Widths.{half_width}
 use Rattle.runs.specs.declared.record.Run.{Run}
 use Rattle.runs.specs.Record.{frame_limit, block_limit, opened, advanced}
@@ -21,8 +19,6 @@ use Rattle.runs.specs.Gate.{ask, ask_each, admitted, sound, first_dead, first_ou
 use Rattle.runs.specs.Gate as Gate
 use Rattle.runs.specs.Forward.{started, taken, taken_in}
 use Rattle.runs.specs.Back.{taken_back, undone_in, unfolded_in, first_frame, later_frame, framed}
-use Rattle.text_runs.specs.declared.number.Field.{Field}
-use Rattle.text_runs.specs.declared.number.Field.TheVariants as Field
 use Rattle.text_runs.specs.Decimal.{number_in}
 use Rattle.text_runs.specs.Lines.{numbers_in, end_total}
 use Rattle.text_runs.specs.declared.state.Way.{Way}
@@ -47,11 +43,11 @@ unfolding ask
 ask-passed number true run out next h e = (refl, refl)
 ask-passed number false run out next h e = absurd (none-zero e h)
 
-each-passed : (number : ℕ) (found : Found) (run : Run) (out : List ℤ) (next : Gate.CallResult) → 0 < number → (ask_each number found run out next).0.0 ≡ 0
+each-passed : (number : ℕ) (found : Option ℕ) (run : Run) (out : List ℤ) (next : Gate.CallResult) → 0 < number → (ask_each number found run out next).0.0 ≡ 0
     → ask_each number found run out next ≡ next
 unfolding ask_each
-each-passed number (At place) run out next h e = absurd (none-zero e h)
-each-passed number Nothing run out next h e = refl
+each-passed number (Some place) run out next h e = absurd (none-zero e h)
+each-passed number None run out next h e = refl
 
 abbrev Worked : Gate.CallResult → Type 0
 Worked g = g.0.0 ≡ 0
@@ -64,10 +60,10 @@ unfolding ask
 ask-more number true run out next h k = k
 ask-more number false run out next h k = λ e. absurd (none-zero e h)
 
-each_more : (number : ℕ) (found : Found) (run : Run) (out : List ℤ) (next : Gate.CallResult) → 0 < number → OneMore run next → OneMore run (ask_each number found run out next)
+each_more : (number : ℕ) (found : Option ℕ) (run : Run) (out : List ℤ) (next : Gate.CallResult) → 0 < number → OneMore run next → OneMore run (ask_each number found run out next)
 unfolding ask_each
-each_more number (At place) run out next h k = λ e. absurd (none-zero e h)
-each_more number Nothing run out next h k = k
+each_more number (Some place) run out next h k = λ e. absurd (none-zero e h)
+each_more number None run out next h k = k
 
 ask-below : (number : ℕ) (answer : Bool) (run : Run) (out : List ℤ) (next : Gate.CallResult) → 0 < number → (Worked next → run.count < frame_limit)
     → Worked (ask number answer run out next) → run.count < frame_limit
@@ -127,20 +123,20 @@ unfolding started opened
 started_none N = ⊎_elim (λ e. rw e) (λ e. rw e) (tested (eqb (half_width N) 0))
 
 module _ (s : State) where
-  width-falls : s.phase ≡ First → (field : Field) → left (width_taken s field).0 < left s
+  width-falls : s.phase ≡ First → (field : Option ℤ) → left (width_taken s field).0 < left s
   unfolding width_taken width_started bad_form with_run left_in
-  width-falls e (Field.Number (pos N)) =
+  width-falls e (Some (pos N)) =
       ⊎_elim
       (λ (t : eqb (started N).0.0 0 ≡ true). rw t (rw (e, started_none N) (omega arith)))
       (λ t. rw t (refused-falls s (started N).0 (rw e (omega arith))))
       (tested (eqb (started N).0.0 0))
-  width-falls e (Field.Number (negsuc n)) = refused-falls s (1, 0) (rw e (omega arith))
-  width-falls e Field.Bad = refused-falls s (13, 0) (rw e (omega arith))
+  width-falls e (Some (negsuc n)) = refused-falls s (1, 0) (rw e (omega arith))
+  width-falls e None = refused-falls s (13, 0) (rw e (omega arith))
 
   row-falls : s.phase ≡ Between → (read : Option (List ℤ)) → left (row_taken s read).0 < left s
   unfolding row_taken row_given bad_form with_run left_in
-  row-falls e none = refused-falls s (13, 0) (rw e (omega arith))
-  row-falls e (some xs) =
+  row-falls e None = refused-falls s (13, 0) (rw e (omega arith))
+  row-falls e (Some xs) =
       let g : Gate.CallResult = taken_by s.way s.run xs (lent_output s.run) in
       ⊎_elim
       (λ (t : eqb g.0.0 0 ≡ true). let w : Worked g = eqb-true _ _ t in
@@ -148,10 +144,10 @@ module _ (s : State) where
       (λ t. rw t (refused-falls s g.0 (rw e (omega arith))))
       (tested (eqb g.0.0 0))
 
-  between-falls : s.phase ≡ Between → (bytes : List ℕ) (end : Field) → left (between_by s bytes end).0 < left s
+  between-falls : s.phase ≡ Between → (bytes : List ℕ) (end : Option ℤ) → left (between_by s bytes end).0 < left s
   unfolding between_by in_phase left_in
-  between-falls e bytes (Field.Number total) = rw e (omega arith)
-  between-falls e bytes Field.Bad = row-falls e (numbers_in bytes)
+  between-falls e bytes (Some total) = rw e (omega arith)
+  between-falls e bytes None = row-falls e (numbers_in bytes)
 
   formed-falls : (phase : Phase) → s.phase ≡ phase → not (is_going_on phase) ≡ false → (bytes : List ℕ) → left (formed phase s bytes).0 < left s
   unfolding formed between_taken bad_form left_in is_going_on

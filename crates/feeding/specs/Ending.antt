@@ -1,6 +1,5 @@
 -- How a text run ended, told by the last line printed.
-use Rattle.std.specs.Prelude.{cond, List, [], ◌∷◌, ◌++◌, ℕ, eqb, ℤ, pos, length, take, drop, get_or}
-use Rattle.std.proofs.Math.Option.{Option, none, some}
+use Rattle.std.specs.Prelude.{cond, List, [], ◌∷◌, ◌++◌, ℕ, eqb, ℤ, pos, length, take, drop, get_or, Option, None, Some}
 use Rattle.text_runs.specs.Lines.{line_feed, refused_tag, row, numbers_in, up_to, same}
 use Rattle.text_runs.specs.declared.state.Phase.{Phase}
 use Rattle.text_runs.specs.State.{is_going_on}
@@ -9,8 +8,8 @@ use Rattle.feeding.specs.declared.session.Ending.TheVariants.{Open, Whole, Refus
 
 -- a refusal's number, line and place
 unfoldable pub refused_by : Option (List ℤ) → Ending
-refused_by none = Whole
-refused_by (some xs) = cond (eqb (length xs) 3) (Refused (get_or xs 0 (pos 0)) (get_or xs 1 (pos 0)) (get_or xs 2 (pos 0))) Whole
+refused_by None = Whole
+refused_by (Some xs) = cond (eqb (length xs) 3) (Refused (get_or xs 0 (pos 0)) (get_or xs 1 (pos 0)) (get_or xs 2 (pos 0))) Whole
 
 -- what a last line says: "refused," and three numbers, or it is that of a whole run
 unfoldable pub last_said : List ℕ → Ending

@@ -20,13 +20,13 @@ use Rattle.integers.proofs.Rounding.{round-within}
 use Rattle.integers.proofs.PlaceLaws.{at_places, by-places}
 use Rattle.integers.proofs.Fills.{Filling, filling-next, filling-here}
 use Rattle.tables.specs.Widths.{half_width}
-use Rattle.tables.proofs.ByWidth.{at_each}
+use Rattle.tables.proofs.ByWidth.{at_each, half-width-le}
 use Rattle.steps.specs.Steps.{tangent, sine, tangent_amount, sine_amount, rotated_a, rotated_b, unrotated_a, unrotated_b, lower}
-use Rattle.steps.proofs.Lengths.{length-lower}
+use Rattle.steps.proofs.Lengths.{length-lower, width-half}
 use Rattle.slices.specs.Own.Moves.{moved}
 use Rattle.width_tables.specs.Own.Parts.{Tangents, Sines}
 use Rattle.slices.proofs.MoveLaws.{moved-size}
-use Rattle.width_tables.proofs.TableSizes.{tangents-within, sines-within}
+use Rattle.width_tables.proofs.TableSizes.{tangents-long, tangents-within, sines-long, sines-within}
 
 -- ---- one lift
 abbrev pub lifted : Bool → ℤ → ℤ → ℤ → ℤ
@@ -225,3 +225,6 @@ module _ (N : ℕ) (x h : List ℤ) where
         (middle-next s below
         (e ∙ sym (folded_low (2 * k) (2 * (q - 1 - k) + 1) (omega arith) (omega arith)))
         (g ∙ filling-past rest ∙ sym (folded-high (2 * k + 1) (2 * (q + k) + 1) (omega arith))))
+
+-- ---- how long a width's lists are, for `grind`
+pub ruleset lengths = (width-half, half-width-le, tangents-long, sines-long)

@@ -11,12 +11,6 @@ ghost use Rattle.width_tables.specs.Own.Parts.{Tangents, Sines, TwoHalves};
 
 use slices::vectors;
 
-#[derive(Clone, Copy)]
-struct Pair {
-    a: i64,
-    b: i64,
-}
-
 // Adds round(c·x) to y, or subtracts it when undoing.
 fn lift(undo: bool, c: i64, x: i64, y: i64) -> i64
     requires { (nat_abs c ≤ 2 ^ 28) × (nat_abs x ≤ 2 ^ 34) × (nat_abs y ≤ 2 ^ 61) }
@@ -26,35 +20,33 @@ fn lift(undo: bool, c: i64, x: i64, y: i64) -> i64
 }
 
 // The pair (a, b) rotated, or rotated back: t is −t(n), s is s(n).
-fn rotated(undo: bool, t: i64, s: i64, a: i64, b: i64) -> Pair
+fn rotated(undo: bool, t: i64, s: i64, a: i64, b: i64) -> (i64, i64)
     requires { (nat_abs t ≤ 2 ^ 28) × (nat_abs s ≤ 2 ^ 28) × (nat_abs a ≤ folded_limit) × (nat_abs b ≤ folded_limit) }
-    ensures a_value { result.a ≡ moved undo a (round 28 (s *ℤ moved undo b (round 28 (t *ℤ a)))) }
-    ensures b_value { result.b ≡ moved undo (moved undo b (round 28 (t *ℤ a))) (round 28 (t *ℤ result.a)) }
+    ensures a_value { result.0 ≡ moved undo a (round 28 (s *ℤ moved undo b (round 28 (t *ℤ a)))) }
+    ensures b_value { result.1 ≡ moved undo (moved undo b (round 28 (t *ℤ a))) (round 28 (t *ℤ result.0)) }
 {
     let b1 = lift(undo, t, a, b);
     let a1 = lift(undo, s, b1, a);
-    Pair {
-        a: a1,
-        b: lift(undo, t, a1, b1),
-    }
+    (a1, lift(undo, t, a1, b1))
 }
 
 // Pair n is reading n and reading N−1−n, rotated.
-fn pair_of(width: usize, tangents: &[i64], sines: &[i64], block: &[i32], n: usize) -> Pair
+#[tactic(auto, using(crate::proofs::FoldLaws::lengths))]
+fn pair_of(width: usize, tangents: &[i64], sines: &[i64], block: &[i32], n: usize) -> (i64, i64)
     requires n_bound { n < half_width width }
     requires tangents { Tangents width tangents.now }
     requires sines { Sines width sines.now }
     requires block_len { length block.now ≡ width }
     requires within { Within folded_limit block.now }
-    ensures { (result.a ≡ rotated_a width n (at block.now n) (at block.now (width - 1 - n))) × (result.b ≡ rotated_b width n (at block.now n) (at block.now (width - 1 - n))) }
+    ensures { (result.0 ≡ rotated_a width n (at block.now n) (at block.now (width - 1 - n))) × (result.1 ≡ rotated_b width n (at block.now n) (at block.now (width - 1 - n))) }
 {
     let mirrored = width - 1 - n;
     rotated(
         false,
         tangents[n],
         sines[n],
-        block[n] as i64,
-        block[mirrored] as i64,
+        i64::from(block[n]),
+        i64::from(block[mirrored]),
     )
 }
 
@@ -67,8 +59,8 @@ fn put_two(list: &mut [i64], i: usize, a: i64, j: usize, b: i64)
     list[j] = b;
 }
 
-// Rotates the pairs n and n + 1, for each even n. The new a is folded value M−1−n, and what was held is folded value M+n; the new b is held
-// instead. Folded values at even places are written to top, those at odd places to bottom.
+// Rotates the pairs n and n + 1 to (a, b) and (c, d), for each even n. The first of a pair is folded value M−1−n, and what was held is folded
+// value M+n; the second is held instead. Folded values at even places are written to top, those at odd places to bottom.
 pub fn fold(
     width: usize,
     tangents: &[i64],
@@ -88,19 +80,18 @@ pub fn fold(
     ensures top_after { (top.new ≡ top_of width (lower width block.now ++ held.old)) × (bottom.new ≡ bottom_of width (lower width block.now ++ held.old)) }
 {
     let quarter = width / 4;
-    let mut k = 0;
-    while k < quarter {
+    for k in 0..quarter {
         let n = 2 * k;
-        let first = pair_of(width, tangents, sines, block, n);
-        let second = pair_of(width, tangents, sines, block, n + 1);
-        put_two(bottom, quarter - 1 - k, first.a, quarter + k, held[n + 1]);
-        put_two(top, quarter - 1 - k, second.a, quarter + k, held[n]);
-        put_two(held, n, first.b, n + 1, second.b);
-        k += 1;
+        let (a, b) = pair_of(width, tangents, sines, block, n);
+        let (c, d) = pair_of(width, tangents, sines, block, n + 1);
+        put_two(bottom, quarter - 1 - k, a, quarter + k, held[n + 1]);
+        put_two(top, quarter - 1 - k, c, quarter + k, held[n]);
+        put_two(held, n, b, n + 1, d);
     }
 }
 
 // Pair n is lower place M−1−n and held place n, rotated back: a is reading n, b is reading N−1−n.
+#[tactic(auto, using(crate::proofs::FoldLaws::lengths))]
 pub fn unfold(
     width: usize,
     tangents: &[i64],
@@ -119,14 +110,10 @@ pub fn unfold(
     ensures { block.new ≡ Rattle.steps.specs.Steps.unfolded width lower.now held.now }
 {
     let half = tangents.len();
-    let mut n = 0;
-    while n < half {
+    for n in 0..half {
         let mirrored = half - 1 - n;
-        let pair = rotated(true, tangents[n], sines[n], lower[mirrored], held[n]);
-        let a = pair.a;
-        let b = pair.b;
+        let (a, b) = rotated(true, tangents[n], sines[n], lower[mirrored], held[n]);
         block[n] = a;
         block[width - 1 - n] = b;
-        n += 1;
     }
 }

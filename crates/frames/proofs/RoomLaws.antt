@@ -1,32 +1,17 @@
 -- What is filled for a width, as the code lends it, and room that is long enough for a width.
-use mathlib.Core.Path.{◌≡◌, sym, ap, ap₂, subst, ◌∙◌}
+use mathlib.Core.Path.{◌≡◌, sym, subst, ◌∙◌}
 use mathlib.Core.List.{List, ◌++◌}
-use Prim.Native.Nat.{ℕ, ◌-◌, ◌/◌, ◌≤◌, ◌<◌, zero-le}
+use Prim.Native.Nat.{ℕ, ◌/◌, ◌≤◌, ◌<◌, zero-le}
 use native.Mathlib.Omega.{arith}
 use lib.Dec.{lit≤}
 use lib.IntN.{ℤ}
-use lib.ListN.{length, take, drop}
+use lib.ListN.{length, take}
 use Rattle.tables.specs.Widths.{half_width}
 use Rattle.tables.proofs.ByWidth.{at_each, half-width-le}
 use Rattle.tables.proofs.Reading.{half_is}
-use Rattle.steps.proofs.Lengths.{width-half}
 use Rattle.width_tables.specs.Filled.{leaves_long, tables_long, list_room, product_room, Filled}
-use Rattle.width_tables.specs.Own.Parts.{Tangents, Sines, TwoHalves}
+use Rattle.width_tables.specs.Own.Parts.{TwoHalves}
 use Rattle.slices.proofs.Parts.{part-long, front, front_long, front-le}
-
-module _ (N : ℕ) (wide : 0 < half_width N) (t : List ℤ) (filled : Filled N t) where
-  -- the tangents and the sines stand in front
-  pub lifts-in : N ≤ length t
-  unfolding tables_long
-  lifts-in = omega (arith, filled.long, width-half N wide)
-
-  pub tangents-lent : Tangents N (take (N / 2) t)
-  tangents-lent = record { is = ap (λ (n : ℕ). take n t) (half_is N wide) ∙ filled.tangents }
-
-  pub sines-lent : Sines N (take (N - N / 2) (drop (N / 2) t))
-  sines-lent =
-      let e : N - N / 2 ≡ half_width N = omega (arith, half_is N wide, width-half N wide) in
-      record { is = ap₂ (λ (n m : ℕ). take n (drop m t)) e (half_is N wide) ∙ filled.sines }
 
 -- ---- how much room the widths take, the small ones and all
 pub half-small : (N : ℕ) → N ≤ 32 → half_width N ≤ 16

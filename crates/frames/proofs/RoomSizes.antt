@@ -13,7 +13,7 @@ use Rattle.width_tables.specs.Own.Parts.{TwoHalves, Room}
 use Rattle.slices.proofs.Parts.{part-long}
 use Rattle.runs.proofs.RecordLaws.{width-le}
 use Rattle.frames.specs.Own.WideRoom.{WideRoom}
-use Rattle.frames.proofs.RoomLaws.{half-small, tables-small, tables-le, lists-small, lists-le, product_small, product_le, halves-lent}
+use Rattle.frames.proofs.RoomLaws.{tables-le, lists-le, product_le, halves-lent}
 
 -- arrays of these lengths have room for all that a width takes, for half of it, and for a list, a product or a block
 pub record Wide (N tables half list : ℕ) : Type 0 where
@@ -23,9 +23,6 @@ pub record Wide (N tables half list : ℕ) : Type 0 where
   pub for-list : list_room N ≤ list
   pub for-product : product_room N ≤ list
   pub for-block : N ≤ list
-
-pub small-room : (N : ℕ) → 0 < half_width N → N ≤ 32 → Wide N 274 16 72
-small-room N w h = record { wide = w; for-tables = tables-small N h; for-half = half-small N h; for-list = lists-small N h; for-product = product_small N h; for-block = omega (arith, h) }
 
 pub large-room : (N : ℕ) → 0 < half_width N → Wide N 1906 64 648
 large-room N w = record { wide = w; for-tables = tables-le N; for-half = half-width-le N; for-list = lists-le N; for-product = product_le N; for-block = omega (arith, width-le N w) }

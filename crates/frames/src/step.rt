@@ -1,14 +1,14 @@
 // One block forward: its frame, and what it holds for the next.
-ghost use Rattle.std.specs.Prelude.{◌≡◌, ◌++◌, ◌+◌, ◌%◌, ◌^◌, ◌<◌, pos, length, replicate};
+ghost use Rattle.std.specs.Prelude.{◌≡◌, ◌++◌, ◌+◌, ◌%◌, ◌^◌, pos, length, replicate};
 ghost use Rattle.integers.specs.Places.{Within};
 ghost use Rattle.tables.specs.Widths.{half_width};
-ghost use Rattle.width_tables.specs.Filled.{Filled};
 ghost use Rattle.steps.specs.Limits.{reading_limit, folded_limit};
 ghost use Rattle.width_tables.specs.Own.Parts.{TwoHalves, Room};
 ghost use Rattle.steps.specs.Steps.{held, frame};
 
 use fold::folding;
 use slices::vectors;
+use width_tables::parts::Tables;
 
 // The halves of a frame, one behind the other.
 fn write(top: &[i64], bottom: &[i64], frame: &mut [i32])
@@ -23,10 +23,9 @@ fn write(top: &[i64], bottom: &[i64], frame: &mut [i32])
     vectors::narrow(bottom, &mut frame[half..]);
 }
 
-// t has what the width takes; what follows frame is room to work in.
+// What follows frame is room to work in.
 pub fn step(
-    width: usize,
-    t: &[i64],
+    t: &Tables,
     block: &[i32],
     held: &mut [i64],
     frame: &mut [i32],
@@ -35,18 +34,15 @@ pub fn step(
     y: &mut [i64],
     z: &mut [i64],
 )
-    requires width_nonzero { 0 < half_width width }
-    requires filled { Filled width t.now }
-    requires block_len { (length block.now ≡ width) × (length held.old ≡ half_width width) × (length frame.old ≡ width) }
-    requires two_halves { TwoHalves width top.old bottom.old }
-    requires room { Room width y.old z.old }
+    requires block_len { (length block.now ≡ t.now.width) × (length held.old ≡ half_width t.now.width) × (length frame.old ≡ t.now.width) }
+    requires two_halves { TwoHalves t.now.width top.old bottom.old }
+    requires room { Room t.now.width y.old z.old }
     requires within { Within folded_limit held.old }
     requires within_2 { Within reading_limit block.now }
-    ensures { (held.new ≡ Rattle.steps.specs.Steps.held width block.now) × (frame.new ≡ Rattle.steps.specs.Steps.frame width held.old block.now) }
+    ensures { (held.new ≡ Rattle.steps.specs.Steps.held t.now.width block.now) × (frame.new ≡ Rattle.steps.specs.Steps.frame t.now.width held.old block.now) }
 {
-    let half = width / 2;
-    folding::fold(width, &t[..half], &t[half..width], block, held, top, bottom);
-    stages::stages::forward(width, t, top, bottom, y, z);
+    folding::fold(t.width, t.tangents(), t.sines(), block, held, top, bottom);
+    stages::stages::forward(t, top, bottom, y, z);
     write(top, bottom, frame);
 }
 

@@ -1,10 +1,9 @@
 // One frame back: its folded values, the block before it, and what it holds for the next.
-ghost use Rattle.std.specs.Prelude.{◌≡◌, ◌%◌, ◌^◌, ◌≤◌, ◌<◌, ℤ, length, take, drop};
+ghost use Rattle.std.specs.Prelude.{◌≡◌, ◌%◌, ◌^◌, ◌≤◌, ℤ, length, take, drop};
 ghost use Rattle.integers.specs.Places.{Within};
 ghost use Rattle.tables.specs.Widths.{half_width};
 ghost use Rattle.steps.specs.Limits.{folded_limit};
 ghost use Rattle.steps.specs.Steps;
-ghost use Rattle.width_tables.specs.Filled.{Filled};
 ghost use Rattle.runs.specs.Answers.{told};
 ghost use Rattle.runs.specs.Record.{next_count, next_total, readings_given, opened};
 ghost use Rattle.runs.specs.Back.{unfolded_in, undone_in};
@@ -14,24 +13,23 @@ ghost use Rattle.frames.specs.Own.Unrefused.{Unrefused};
 use crate::transform;
 use fold::folding;
 use gate::questions;
-use runs::answer::{Answer, Found};
+use runs::answer::{Answer, Refusal};
 use runs::limits;
 use slices::vectors;
+use width_tables::parts::Tables;
 
 // The block between the lower half that is held and this frame's upper half.
-fn block_between(width: usize, t: &[i64], folded: &[i64], held: &[i64], wide: &mut [i64])
-    requires width_nonzero { 0 < half_width width }
-    requires filled { Filled width t.now }
-    requires folded_len { (length folded.now ≡ width) × (length held.now ≡ half_width width) × (length wide.old ≡ width) }
+fn block_between(t: &Tables, folded: &[i64], held: &[i64], wide: &mut [i64])
+    requires folded_len { (length folded.now ≡ t.now.width) × (length held.now ≡ half_width t.now.width) × (length wide.old ≡ t.now.width) }
     requires within { Within folded_limit folded.now }
     requires within_2 { Within folded_limit held.now }
-    ensures { wide.new ≡ Steps.unfolded width held.now (drop (half_width width) folded.now) }
+    ensures { wide.new ≡ Steps.unfolded t.now.width held.now (drop (half_width t.now.width) folded.now) }
 {
-    let half = width / 2;
+    let half = t.half();
     folding::unfold(
-        width,
-        &t[..half],
-        &t[half..width],
+        t.width,
+        t.tangents(),
+        t.sines(),
         held,
         &folded[half..],
         wide,
@@ -51,44 +49,38 @@ fn write(folded: &[i64], wide: &[i64], held: &mut [i64], block: &mut [i32])
 
 // The first frame: question 11. A later one: its block, and question 12. Then the lower half is held.
 fn unfolded_in(
-    width: usize,
     count: usize,
-    t: &[i64],
+    t: &Tables,
     folded: &[i64],
     held: &mut [i64],
     wide: &mut [i64],
     block: &mut [i32],
 ) -> Answer
-    requires width_nonzero { 0 < half_width width }
-    requires filled { Filled width t.now }
-    requires folded_len { (length folded.now ≡ width) × (length held.old ≡ half_width width) × (length wide.old ≡ width) × (length block.old ≡ width) }
+    requires folded_len { (length folded.now ≡ t.now.width) × (length held.old ≡ half_width t.now.width) × (length wide.old ≡ t.now.width) × (length block.old ≡ t.now.width) }
     requires within { Within folded_limit folded.now }
     requires within_2 { Within folded_limit held.old }
-    ensures { (total : ℤ) → (told result, opened width (next_count (told result).0 count) (next_total (told result).0 total (readings_given count block.new)) held.new, block.new) ≡ unfolded_in (opened width count total held.old) folded.now block.old }
+    ensures { (total : ℤ) → (told result, opened t.now.width (next_count (told result).0 count) (next_total (told result).0 total (readings_given count block.new)) held.new, block.new) ≡ unfolded_in (opened t.now.width count total held.old) folded.now block.old }
 {
-    let half = width / 2;
+    let half = t.half();
     if count == 0 {
-        let upper = questions::first_beyond(&folded[half..], 0);
-        if let Found::At(place) = upper {
-            return Answer::Halves(half + place);
+        if let Some(place) = questions::first_beyond(&folded[half..], 0) {
+            return Err(Refusal::Halves(half + place));
         }
         vectors::copy(&folded[..half], held);
-        return Answer::Done;
+        return Ok(());
     }
-    block_between(width, t, folded, held, wide);
-    let beyond = questions::first_beyond(wide, limits::READING_LIMIT);
-    if let Found::At(place) = beyond {
-        return Answer::Unfolded(place);
+    block_between(t, folded, held, wide);
+    if let Some(place) = questions::first_beyond(wide, limits::READING_LIMIT) {
+        return Err(Refusal::Unfolded(place));
     }
     write(folded, wide, held, block);
-    Answer::Done
+    Ok(())
 }
 
-// Questions 9 to 12 of the frame behind count others, and the block before it; t has what the width takes, and what follows block is room to work in.
+// Questions 9 to 12 of the frame behind count others, and the block before it; what follows block is room to work in.
 pub fn undo(
-    width: usize,
     count: usize,
-    t: &[i64],
+    t: &Tables,
     frame: &[i32],
     held: &mut [i64],
     block: &mut [i32],
@@ -97,24 +89,18 @@ pub fn undo(
     y: &mut [i64],
     z: &mut [i64],
 ) -> Answer
-    requires width_nonzero { 0 < half_width width }
-    requires filled { Filled width t.now }
-    requires frame_len { (length frame.now ≡ width) × (length held.old ≡ half_width width) × (length block.old ≡ width) }
-    requires wide_room { WideRoom width top.old bottom.old y.old z.old }
+    requires frame_len { (length frame.now ≡ t.now.width) × (length held.old ≡ half_width t.now.width) × (length block.old ≡ t.now.width) }
+    requires wide_room { WideRoom t.now.width top.old bottom.old y.old z.old }
     requires within { Within folded_limit held.old }
-    ensures { (total : ℤ) → (told result, opened width (next_count (told result).0 count) (next_total (told result).0 total (readings_given count block.new)) held.new, block.new) ≡ undone_in (opened width count total held.old) frame.now block.old }
+    ensures { (total : ℤ) → (told result, opened t.now.width (next_count (told result).0 count) (next_total (told result).0 total (readings_given count block.new)) held.new, block.new) ≡ undone_in (opened t.now.width count total held.old) frame.now block.old }
 {
-    let asked = transform::unstaged(width, t, frame, top, bottom, y, z);
-    if runs::answer::number(asked) != 0 {
-        return asked;
-    }
-    unfolded_in(width, count, t, &y[..width], held, &mut z[..width], block)
+    transform::unstaged(t, frame, top, bottom, y, z)?;
+    unfolded_in(count, t, &y[..t.width], held, &mut z[..t.width], block)
 }
 
 // The same of a frame behind others of which it is known that no question refuses it: nothing is asked.
 pub fn give_back(
-    width: usize,
-    t: &[i64],
+    t: &Tables,
     frame: &[i32],
     held: &mut [i64],
     block: &mut [i32],
@@ -123,16 +109,14 @@ pub fn give_back(
     y: &mut [i64],
     z: &mut [i64],
 )
-    requires width_nonzero { 0 < half_width width }
-    requires filled { Filled width t.now }
-    requires frame_len { (length frame.now ≡ width) × (length held.old ≡ half_width width) × (length block.old ≡ width) }
-    requires wide_room { WideRoom width top.old bottom.old y.old z.old }
+    requires frame_len { (length frame.now ≡ t.now.width) × (length held.old ≡ half_width t.now.width) × (length block.old ≡ t.now.width) }
+    requires wide_room { WideRoom t.now.width top.old bottom.old y.old z.old }
     requires within { Within folded_limit held.old }
-    requires unrefused { Unrefused width held.old frame.now }
-    ensures { (held.new ≡ take (half_width width) (Steps.unstages width frame.now)) × (block.new ≡ Steps.unfolded width held.old (drop (half_width width) (Steps.unstages width frame.now))) }
+    requires unrefused { Unrefused t.now.width held.old frame.now }
+    ensures { (held.new ≡ take (half_width t.now.width) (Steps.unstages t.now.width frame.now)) × (block.new ≡ Steps.unfolded t.now.width held.old (drop (half_width t.now.width) (Steps.unstages t.now.width frame.now))) }
 {
-    transform::unstages(width, t, frame, top, bottom, y, z);
-    let folded = &y[..width];
-    block_between(width, t, folded, held, &mut z[..width]);
-    write(folded, &z[..width], held, block);
+    transform::unstages(t, frame, top, bottom, y, z);
+    let folded = &y[..t.width];
+    block_between(t, folded, held, &mut z[..t.width]);
+    write(folded, &z[..t.width], held, block);
 }

@@ -10,12 +10,42 @@ use lib.IntN.{ℤ, pos}
 use lib.ListN.{length, length-replicate}
 use Rattle.tables.specs.Widths.{half_width}
 use Rattle.runs.specs.Answers.{told}
-use Rattle.runs.specs.declared.answer.Answer.{Answer}
+use Rattle.runs.specs.Answers.{Answer}
+use Rattle.std.specs.Prelude.{Ok, Err, ⊤}
+use Rattle.runs.specs.declared.answer.Refusal.{Refusal}
+use Rattle.runs.specs.declared.answer.Refusal.TheVariants.{Width, Record, Closed, Full, Empty, InputLength, OutputLength, DeadMark, Range, Folded, Halves, Unfolded}
 use Rattle.runs.specs.declared.record.Run.{Run}
 use Rattle.runs.specs.Record.{zeros, record_of, next_count, next_total}
 use Rattle.runs.specs.Gate.{CallResult, ask, sound, admitted}
 use Rattle.runs.proofs.Refusals.{count_kept, total_kept}
 use Rattle.gate.specs.Own.Asked.{answered, StillOpen, Admitted, whole_parts, in_parts}
+
+-- the number of a refusal
+pub refusal-number : (e : Refusal) → (told (Err e)).0 ≡ 0 → ⊥
+unfolding told
+refusal-number Width z = omega arith
+refusal-number Record z = omega arith
+refusal-number Closed z = omega arith
+refusal-number Full z = omega arith
+refusal-number Empty z = omega arith
+refusal-number InputLength z = omega arith
+refusal-number OutputLength z = omega arith
+refusal-number (DeadMark i) z = omega arith
+refusal-number (Range i) z = omega arith
+refusal-number (Folded i) z = omega arith
+refusal-number (Halves i) z = omega arith
+refusal-number (Unfolded i) z = omega arith
+
+pub done-number : (x : ⊤) → (told (Ok x)).0 ≡ 0
+unfolding told
+done-number x = refl
+
+-- the number of an answer of which it is known which it is
+pub done-is : {answer : Answer} {x : ⊤} → answer ≡ Ok x → (told answer).0 ≡ 0
+done-is {answer} {x} e = ap (λ (a : Answer). (told a).0) e ∙ done-number x
+
+pub refusal_is : {answer : Answer} {r : Refusal} → answer ≡ Err r → (told answer).0 ≡ 0 → ⊥
+refusal_is {answer} {r} e z = refusal-number r (sym (ap (λ (a : Answer). (told a).0) e) ∙ z)
 
 module _ (answer : Answer) (run : Run) (out : List ℤ) (next : CallResult) where
   pub refused : ((told answer).0 ≡ 0 → ⊥) → (told answer, run, out) ≡ answered answer run out next

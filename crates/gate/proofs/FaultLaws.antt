@@ -10,12 +10,10 @@ use lib.ListN.{length, take, drop, length-append, length-drop}
 use lib.Seq.{length-take-le, drop-drop}
 use Rattle.tables.specs.Widths.{half_width}
 use Rattle.tables.proofs.ByWidth.{half-width-le}
-use Rattle.runs.specs.declared.answer.Found.{Found}
-use Rattle.runs.specs.declared.answer.Found.TheVariants.{At, Nothing}
-use Rattle.gate.specs.declared.questions.Fault.{Fault}
-use Rattle.gate.specs.declared.questions.Fault.TheVariants.{Dead, Beyond, Clear}
+use Rattle.std.specs.Prelude.{Option, Some, None, Ok, Err}
+use Rattle.gate.specs.declared.questions.Fault.TheVariants.{Dead, Beyond}
 use Rattle.runs.specs.Gate.{inside, first_dead, first_out}
-use Rattle.gate.specs.Own.Faults.{fault_by, fault_of, fault_from, first_fault}
+use Rattle.gate.specs.Own.Faults.{Checked, fault_by, fault_of, fault_from, first_fault}
 use Rattle.runs.specs.Record.{block_limit}
 use Rattle.gate.specs.Own.Ready.{WholeBlocks}
 use Rattle.steps.specs.Limits.{reading_limit}
@@ -25,25 +23,25 @@ use Rattle.gate.proofs.GateLaws.{inside_take, inside-drop}
 use Rattle.gate.proofs.BlockLaws.{range_clear}
 
 -- ---- a fault's place is in its block
-place_of : Fault → ℕ
-place_of (Dead place) = place
-place_of (Beyond place) = place
-place_of Clear = 0
+place_of : Checked → ℕ
+place_of (Err (Dead place)) = place
+place_of (Err (Beyond place)) = place
+place_of (Ok x) = 0
 
 fault-place : (xs : List ℤ) → place_of (fault_of xs) ≤ length xs
 unfolding fault_of fault_by place_of place_found
 fault-place xs = by (first_dead xs 0) (first_out xs 0) (found-place _ xs 0) (found-place _ xs 0)
   where
-    by : (f g : Found) → place_found f ≤ 0 + length xs → place_found g ≤ 0 + length xs → place_of (fault_by f g) ≤ length xs
-    by (At place) g h k = omega arith
-    by Nothing (At place) h k = omega arith
-    by Nothing Nothing h k = omega arith
+    by : (f g : Option ℕ) → place_found f ≤ 0 + length xs → place_found g ≤ 0 + length xs → place_of (fault_by f g) ≤ length xs
+    by (Some place) g h k = omega arith
+    by None (Some place) h k = omega arith
+    by None None h k = omega arith
 
-pub dead-place : (xs : List ℤ) (place : ℕ) → fault_of xs ≡ Dead place → place ≤ length xs
+pub dead-place : (xs : List ℤ) (place : ℕ) → fault_of xs ≡ Err (Dead place) → place ≤ length xs
 unfolding place_of
 dead-place xs place e = omega (arith, fault-place xs, ap place_of e)
 
-pub beyond-place : (xs : List ℤ) (place : ℕ) → fault_of xs ≡ Beyond place → place ≤ length xs
+pub beyond-place : (xs : List ℤ) (place : ℕ) → fault_of xs ≡ Err (Beyond place) → place ≤ length xs
 unfolding place_of
 beyond-place xs place e = omega (arith, fault-place xs, ap place_of e)
 
@@ -87,7 +85,7 @@ block-long place N xs h = length-take-le N (drop place xs) (omega (arith, length
 
 -- ---- the first fault of the blocks left: of the next one, or of those after it
 module _ (N before left : ℕ) (readings : List ℤ) (h : 0 < left) where
-  abbrev later : Fault
+  abbrev later : Checked
   later = first_fault N (before + N) (left - 1) (drop (before + N) readings)
 
   fault-next : first_fault N before left (drop before readings) ≡ fault_from before (fault_of (take N (drop before readings))) later
@@ -99,37 +97,37 @@ module _ (N before left : ℕ) (readings : List ℤ) (h : 0 < left) where
       by (suc l) h = let d : suc l - 1 ≡ l = omega arith in rw (d, ← drop-drop N before readings)
 
   -- without a fault among them, the next one has none and those after it have none
-  pub both-clear : first_fault N before left (drop before readings) ≡ Clear → (fault_of (take N (drop before readings)) ≡ Clear) × (later ≡ Clear)
+  pub both-clear : first_fault N before left (drop before readings) ≡ Ok tt → (fault_of (take N (drop before readings)) ≡ Ok tt) × (later ≡ Ok tt)
   unfolding fault_from
   both-clear e = by (fault_of (take N (drop before readings))) (sym fault-next ∙ e)
     where
-      by : (f : Fault) → fault_from before f later ≡ Clear → (f ≡ Clear) × (later ≡ Clear)
-      by (Dead place) e = (cc, cc)
-      by (Beyond place) e = (cc, cc)
-      by Clear e = (refl, e)
+      by : (f : Checked) → fault_from before f later ≡ Ok tt → (f ≡ Ok tt) × (later ≡ Ok tt)
+      by (Err (Dead place)) e = (cc, cc)
+      by (Err (Beyond place)) e = (cc, cc)
+      by (Ok x) e = (refl, e)
 
 module _ (N before left b : ℕ) (readings : List ℤ) (h : 0 < left) (e : first_fault N 0 b readings ≡ first_fault N before left (drop before readings)) where
-  fault-here : (f : Fault) → fault_of (take N (drop before readings)) ≡ f → first_fault N 0 b readings ≡ fault_from before f (later N before left readings h)
+  fault-here : (f : Checked) → fault_of (take N (drop before readings)) ≡ f → first_fault N 0 b readings ≡ fault_from before f (later N before left readings h)
   fault-here f d = e ∙ fault-next N before left readings h ∙ ap (λ g. fault_from before g (later N before left readings h)) d
 
-  pub dead-here : (place : ℕ) → fault_of (take N (drop before readings)) ≡ Dead place → Dead (before + place) ≡ first_fault N 0 b readings
+  pub dead-here : (place : ℕ) → fault_of (take N (drop before readings)) ≡ Err (Dead place) → Err (Dead (before + place)) ≡ first_fault N 0 b readings
   unfolding fault_from
-  dead-here place d = sym (fault-here (Dead place) d)
+  dead-here place d = sym (fault-here (Err (Dead place)) d)
 
-  pub beyond-here : (place : ℕ) → fault_of (take N (drop before readings)) ≡ Beyond place → Beyond (before + place) ≡ first_fault N 0 b readings
+  pub beyond-here : (place : ℕ) → fault_of (take N (drop before readings)) ≡ Err (Beyond place) → Err (Beyond (before + place)) ≡ first_fault N 0 b readings
   unfolding fault_from
-  beyond-here place d = sym (fault-here (Beyond place) d)
+  beyond-here place d = sym (fault-here (Err (Beyond place)) d)
 
-  pub clear-here : fault_of (take N (drop before readings)) ≡ Clear → first_fault N 0 b readings ≡ (later N before left readings h)
+  pub clear-here : fault_of (take N (drop before readings)) ≡ Ok tt → first_fault N 0 b readings ≡ (later N before left readings h)
   unfolding fault_from
-  clear-here d = fault-here Clear d
+  clear-here d = fault-here (Ok tt) d
 
-pub none_left : (N before left : ℕ) (xs : List ℤ) → left ≡ 0 → Clear ≡ first_fault N before left xs
+pub none_left : (N before left : ℕ) (xs : List ℤ) → left ≡ 0 → Ok tt ≡ first_fault N before left xs
 unfolding first_fault
 none_left N before left xs e = rw e
 
 -- readings that are all in range have no fault
-pub none_at_all : (N before b : ℕ) (readings : List ℤ) → inside (pos reading_limit) readings ≡ true → first_fault N before b readings ≡ Clear
+pub none_at_all : (N before b : ℕ) (readings : List ℤ) → inside (pos reading_limit) readings ≡ true → first_fault N before b readings ≡ Ok tt
 unfolding first_fault fault_from
 none_at_all N before zero readings e = refl
 none_at_all N before (suc b) readings e =

@@ -22,7 +22,7 @@ use Rattle.integers.proofs.Products.{all_append, all_get_d}
 use Rattle.tables.specs.Widths.{half_width}
 use Rattle.steps.specs.Limits.{reading_limit, folded_limit}
 use Rattle.runs.specs.Answers.{beyond, first_beyond}
-use Rattle.runs.specs.declared.answer.Found.TheVariants.{At, Nothing}
+use Rattle.std.specs.Prelude.{Some, None}
 use Rattle.gate.proofs.LimitLaws.{stops, goes_on, ends}
 use Rattle.runs.specs.declared.record.Run.{Run}
 use Rattle.runs.specs.Gate.{nothing, inside, all_yes, blocks_behind, sound, dead, first_dead}
@@ -43,15 +43,15 @@ none-dead : (xs : List ℤ) → AllAbs reading_limit xs → All (λ x. dead x �
 none-dead [] h = tt
 none-dead (x ∷ xs) h = (unmarked x (λ e. let d = ap nat_abs e in omega (arith, h.0, d)), none-dead xs h.1)
 
-pub none-marked : (xs : List ℤ) → AllAbs reading_limit xs → first_dead xs 0 ≡ Nothing
+pub none-marked : (xs : List ℤ) → AllAbs reading_limit xs → first_dead xs 0 ≡ None
 none-marked xs h = none_found dead xs 0 (none-dead xs h)
 
 -- ---- a search that the code has made
-pub outside : (limit : ℤ) (xs : List ℤ) (i : ℕ) → first_beyond limit xs 0 ≡ At i → inside limit xs ≡ false
+pub outside : (limit : ℤ) (xs : List ℤ) (i : ℕ) → first_beyond limit xs 0 ≡ Some i → inside limit xs ≡ false
 unfolding inside nothing
 outside limit xs i e = ap nothing e
 
-pub within : (limit : ℤ) (xs : List ℤ) → first_beyond limit xs 0 ≡ Nothing → inside limit xs ≡ true
+pub within : (limit : ℤ) (xs : List ℤ) → first_beyond limit xs 0 ≡ None → inside limit xs ≡ true
 unfolding inside nothing
 within limit xs e = ap nothing e
 
@@ -65,9 +65,6 @@ minus-fits w (negsuc n) k f = absurd k.le
 pub record Counted (limit : ℤ) (xs : List ℤ) (i out : ℕ) : Type 0 where
   pub none : out ≡ 0 → first_beyond limit xs 0 ≡ first_beyond limit (drop i xs) i
   pub some : (out ≡ 0 → ⊥) → inside limit xs ≡ false
-
-pub counted_none : (limit : ℤ) (xs : List ℤ) → Counted limit xs 0 0
-counted_none limit xs = record { none = λ e. refl; some = λ f. absurd (f refl) }
 
 pub counted_next : (limit : ℤ) (xs : List ℤ) (i out r : ℕ) → i < length xs → r ≡ cond (beyond limit (at xs i)) 1 0 → Counted limit xs i out → Counted limit xs (i + 1) (out + r)
 counted_next limit xs i out r l e c = by (beyond limit (at xs i)) (eqb out 0) refl refl

@@ -4,4 +4,5 @@ pub mod BlockLaws
 pub mod PartLaws
 pub mod ReadyLaws
 pub mod AskedLaws
+pub mod CallFacts
 pub mod FaultLaws

@@ -12,7 +12,7 @@ use lib.ListN.{length, get_or, drop}
 use lib.Seq.{drop-cons, drop-length}
 use lib.Signed.{lt_z, ◌≤ℤ◌}
 use Rattle.runs.specs.Answers.{beyond, first_where}
-use Rattle.runs.specs.declared.answer.Found.TheVariants.{At, Nothing}
+use Rattle.std.specs.Prelude.{Some, None}
 
 pub above : (l x : ℤ) → pos 0 ≤ℤ l → lt_z l x ≡ true → beyond l x ≡ true
 unfolding beyond
@@ -37,7 +37,7 @@ neither (negsuc l) x k e f = absurd k.le
 
 -- the search that goes on at i: it ends there, goes on, or has nothing left
 module _ (test : ℤ → Bool) (s : List ℤ) (i : ℕ) where
-  pub stops : i < length s → test (get_or s i (pos 0)) ≡ true → first_where test (drop i s) i ≡ At i
+  pub stops : i < length s → test (get_or s i (pos 0)) ≡ true → first_where test (drop i s) i ≡ Some i
   unfolding first_where
   stops h e = rw (drop-cons s i (pos 0) h, e)
 
@@ -45,6 +45,11 @@ module _ (test : ℤ → Bool) (s : List ℤ) (i : ℕ) where
   unfolding first_where
   goes_on h e = rw (drop-cons s i (pos 0) h, e, add-one)
 
-  pub ends : i ≡ length s → first_where test (drop i s) i ≡ Nothing
+  pub ends : i ≡ length s → first_where test (drop i s) i ≡ None
   unfolding first_where
   ends e = rw (e, drop-length)
+
+-- the two tests together
+pub by_tests : (l x : ℤ) (b : Bool) → pos 0 ≤ℤ l → lt_z l x ≡ false → lt_z x (neg_ℤ l) ≡ b → b ≡ beyond l x
+by_tests l x true k e f = sym (below l x k f)
+by_tests l x false k e f = sym (neither l x k e f)

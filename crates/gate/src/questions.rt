@@ -4,71 +4,76 @@ ghost use Rattle.integers.specs.Vectors.{sum_of};
 ghost use Rattle.steps.specs.Limits.{reading_limit};
 ghost use Rattle.runs.specs.Answers.{told, beyond, first_beyond};
 ghost use Rattle.runs.specs.Record.{block_limit, frame_limit, record_of, outcome_of, next_count, next_total};
-ghost use Rattle.runs.specs.Gate.{blocks_behind, first_dead};
+ghost use Rattle.runs.specs.Gate.{blocks_behind, dead, first_dead};
 ghost use Rattle.runs.specs.Totals.{total_limit};
 ghost use Rattle.gate.specs.Own.Asked.{StillOpen, Admitted, in_parts};
-ghost use Rattle.gate.specs.Own.Faults.{fault_of};
+ghost use Rattle.gate.specs.Own.Faults.{refusal_of, fault_of};
 
 use constants::widths;
-use runs::answer::{Answer, Found};
+use runs::answer::{Answer, Refusal};
 use runs::record::{Outcome, Run};
 use runs::{limits, record};
 use slices::{room, vectors};
 
 // The first reading that questions 8 and 9 refuse.
-#[derive(Clone, Copy)]
+#[derive(Clone, Copy, PartialEq, Eq)]
 pub enum Fault {
     Dead(usize),
     Beyond(usize),
-    Clear,
+}
+
+impl From<Fault> for Refusal {
+    ghost from_gives = { λ f e. e ≡ refusal_of f };
+
+    fn from(fault: Fault) -> Refusal {
+        match fault {
+            Fault::Dead(place) => Refusal::DeadMark(place),
+            Fault::Beyond(place) => Refusal::Range(place),
+        }
+    }
+}
+
+fn beyond(value: i64, limit: i64) -> bool
+    requires { pos 0 ≤ℤ limit }
+    ensures { result ≡ beyond limit value }
+{
+    limit < value || value < -limit
 }
 
 // The first number beyond ±limit.
-pub fn first_beyond(x: &[i64], limit: i32) -> Found
+pub fn first_beyond(x: &[i64], limit: i32) -> Option<usize>
     requires { pos 0 ≤ℤ limit }
     ensures { result ≡ first_beyond limit x.now 0 }
 {
-    let high = limit as i64;
-    let low = 0 - high;
-    let mut i = 0;
-    while i < x.len() {
-        let value = x[i];
-        if high < value {
-            return Found::At(i);
+    let high = i64::from(limit);
+    for (i, v) in x.iter().enumerate() {
+        if beyond(*v, high) {
+            return Some(i);
         }
-        if value < low {
-            return Found::At(i);
-        }
-        i += 1;
     }
-    Found::Nothing
+    None
 }
 
 fn inside(x: &[i64], limit: i32) -> bool
     requires { pos 0 ≤ℤ limit }
     ensures { result ≡ Rattle.runs.specs.Gate.inside limit x.now }
 {
-    let beyond = first_beyond(x, limit);
-    if let Found::At(_) = beyond {
-        return false;
-    }
-    true
+    first_beyond(x, limit).is_none()
 }
 
 // Whether every number is zero. The bits of all are gathered without a branch, which the machine does two numbers at a time.
 fn clear(x: &[i64]) -> bool
     ensures { result ≡ Rattle.runs.specs.Gate.inside (pos 0) x.now }
 {
-    let mut any: i64 = 0;
-    let mut i = 0;
-    while i < x.len() {
-        any = any | x[i];
-        i += 1;
+    let mut any = 0;
+    for v in x {
+        any |= *v;
     }
     any == 0
 }
 
 // The blocks of a run: b blocks give b + 1 frames, and the count is of blocks forward, of frames back.
+#[tactic(auto, unfolding(runs::specs::Gate::blocks_behind))]
 fn blocks_behind(top: usize, count: usize) -> usize
     requires { (count ≤ top) × (top ≤ frame_limit) }
     ensures { (result ≡ blocks_behind top count) × (result ≤ block_limit) }
@@ -92,11 +97,7 @@ fn total_beyond(total: i64, limit: usize) -> bool
     requires { limit ≤ total_limit }
     ensures { result ≡ beyond (pos limit) total }
 {
-    let high = limit as i64;
-    if high < total {
-        return true;
-    }
-    total < 0 - high
+    beyond(total, limit as i64)
 }
 
 // Question 2. The held values of the record are lent.
@@ -139,12 +140,12 @@ pub fn still_open(
     ensures { StillOpen top (record_of width count held.now finished total) result }
 {
     if !sound(top, width, count, finished, total, held) {
-        return Answer::Record;
+        return Err(Refusal::Record);
     }
     if finished {
-        return Answer::Closed;
+        return Err(Refusal::Closed);
     }
-    Answer::Done
+    Ok(())
 }
 
 // Questions 2, 3, 4, 6 and 7, to a block or a frame: given numbers are handed in, and out lent for the output.
@@ -161,20 +162,17 @@ pub fn admitted(
     requires { (top ≤ frame_limit) × (length held.now ≡ 64) }
     ensures { Admitted top (record_of width count held.now finished total) given out result }
 {
-    let open = still_open(top, width, count, finished, total, held);
-    if runs::answer::number(open) != 0 {
-        return open;
-    }
+    still_open(top, width, count, finished, total, held)?;
     if count == top {
-        return Answer::Full;
+        return Err(Refusal::Full);
     }
     if given != width {
-        return Answer::InputLength;
+        return Err(Refusal::InputLength);
     }
     if out != width {
-        return Answer::OutputLength;
+        return Err(Refusal::OutputLength);
     }
-    Answer::Done
+    Ok(())
 }
 
 // Questions 1 and 6, where there is no record: a good width, and an input of whole blocks or frames, from least to most of them.
@@ -182,55 +180,57 @@ pub fn in_parts(width: usize, given: usize, least: usize, most: usize) -> Answer
     ensures { told result ≡ in_parts width given least most }
 {
     if widths::half_width(width) == 0 {
-        return Answer::Width;
+        return Err(Refusal::Width);
     }
     if given % width != 0 {
-        return Answer::InputLength;
+        return Err(Refusal::InputLength);
     }
     let parts = given / width;
     if most < parts {
-        return Answer::InputLength;
+        return Err(Refusal::InputLength);
     }
     if parts < least {
-        return Answer::InputLength;
+        return Err(Refusal::InputLength);
     }
-    Answer::Done
+    Ok(())
 }
 
-fn first_dead(x: &[i64]) -> Found
+fn dead(value: i64) -> bool
+    ensures { result ≡ dead value }
+{
+    value == limits::DEAD_MARK
+}
+
+fn first_dead(x: &[i64]) -> Option<usize>
     ensures { result ≡ first_dead x.now 0 }
 {
-    let mut i = 0;
-    while i < x.len() {
-        if x[i] == limits::DEAD_MARK {
-            return Found::At(i);
+    for (i, v) in x.iter().enumerate() {
+        if dead(*v) {
+            return Some(i);
         }
-        i += 1;
     }
-    Found::Nothing
+    None
 }
 
-fn fault_in(block: &[i64]) -> Fault
+fn fault_in(block: &[i64]) -> Result<(), Fault>
     ensures { result ≡ fault_of block.now }
 {
-    let dead = first_dead(block);
-    if let Found::At(place) = dead {
-        return Fault::Dead(place);
+    if let Some(place) = first_dead(block) {
+        return Err(Fault::Dead(place));
     }
-    let beyond = first_beyond(block, limits::READING_LIMIT);
-    if let Found::At(place) = beyond {
-        return Fault::Beyond(place);
+    if let Some(place) = first_beyond(block, limits::READING_LIMIT) {
+        return Err(Fault::Beyond(place));
     }
-    Fault::Clear
+    Ok(())
 }
 
 // The search for the fault of a block that has one.
-fn searched(block: &[i32]) -> Fault
+fn searched(block: &[i32]) -> Result<(), Fault>
     requires { (length block.now ≤ 128) × (length block.now % 4 ≡ 0) }
     ensures { result ≡ fault_of block.now }
 {
     let n = block.len();
-    let mut wide = room::of_128();
+    let mut wide = room::zeros::<128>();
     vectors::widen(block, &mut wide[..n]);
     fault_in(&wide[..n])
 }
@@ -240,13 +240,7 @@ fn out_of_range(value: i32, limit: i32) -> u32
     requires { pos 0 ≤ℤ limit }
     ensures { result ≡ cond (beyond limit value) 1 0 }
 {
-    if limit < value {
-        return 1;
-    }
-    if value < 0 - limit {
-        return 1;
-    }
-    0
+    u32::from(limit < value || value < -limit)
 }
 
 // Those beyond are counted without a branch, which the machine does several at a time.
@@ -254,35 +248,33 @@ pub fn in_range(x: &[i32], limit: i32) -> bool
     requires { (length x.now ≤ block_limit * 128) × (pos 0 ≤ℤ limit) }
     ensures { result ≡ Rattle.runs.specs.Gate.inside limit x.now }
 {
-    let mut out: u32 = 0;
-    let mut i = 0;
-    while i < x.len() {
-        out += out_of_range(x[i], limit);
-        i += 1;
+    let mut out = 0;
+    for v in x {
+        out += out_of_range(*v, limit);
     }
     out == 0
 }
 
 // The first number beyond ±limit, of numbers that are seldom out of range; wide is room for the search.
-pub fn seldom_beyond(x: &[i32], limit: i32, wide: &mut [i64]) -> Found
+pub fn seldom_beyond(x: &[i32], limit: i32, wide: &mut [i64]) -> Option<usize>
     requires x_len_bound { (length x.now ≤ 128) × (length x.now % 4 ≡ 0) × (length x.now ≡ length wide.old) }
     requires pos_bound { pos 0 ≤ℤ limit }
     ensures { result ≡ first_beyond limit x.now 0 }
 {
     if in_range(x, limit) {
-        return Found::Nothing;
+        return None;
     }
     vectors::widen(x, wide);
     first_beyond(wide, limit)
 }
 
 // Questions 8 and 9. The dead mark is out of range too, so that readings in range have no fault.
-pub fn fault_of(block: &[i32]) -> Fault
+pub fn fault_of(block: &[i32]) -> Result<(), Fault>
     requires { (length block.now ≤ 128) × (length block.now % 4 ≡ 0) }
     ensures { result ≡ fault_of block.now }
 {
     if in_range(block, limits::READING_LIMIT) {
-        return Fault::Clear;
+        return Ok(());
     }
     searched(block)
 }
@@ -292,10 +284,10 @@ fn next_count(count: usize, answer: Answer) -> usize
     requires { (told answer).0 ≡ 0 → count < frame_limit }
     ensures { result ≡ next_count (told answer).0 count }
 {
-    if runs::answer::number(answer) != 0 {
-        return count;
+    match answer {
+        Ok(()) => count + 1,
+        Err(_) => count,
     }
-    count + 1
 }
 
 // The total after it, of a block's readings that it took or gave.
@@ -303,11 +295,10 @@ pub fn next_total(total: i64, answer: Answer, readings: &[i32]) -> i64
     requires { (told answer).0 ≡ 0 → (length readings.now ≤ 128) × (nat_abs (total +ℤ sum_of readings.now) ≤ total_limit) }
     ensures { result ≡ next_total (told answer).0 total readings.now }
 {
-    let number = runs::answer::number(answer);
-    if number != 0 {
-        return total;
+    match answer {
+        Ok(()) => total + vectors::sum(readings),
+        Err(_) => total,
     }
-    total + vectors::sum(readings)
 }
 
 // What a call hands back that took a block or a frame: the held values, the total, and one more of the count where it has worked.

@@ -1,4 +1,5 @@
 -- What the calls give: a call that works had the numbers of a record and leaves a record whose numbers fit, and what is handed back then.
+use Rattle.std.specs.Prelude.{Err, Option, Some, None}
 use mathlib.Core.Path.{◌≡◌, refl, sym, ap, ap₂, subst, ◌∙◌}
 use mathlib.Core.Bool.{Bool, true, false, cond}
 use mathlib.Core.List.{List, [], ◌∷◌, ◌++◌}
@@ -15,9 +16,7 @@ use Rattle.integers.specs.Places.{at}
 use Rattle.integers.specs.Vectors.{sum_of}
 use Rattle.tables.specs.Widths.{by_width, half_width}
 use Rattle.runs.specs.Answers.{told}
-use Rattle.runs.specs.declared.answer.Answer.TheVariants.{Record}
-use Rattle.runs.specs.declared.answer.Found.{Found}
-use Rattle.runs.specs.declared.answer.Found.TheVariants.{At, Nothing}
+use Rattle.runs.specs.declared.answer.Refusal.TheVariants.{Record}
 use Rattle.runs.specs.declared.record.Run.{Run}
 use Rattle.runs.specs.Record.{block_limit, frame_limit, zeros, record_of, next_count, next_total, opened, closed}
 use Rattle.runs.specs.Gate as Gate
@@ -66,10 +65,10 @@ module _ {numbers : List ℤ} (n : ℕ) where
   asked true run out next h = h refl
   asked false run out next h = record { packable = λ e. absurd (omega (arith, e)) }
 
-  asked-each : (found : Found) (run : Run) (out : List ℤ) (next : Gate.CallResult) → Works numbers next → Works numbers (ask_each (suc n) found run out next)
+  asked-each : (found : Option ℕ) (run : Run) (out : List ℤ) (next : Gate.CallResult) → Works numbers next → Works numbers (ask_each (suc n) found run out next)
   unfolding ask_each
-  asked-each (At place) run out next h = record { packable = λ e. absurd (omega (arith, e)) }
-  asked-each Nothing run out next h = h
+  asked-each (Some place) run out next h = record { packable = λ e. absurd (omega (arith, e)) }
+  asked-each None run out next h = h
 
 module _ (numbers : List ℤ) where
   abbrev run : Run
@@ -137,7 +136,7 @@ handed-either false numbers given out = refl
 
 -- numbers that are no record
 module _ (numbers given out : List ℤ) (n : is_record numbers ≡ false) where
-  refused : (top : ℕ) (next : Gate.CallResult) → (told Record, unpacked numbers, out) ≡ admitted top (unpacked numbers) given out next
+  refused : (top : ℕ) (next : Gate.CallResult) → (told (Err Record), unpacked numbers, out) ≡ admitted top (unpacked numbers) given out next
   unfolding admitted
   refused top next = record-refused top (unpacked numbers) out _ (by (sound top (unpacked numbers)) refl)
     where
@@ -145,16 +144,16 @@ module _ (numbers given out : List ℤ) (n : is_record numbers ≡ false) where
       by true s = sym (sound-record numbers top s false n)
       by false s = refl
 
-  refused-either : (back : Bool) → (told Record, unpacked numbers, out) ≡ either back (unpacked numbers) given out
+  refused-either : (back : Bool) → (told (Err Record), unpacked numbers, out) ≡ either back (unpacked numbers) given out
   unfolding taken taken_back
   refused-either true = refused frame_limit _
   refused-either false = refused block_limit _
 
-  pub no_call : (back : Bool) (a : ℕ × ℕ) → a ≡ told Record → (a, numbers, out) ≡ cond back lapped_back_take lapped_take numbers given out
+  pub no_call : (back : Bool) (a : ℕ × ℕ) → a ≡ told (Err Record) → (a, numbers, out) ≡ cond back lapped_back_take lapped_take numbers given out
   unfolding told
   no_call back a p =
       let run = unpacked numbers in
-      handed-is numbers (λ (r : Run). either back r given out) run run (told Record) out refl (refused-either back) a numbers p (kept-refused numbers 2 run (λ z. omega arith))
+      handed-is numbers (λ (r : Run). either back r given out) run run (told (Err Record)) out refl (refused-either back) a numbers p (kept-refused numbers 2 run (λ z. omega arith))
       ∙ handed-either back numbers given out
 
 -- what is stored in the held values leaves the count and the total

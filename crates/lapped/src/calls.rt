@@ -14,7 +14,7 @@ use c_record::{answer, record};
 use calls_back::back;
 use calls_forward::{forward, in_place};
 use gate::questions;
-use runs::answer::Answer;
+use runs::answer::{Answer, Refusal};
 
 // A fresh run of a width, either way.
 #[unsafe(no_mangle)]
@@ -24,12 +24,11 @@ pub extern "C" fn lapped_start(width: usize, run: &mut [i64], place: &mut usize)
     let fresh = forward::start(width);
     let answer = fresh.answer;
     if run.len() == 68 {
-        let begun = fresh.run;
-        record::pack(begun, run);
+        record::pack(fresh.run, run);
         return answer::tell(answer, place);
     }
-    if runs::answer::number(answer) == 0 {
-        return answer::tell(Answer::Record, place);
+    if answer.is_ok() {
+        return answer::tell(Err(Refusal::Record), place);
     }
     answer::tell(answer, place)
 }
@@ -71,7 +70,7 @@ fn take_either_way(
     ensures { ((result, place.new), run.new, out.new) ≡ cond back lapped_back_take lapped_take run.old given.now out.old }
 {
     if !record::is_record(run) {
-        return answer::tell(Answer::Record, place);
+        return answer::tell(Err(Refusal::Record), place);
     }
     let head = record::front(run);
     let answer = take_held(back, head, &mut run[3..67], given, out);

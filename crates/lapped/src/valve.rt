@@ -4,16 +4,14 @@ ghost use Rattle.valves.specs.Answers.{told};
 ghost use Rattle.valves.specs.ForC.{lapped_valve_ask, lapped_valve_make};
 
 use valve_moves::valve;
-use valves::answer::{Answer, Asked};
+use valves::answer::Answer;
 use valves::{answer, record};
 
 fn tell(answer: Answer, place: &mut usize) -> u32
     ensures { (result, place.new) ≡ told answer }
 {
-    let number = answer::number(answer);
-    let at = answer::place(answer);
-    *place = at;
-    number as u32
+    *place = answer::place(answer);
+    answer::number(answer) as u32
 }
 
 // Ask for a move: its ticket is two numbers, the steps and the record's count as its stamp.
@@ -29,16 +27,13 @@ pub extern "C" fn lapped_valve_ask(
 ) -> u32
     ensures { ((result, place.new), steps.new, stamp.new) ≡ lapped_valve_ask width position count block.now steps.old stamp.old }
 {
-    let asked = valve::ask(width, record::valve_of(position, count), block);
-    match asked {
-        Asked::Given(ticket) => {
-            let given = ticket.steps;
-            let at = ticket.count;
-            *steps = given;
-            *stamp = at;
-            tell(Answer::Done, place)
+    match valve::ask(width, record::valve_of(position, count), block) {
+        Ok(ticket) => {
+            *steps = ticket.steps;
+            *stamp = ticket.count;
+            tell(Ok(()), place)
         }
-        Asked::Refused(answer) => tell(answer, place),
+        Err(refusal) => tell(Err(refusal), place),
     }
 }
 
@@ -55,14 +50,9 @@ pub extern "C" fn lapped_valve_make(
 {
     let ticket = record::ticket_of(steps, stamp);
     let made = valve::make(record::valve_of(*position, *count), ticket);
-    let answer = made.answer;
-    if answer::number(answer) != 0 {
-        return tell(answer, place);
+    if made.answer.is_ok() {
+        *position = made.valve.position;
+        *count = made.valve.count;
     }
-    let moved = made.valve;
-    let at = moved.position;
-    let moves = moved.count;
-    *position = at;
-    *count = moves;
-    tell(answer, place)
+    tell(made.answer, place)
 }

@@ -25,3 +25,6 @@ alternate-size n z = signed-size _ z
 pub flipped-size : (n : ℕ) (z : ℤ) → nat_abs (flipped n z) ≡ nat_abs z
 unfolding flipped
 flipped-size n z = nat_abs-negℤ (alternate n z) ∙ alternate-size n z
+
+-- both, for `grind`
+pub ruleset flips = (flipped-odd, flipped-even)

@@ -45,8 +45,7 @@ pub fn first(undo: bool, back: &[i64], flips: &[i64], y: &[i64], top: &[i64], bo
     requires within_2 { Within (2 ^ 60) bottom.old }
     ensures { bottom.new ≡ places (length bottom.old) (λ i. moved undo (at bottom.old i) (at top.now i +ℤ round 30 (row_at back.now flips.now y.now i))) }
 {
-    let mut i = 0;
-    while i < bottom.len() {
+    for i in (0..bottom.len()).step_by(4) {
         let amounts = Four {
             a: first_at(back, flips, y, top, i),
             b: first_at(back, flips, y, top, i + 1),
@@ -54,11 +53,11 @@ pub fn first(undo: bool, back: &[i64], flips: &[i64], y: &[i64], top: &[i64], bo
             d: first_at(back, flips, y, top, i + 3),
         };
         move_four(undo, bottom, i, amounts);
-        i += 4;
     }
 }
 
 // −d(i)·x.
+#[tactic(auto, using(crate::proofs::MoveLaws::flips))]
 fn flipped(i: usize, x: i64) -> i64
     requires { nat_abs x ≤ 2 ^ 61 }
     ensures { result ≡ Moves.flipped i x }
@@ -93,8 +92,7 @@ pub fn second(undo: bool, back: &[i64], flips: &[i64], y: &[i64], top: &mut [i64
     requires within { Within (2 ^ 60) top.old }
     ensures { top.new ≡ places (length top.old) (λ i. Moves.stage2_at undo i (at top.old i) (round 31 (row_at back.now flips.now y.now i))) }
 {
-    let mut i = 0;
-    while i < top.len() {
+    for i in (0..top.len()).step_by(4) {
         let made = Four {
             a: second_at(undo, back, flips, y, top, i),
             b: second_at(undo, back, flips, y, top, i + 1),
@@ -102,7 +100,6 @@ pub fn second(undo: bool, back: &[i64], flips: &[i64], y: &[i64], top: &mut [i64
             d: second_at(undo, back, flips, y, top, i + 3),
         };
         fours::put(top, i, made);
-        i += 4;
     }
 }
 
@@ -161,8 +158,7 @@ pub fn third(
     requires within_3 { Within (2 ^ 60) bottom.old }
     ensures { bottom.new ≡ places (length bottom.old) (λ i. moved undo (at bottom.old i) (round 34 (Moves.stage3_amount (secant_out (length bottom.old) (at z.now) i) (row_at back.now flips.now y.now i) (at tangents.now (length bottom.old - 1 - i) *ℤ at top.now (length bottom.old - 1 - i))))) }
 {
-    let mut i = 0;
-    while i < bottom.len() {
+    for i in (0..bottom.len()).step_by(4) {
         let far = bottom.len() - 4 - i;
         let amounts = Four {
             a: third_at(tangents, top, z, back, flips, y, i, far + 3),
@@ -171,7 +167,6 @@ pub fn third(
             d: third_at(tangents, top, z, back, flips, y, i + 3, far),
         };
         move_four(undo, bottom, i, amounts);
-        i += 4;
     }
 }
 
@@ -209,11 +204,9 @@ pub fn fourth(undo: bool, c: &[i64], x: &[i64], y: &mut [i64])
     requires within_3 { Within (2 ^ 60) y.old }
     ensures { y.new ≡ places (length y.old) (λ i. moved undo (at y.old i) (round 28 (at c.now i *ℤ at x.now (length y.old - 1 - i)))) }
 {
-    let mut i = 0;
-    while i < y.len() {
+    for i in (0..y.len()).step_by(4) {
         let far = y.len() - 4 - i;
         move_by_products(undo, fours::four_at(c, i), fours::four_at(x, far), y, i);
-        i += 4;
     }
 }
 
@@ -226,11 +219,9 @@ pub fn fifth(undo: bool, c: &[i64], x: &[i64], y: &mut [i64])
     requires within_3 { Within (2 ^ 60) y.old }
     ensures { y.new ≡ places (length y.old) (λ i. moved undo (at y.old i) (round 28 (at c.now (length y.old - 1 - i) *ℤ at x.now (length y.old - 1 - i)))) }
 {
-    let mut i = 0;
-    while i < y.len() {
+    for i in (0..y.len()).step_by(4) {
         let far = y.len() - 4 - i;
         let factors = fours::reversed(fours::four_at(c, far));
         move_by_products(undo, factors, fours::four_at(x, far), y, i);
-        i += 4;
     }
 }

@@ -13,6 +13,8 @@ use Rattle.text_runs.specs.Line.{line_limit}
 use Rattle.text_runs.proofs.UpToLaws.{tested}
 use Rattle.feeding.specs.Program.{Program, handed}
 use Rattle.feeding.specs.Feed.{Reader, handed_on, gathered, byte_fed, fed}
+use Rattle.pieces.specs.declared.line.LineEnd.{LineEnd}
+use Rattle.pieces.specs.declared.line.LineEnd.TheVariants.{Open, Whole, Broken}
 use Rattle.pieces.specs.declared.line.Gathered.{Gathered}
 use Rattle.pieces.specs.Own.Gathers.{line_gathered, Gathers}
 use Rattle.pieces.specs.Piece.{reader}
@@ -32,9 +34,19 @@ used-rest had (b ∷ bs) =
     (λ e. rw e (⊎_elim (λ h. rw h (ap (λ (t : List ℕ). b ∷ t) (used-rest (had ++ b ∷ []) bs))) (λ h. rw h) (tested (ltb (length had) line_limit))))
     (tested (eqb b line_feed))
 
+-- how a line ends that is handed on
+abbrev pub ended_as : Bool → LineEnd
+ended_as true = Whole
+ended_as false = Broken
+
 -- the reader then: the line handed on, or gathered
-abbrev gone : (P : Program) → P.State → List ℕ → List ℕ × List ℕ × Bool × Bool → Reader P
-gone P s printed g = cond g.2 (handed_on P g.3 (reader P s g.0 printed)) (reader P s g.0 printed)
+abbrev ended_by : (P : Program) → LineEnd → Reader P → Reader P
+ended_by P Open r = r
+ended_by P Whole r = handed_on P true r
+ended_by P Broken r = handed_on P false r
+
+abbrev gone : (P : Program) → P.State → List ℕ → List ℕ × List ℕ × LineEnd → Reader P
+gone P s printed g = ended_by P g.2 (reader P s g.0 printed)
 
 module _ (P : Program) (r : Reader P) (on : P.over r.state ≡ false) (b : ℕ) where
   byte-ends : eqb b line_feed ≡ true → byte_fed P r b ≡ handed_on P true r
@@ -72,20 +84,21 @@ module _ (P : Program) (s : P.State) (on : P.over s ≡ false) (printed : List �
     between =
         slice_front piece from g.next (used (take had before) (drop from piece)) (omega (arith, h.rises more)) h.within
         (used-rest (take had before) (drop from piece)
-        ∙ ap (λ (x : List ℕ × List ℕ × Bool × Bool). used (take had before) (drop from piece) ++ x.1) (sym h.is))
+        ∙ ap (λ (x : List ℕ × List ℕ × LineEnd). used (take had before) (drop from piece) ++ x.1) (sym h.is))
 
-    gathered-is : fed P (reader P s (take had before) printed) (slice from g.next piece) ≡ gone P s printed (take g.length after, drop g.next piece, g.ended, g.whole)
+    gathered-is : fed P (reader P s (take had before) printed) (slice from g.next piece) ≡ gone P s printed (take g.length after, drop g.next piece, g.end)
     gathered-is =
         ap (fed P (reader P s (take had before) printed)) between
         ∙ fed-used P s (take had before) printed (drop from piece) on
         ∙ ap (gone P s printed) (sym h.is)
 
-    pub open_is : g.ended ≡ false → reader P s (take g.length after) printed ≡ fed P (reader P s (take had before) printed) (slice from g.next piece)
+    pub open_is : g.end ≡ Open → reader P s (take g.length after) printed ≡ fed P (reader P s (take had before) printed) (slice from g.next piece)
     open_is e = sym (rw e at gathered-is)
 
-    pub ended_is : g.ended ≡ true
-        → handed_on P g.whole (reader P s (take g.length after) printed) ≡ fed P (reader P s (take had before) printed) (slice from g.next piece)
-    ended_is e = sym (rw e at gathered-is)
+    pub ended_is : (whole : Bool) → g.end ≡ ended_as whole
+        → handed_on P whole (reader P s (take g.length after) printed) ≡ fed P (reader P s (take had before) printed) (slice from g.next piece)
+    ended_is true e = sym (rw e at gathered-is)
+    ended_is false e = sym (rw e at gathered-is)
 
 -- what the code answers for a line, put behind what is printed
 pub handed-is : (P : Program) (s : P.State) (whole : Bool) (line printed : List ℕ) {given : P.State × List ℕ} {text : List ℕ}

@@ -4,4 +4,3 @@ pub mod FedLaws
 pub mod PieceLaws
 pub mod RunLaws
 pub mod TurnLaws
-pub mod FilledLaws

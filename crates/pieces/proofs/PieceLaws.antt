@@ -12,13 +12,23 @@ use Rattle.text_runs.specs.Line.{line_limit}
 use Rattle.feeding.specs.Program.{Program, handed}
 use Rattle.feeding.specs.Feed.{Reader, handed_on, fed, rest_fed, reader_ended}
 use Rattle.feeding.proofs.FeedLaws.{fed-over, fed-twice}
+use Rattle.pieces.specs.declared.line.LineEnd.TheVariants.{Open}
 use Rattle.pieces.specs.declared.line.Gathered.{Gathered}
 use Rattle.pieces.specs.Own.Gathers.{Gathers}
 use Rattle.pieces.specs.Piece.{Limits, Place, reader, reader_of, Buffers, Gives, HandsOn, Goes, Took, Rests, Ends}
 use Rattle.pieces.proofs.SliceLaws.{le-or-lt, slice-append}
-use Rattle.pieces.proofs.FedLaws.{open_is, ended_is, handed-is}
+use Rattle.pieces.proofs.FedLaws.{ended_as, open_is, ended_is, handed-is}
 
 -- ---- a line handed on
+-- what is given is the same wherever the program goes on
+pub gives_at : {P : Program} {L : Limits P} {given : P.State × List ℕ} {out : List ℕ} {waiting next : ℕ} {r : Place P} {out' : List ℕ} → Gives P L given out waiting next r out'
+    → (at : ℕ) → Gives P L given out waiting at (record { state = r.state; had = 0; waiting = r.waiting; at = at }) out'
+gives_at g at = record { state = g.state; put = g.put; short = g.short; none = refl; place = refl }
+
+pub gives_as : {P : Program} {L : Limits P} {given told : P.State × List ℕ} {out : List ℕ} {waiting next : ℕ} {r : Place P} {out' : List ℕ} → given ≡ told
+    → Gives P L given out waiting next r out' → Gives P L told out waiting next r out'
+gives_as {P} {L} {out = out} {waiting} {next} {r} {out'} e g = subst (λ (t : P.State × List ℕ). Gives P L t out waiting next r out') e g
+
 pub hands_on : (P : Program) {L : Limits P} (whole : Bool) (line out : List ℕ) (p : Place P) (next : ℕ) {given : P.State × List ℕ} {r : Place P} {out' : List ℕ}
     → Gives P L given out p.waiting next r out' → given ≡ handed P p.state whole line → HandsOn P L whole line out p next r out'
 hands_on P whole line out p next {r = r} {out' = out'} g e = record {
@@ -40,7 +50,7 @@ module _ {P : Program} {L : Limits P} {whole : Bool} {line out : List ℕ} {p : 
 -- ---- the two ways that a line can go
 module _ (P : Program) {L : Limits P} {piece line out : List ℕ} {p : Place P} (b : Buffers P L piece line out p) (on : P.over p.state ≡ false) (more : p.at < length piece)
     {g : Gathered} {line' : List ℕ} (h : Gathers piece p.at line p.had g line') where
-  pub goes-open : g.ended ≡ false
+  pub goes-open : g.end ≡ Open
       → Goes P L piece line out p (record { state = p.state; had = g.length; waiting = p.waiting; at = g.next }) line' out
   unfolding reader_of
   goes-open e = record {
@@ -49,11 +59,11 @@ module _ (P : Program) {L : Limits P} {piece line out : List ℕ} {p : Place P} 
     rises = h.rises more;
   }
 
-  pub goes-ended : g.ended ≡ true → p.waiting + L.most ≤ length out → {had : ℕ} {r : Place P} {out' : List ℕ}
-      → HandsOn P L g.whole (take g.length line') out (record { state = p.state; had = had; waiting = p.waiting; at = g.next }) g.next r out' → Goes P L piece line out p r line' out'
+  pub goes-ended : {whole : Bool} → g.end ≡ ended_as whole → p.waiting + L.most ≤ length out → {had : ℕ} {r : Place P} {out' : List ℕ}
+      → HandsOn P L whole (take g.length line') out (record { state = p.state; had = had; waiting = p.waiting; at = g.next }) g.next r out' → Goes P L piece line out p r line' out'
   unfolding reader_of
-  goes-ended e free k = record {
-    is = handed-reader k line' ∙ ended_is P p.state on (take p.waiting out) h more e ∙ ap (λ (n : ℕ). fed P (reader_of P p line out) (slice p.at n piece)) (sym k.place);
+  goes-ended {whole} e free k = record {
+    is = handed-reader k line' ∙ ended_is P p.state on (take p.waiting out) h more whole e ∙ ap (λ (n : ℕ). fed P (reader_of P p line out) (slice p.at n piece)) (sym k.place);
     within = record { place = omega (arith, k.place, h.within); long = b.long; fits = omega (arith, k.none); room = omega (arith, k.room); sound = handed-sound k b.sound };
     rises = omega (arith, k.place, h.rises more);
   }

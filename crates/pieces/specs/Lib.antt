@@ -1,3 +1,4 @@
 pub mod Piece
 pub mod Run
 pub mod Own
+pub mod Step

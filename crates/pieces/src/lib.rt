@@ -3,4 +3,6 @@
 
 pub mod line;
 pub mod reading;
+pub mod run;
+pub mod step;
 pub mod writing;

@@ -2,14 +2,20 @@
 ghost use Rattle.std.specs.Prelude.{◌≡◌, ◌≤◌, length};
 ghost use Rattle.pieces.specs.Own.Gathers.{Gathers};
 
-// How many bytes a line has now, where the rest of the piece begins, whether the line has ended, and whether a line feed ended it. A line also
-// ends at a byte that it has no room for.
+// Whether a line has ended: not yet, by a line feed, or broken at a byte that it has no room for.
+#[derive(Clone, Copy)]
+pub enum LineEnd {
+    Open,
+    Whole,
+    Broken,
+}
+
+// How many bytes a line has now, where the rest of the piece begins, and whether the line has ended.
 #[derive(Clone, Copy)]
 pub struct Gathered {
     pub length: usize,
     pub next: usize,
-    pub ended: bool,
-    pub whole: bool,
+    pub end: LineEnd,
 }
 
 // The piece from a place on, put behind the bytes that a line had from the pieces before.
@@ -17,36 +23,30 @@ pub fn gather(piece: &[u8], from: usize, line: &mut [u8], had: usize) -> Gathere
     requires { (from ≤ length piece.now) × (length line.old ≡ 2048) × (had ≤ 2048) }
     ensures { Gathers piece.now from line.old had result line.new }
 {
-    let mut at = from;
     let mut length = had;
-    while at < piece.len() {
+    for at in from..piece.len() {
         let b = piece[at];
+        let next = at + 1;
         if b == b'\n' {
-            let next = at + 1;
             return Gathered {
-                length: length,
-                next: next,
-                ended: true,
-                whole: true,
+                length,
+                next,
+                end: LineEnd::Whole,
             };
         }
         if length == line.len() {
-            let after = at + 1;
             return Gathered {
-                length: length,
-                next: after,
-                ended: true,
-                whole: false,
+                length,
+                next,
+                end: LineEnd::Broken,
             };
         }
         line[length] = b;
         length += 1;
-        at += 1;
     }
     Gathered {
-        length: length,
-        next: at,
-        ended: false,
-        whole: false,
+        length,
+        next: piece.len(),
+        end: LineEnd::Open,
     }
 }

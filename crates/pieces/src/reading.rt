@@ -1,6 +1,8 @@
 // The input, piece by piece.
-ghost use Rattle.std.specs.Prelude.{◌≡◌, true, false, ◌⊎◌, ◌≤◌, ◌<◌, ◌^◌, length, pos, negsuc, IfOk, OnErr};
-ghost use Rattle.pieces.specs.Own.Refills.{filled_by, Refills};
+ghost use Rattle.std.specs.Prelude.{◌≡◌, true, false, ◌⊎◌, ◌≤◌, ◌<◌, length, IfOk, IsOk};
+ghost use Rattle.std.specs.Io.{ReadsAtMost};
+ghost use Rattle.std.specs.Io.KnownBytes.{ReadConsumes};
+ghost use Rattle.pieces.specs.Own.Refills.{Refills};
 
 use crate::writing;
 use std::io;
@@ -9,13 +11,16 @@ use std::io::{ErrorKind, Read, Write};
 // How often a read that a signal interrupted is tried again. A proved loop must end, and signals might never stop coming.
 const MOST_TRIES: usize = 1000;
 
-// A piece in the first `count` bytes of a buffer, and where to go on in it. With no byte in it the input has ended, or a read has failed.
+// A piece in the first `count` bytes of a buffer, and where to go on in it. With no byte in it the input has ended.
 #[derive(Clone, Copy)]
 pub struct PieceRead {
     pub count: usize,
     pub at: usize,
-    pub failed: bool,
 }
+
+// A read or a write has failed, and standard error says so.
+#[derive(Clone, Copy)]
+pub struct Lost;
 
 // An input, and where it is told that a read of it has failed.
 #[derive(Drop)]
@@ -31,22 +36,25 @@ pub fn large_buffer() -> [u8; 65536]
     [0; 65536]
 }
 
-fn interrupted(got: &io::Result<usize>) -> bool {
+fn interrupted(got: &io::Result<usize>) -> bool
+    ensures { IfOk got.now (λ _. result ≡ false) }
+{
     match got {
         Ok(_) => false,
         Err(why) => why.kind() == ErrorKind::Interrupted,
     }
 }
 
-fn read<R: Read>(input: &mut R, buffer: &mut [u8]) -> io::Result<usize> {
+fn read<R: Read>(input: &mut R, buffer: &mut [u8]) -> io::Result<usize>
+    ensures bound { ReadsAtMost result buffer.new }
+    ensures bytes { ReadConsumes (R.remaining input.old) (R.remaining input.new) result buffer.new }
+{
     let mut got = input.read(buffer);
-    let mut tries = 0;
-    while tries < MOST_TRIES {
+    for _ in 0..MOST_TRIES {
         if !interrupted(&got) {
             return got;
         }
         got = input.read(buffer);
-        tries += 1;
     }
     got
 }
@@ -65,86 +73,34 @@ pub fn read_full<R: Read>(input: &mut R, buffer: &mut [u8]) -> usize
     done
 }
 
-// How many bytes a read gave, and -1 where it failed.
-fn count_read(got: &io::Result<usize>) -> isize
-    ensures ok { IfOk got.now (λ n. n < 2 ^ 63 → result ≡ pos n) }
-    ensures err { OnErr got.now (result ≡ negsuc 0) }
-{
-    match got {
-        Ok(n) => (*n).min(isize::MAX as usize) as isize,
-        Err(_) => -1,
-    }
-}
-
-// A read gives no more bytes than there is room for, and none where it failed.
-fn count_within(got: isize, room: usize) -> usize
-    ensures { result ≡ (filled_by got room).count }
-{
-    if got < 0 {
-        return 0;
-    }
-    (got as usize).min(room)
-}
-
-// What a read answered: a failed one is no end of the input.
-fn filled_by(got: isize, buffer: &[u8]) -> PieceRead
-    ensures { result ≡ filled_by got (length buffer.now) }
-{
-    let count = count_within(got, buffer.len());
-    let failed = got < 0;
-    PieceRead {
-        count: count,
-        at: 0,
-        failed: failed,
-    }
-}
-
-// Goes on in a piece, or reads the next one where it is used up. A read that fails is told on standard error, with its reason.
+// Goes on in a piece, or reads the next one where it is used up. A read that fails is no end of the input; it is told on standard error, with
+// its reason.
 pub fn refill<R: Read, E: Write>(
     input: &mut Source<R, E>,
     buffer: &mut [u8],
     count: usize,
     at: usize,
-) -> PieceRead
+) -> Result<PieceRead, Lost>
     requires { (at ≤ count) × (count ≤ length buffer.old) }
-    ensures { Refills buffer.old count at result buffer.new }
+    ensures ok { IfOk result (λ r. Refills (R.remaining input.old.input) (R.remaining input.new.input) buffer.old count at r buffer.new) }
+    ensures goes_on { at < count → IsOk result }
 {
     if at < count {
-        return PieceRead {
-            count: count,
-            at: at,
-            failed: false,
-        };
+        return Ok(PieceRead { count, at });
     }
-    let got = read(&mut input.input, buffer);
-    let filled = filled_by(count_read(&got), buffer);
-    if let Err(why) = got {
-        writing::fail(&mut input.errors, b"the input cannot be read", &why);
+    match read(&mut input.input, buffer) {
+        Ok(count) => Ok(PieceRead { count, at: 0 }),
+        Err(why) => {
+            writing::fail(&mut input.errors, b"the input cannot be read", &why);
+            Err(Lost)
+        }
     }
-    filled
 }
 
-// Whether a program reads on: there was a byte, nothing was lost, and it is not over.
-pub fn reads_on(count: usize, lost: bool, over: bool) -> bool
-    ensures count_nonzero { result ≡ true → (0 < count) × (lost ≡ false) × (over ≡ false) }
-    ensures fact { result ≡ false → (lost ≡ true) ⊎ (count ≡ 0) ⊎ (over ≡ true) }
+// Whether a program reads no further: there was no byte, or it is over.
+pub fn stops(count: usize, over: bool) -> bool
+    ensures stops { result ≡ true → (count ≡ 0) ⊎ (over ≡ true) }
+    ensures goes_on { result ≡ false → (0 < count) × (over ≡ false) }
 {
-    if count == 0 {
-        return false;
-    }
-    if lost {
-        return false;
-    }
-    !over
-}
-
-// Whether a read or a write has failed.
-pub fn lost(failed: bool, written: bool) -> bool
-    ensures failed_value { result ≡ false → (failed ≡ false) × (written ≡ true) }
-    ensures fact { result ≡ true → (failed ≡ true) ⊎ (written ≡ false) }
-{
-    if failed {
-        return true;
-    }
-    !written
+    count == 0 || over
 }

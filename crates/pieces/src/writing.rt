@@ -1,6 +1,8 @@
 // Writes what is printed.
-ghost use Rattle.std.specs.Prelude.{◌≤◌, length};
+ghost use Rattle.std.specs.Prelude.{◌≤◌, length, OnOk};
+ghost use Rattle.std.specs.Io.KnownBytes.{Appends};
 
+use crate::reading::Lost;
 use decimal::search;
 use std::io;
 use std::io::{ErrorKind, Write};
@@ -12,52 +14,52 @@ pub struct Target<W, E> {
     pub errors: E,
 }
 
-// How far a text was written: to its end, or up to a write that took nothing or failed, as one fails where nobody reads any more.
+// Why a text was not written to its end: a write took nothing or failed, or nobody reads any more.
 #[derive(Clone, Copy)]
-enum Written {
-    Whole,
+enum Stop {
     Cut,
     Unread,
 }
 
-fn cut_by(why: &io::Error) -> Written {
+fn stopped_by(why: &io::Error) -> Stop {
     if why.kind() == ErrorKind::BrokenPipe {
-        return Written::Unread;
+        return Stop::Unread;
     }
-    Written::Cut
+    Stop::Cut
 }
 
-fn written_up_to<W: Write>(output: &mut W, text: &[u8]) -> Written {
+fn write_all<W: Write>(output: &mut W, text: &[u8]) -> Result<(), Stop>
+    ensures { OnOk result (Appends (W.contents output.old) (W.contents output.new) text.now) }
+{
     let mut done = 0;
     while done < text.len() {
         match output.write(&text[done..]) {
             Ok(n) if 0 < n => done += n,
-            Ok(_) => return Written::Cut,
-            Err(why) => return cut_by(&why),
+            Ok(_) => return Err(Stop::Cut),
+            Err(why) => return Err(stopped_by(&why)),
         }
     }
-    Written::Whole
+    Ok(())
 }
 
 // Writes a text, or stops at the first write that takes nothing or fails, and answers whether all of it is written.
 pub fn put<W: Write>(output: &mut W, text: &[u8]) -> bool {
-    match written_up_to(output, text) {
-        Written::Whole => true,
-        _ => false,
-    }
+    write_all(output, text).is_ok()
 }
 
 // A program has no exit status, so it says on standard error that its output is not whole.
-pub fn write<W: Write, E: Write>(output: &mut Target<W, E>, text: &[u8]) -> bool {
-    match written_up_to(&mut output.output, text) {
-        Written::Whole => return true,
-        Written::Cut => put(&mut output.errors, b"the output cannot be written\n"),
-        Written::Unread => put(
+pub fn write<W: Write, E: Write>(output: &mut Target<W, E>, text: &[u8]) -> Result<(), Lost>
+    ensures { OnOk result (Appends (W.contents output.old.output) (W.contents output.new.output) text.now) }
+{
+    match write_all(&mut output.output, text) {
+        Ok(()) => return Ok(()),
+        Err(Stop::Cut) => put(&mut output.errors, b"the output cannot be written\n"),
+        Err(Stop::Unread) => put(
             &mut output.errors,
             b"the output cannot be written: Broken pipe\n",
         ),
     };
-    false
+    Err(Lost)
 }
 
 // Where the words of the system end: behind them stands its number, ` (os error 21)`.

@@ -1,35 +1,27 @@
 -- A leaf's nine products come to the product of four numbers with its list, and everything on the way fits.
 use mathlib.Core.Path.{◌≡◌, refl, sym, ap, ap₂, subst, ◌∙◌}
-use mathlib.Core.List.{List, [], ◌∷◌}
+use mathlib.Core.List.{List, []}
 use Prim.Native.Nat.{ℕ, ◌+◌, ◌*◌, ◌^◌, ◌≤◌, ◌<◌}
 use native.Mathlib.Nat.{mul-le-mul_right}
 use native.Mathlib.Omega.{arith}
 use lib.IntN.{ℤ, nat_abs, ◌+ℤ◌, ◌-ℤ◌, ◌*ℤ◌, +ℤ_idl, +ℤ_assoc}
 use lib.ListN.{length}
 use mir.Syntax.{w64}
-use mir.Val.{to_z}
+use mir.Val.{SFits, to_z, of_z}
+use mir.ValLaws.{to_z-of_z}
 use Rattle.integers.specs.Places.{tab, places, at, sum, Within}
 use Rattle.integers.proofs.Order.{nat_abs-*ℤ-le}
 use Rattle.integers.proofs.Ring.{+ℤ-swap}
-use Rattle.integers.proofs.Held.{Held}
+use Rattle.integers.proofs.Words.{small}
 use Rattle.integers.proofs.PlaceLaws.{within-places, at_places, places-ext, places_is, sum-ext}
 use Rattle.slices.specs.declared.fours.Four.{Four}
 use Rattle.products.specs.declared.leaf.Nine.{Nine}
 use Rattle.slices.specs.Own.Fours.{listed, stored}
 use Rattle.products.specs.Own.Products.{Lists, Laid, product, products, BothWithin, nine}
 use Rattle.products.specs.Own.Leaf.{listed_nine, Fit, Leaf, Leaves, Leafed}
-use Rattle.slices.proofs.FourLaws.{length-stored, stored-out, stored_is}
+use Rattle.slices.proofs.FourLaws.{four-places, length-stored, stored-out, stored_is}
 use Rattle.products.proofs.RoomLaws.{next_one}
 use Rattle.products.proofs.LevelLaws.{first-term, second-term, doubled-size, differing-size, product-size}
-
--- ---- nine numbers read: four, four and one
-pub nine-read : (t : ℕ → ℤ) (x y : Four) → listed x ≡ places 4 t → listed y ≡ places 4 (λ j. t (4 + j)) → {a b c d e f g h i : ℤ}
-    → a ≡ x.a → b ≡ x.b → c ≡ x.c → d ≡ x.d → e ≡ y.a → f ≡ y.b → g ≡ y.c → h ≡ y.d → i ≡ t 8
-    → (a ∷ b ∷ c ∷ d ∷ e ∷ f ∷ g ∷ h ∷ i ∷ []) ≡ places 9 t
-unfolding tab
-nine-read t x y p q a b c d e f g h i =
-    ap₂ ◌∷◌ (a ∙ ap (λ l. at l 0) p) (ap₂ ◌∷◌ (b ∙ ap (λ l. at l 1) p) (ap₂ ◌∷◌ (c ∙ ap (λ l. at l 2) p) (ap₂ ◌∷◌ (d ∙ ap (λ l. at l 3) p)
-    (ap₂ ◌∷◌ (e ∙ ap (λ l. at l 0) q) (ap₂ ◌∷◌ (f ∙ ap (λ l. at l 1) q) (ap₂ ◌∷◌ (g ∙ ap (λ l. at l 2) q) (ap₂ ◌∷◌ (h ∙ ap (λ l. at l 3) q) (ap (λ z. z ∷ []) i))))))))
 
 -- ---- the four places
 shuffled : (a b c d : ℤ) → (a +ℤ b) +ℤ (c +ℤ d) ≡ a +ℤ c +ℤ b +ℤ d
@@ -129,14 +121,108 @@ sized-four {a = a} x e s = record {
   both = s.both;
 }
 
--- ---- the same of what the bits of locals hold
-module _ {bl bm bn bx bz : ℕ} {l m n x y : ℤ} (hl : Held w64 bl l) (hm : Held w64 bm m) (hn : Held w64 bn n) (hx : Held w64 bx x) (hy : Held w64 bz y) where
-  pub fit-held : Fit l m n x y → Fit (to_z w64 bl) (to_z w64 bm) (to_z w64 bn) (to_z w64 bx) (to_z w64 bz)
-  fit-held f = rw (hl.is, hm.is, hn.is, hx.is, hy.is) f
+-- ---- what the code computes, each number read from its bits
+abbrev pub read : ℤ → ℤ
+read z = to_z w64 (of_z w64 z)
 
-  pub two-held : {p q : ℤ} → (p ≡ to_z w64 bl *ℤ to_z w64 bx +ℤ to_z w64 bn *ℤ (to_z w64 bx +ℤ to_z w64 bz)) × (q ≡ to_z w64 bm *ℤ to_z w64 bz +ℤ to_z w64 bn *ℤ (to_z w64 bx +ℤ to_z w64 bz))
-      → (p ≡ l *ℤ x +ℤ n *ℤ (x +ℤ y)) × (q ≡ m *ℤ y +ℤ n *ℤ (x +ℤ y))
-  two-held e = (rw (hl.is, hn.is, hx.is, hy.is) at e.0, rw (hm.is, hn.is, hx.is, hy.is) at e.1)
+-- nine numbers: four, four and one
+pub nine-read : (t : ℕ → ℤ) (x y : Four) → listed x ≡ places 4 t → listed y ≡ places 4 (λ j. t (4 + j)) → SFits w64 x.a × SFits w64 x.b × SFits w64 x.c × SFits w64 x.d → SFits w64 y.a × SFits w64 y.b × SFits w64 y.c × SFits w64 y.d
+    → SFits w64 (t 8) → listed_nine (record { a = read x.a; b = read x.b; c = read x.c; d = read x.d; e = read y.a; f = read y.b; g = read y.c; h = read y.d; i = read (t 8) }) ≡ places 9 t
+unfolding tab
+nine-read t x y ex ey fx fy fi =
+    rw (to_z-of_z w64 x.a fx.0, to_z-of_z w64 x.b fx.1, to_z-of_z w64 x.c fx.2, to_z-of_z w64 x.d fx.3, to_z-of_z w64 y.a fy.0, to_z-of_z w64 y.b fy.1, to_z-of_z w64 y.c fy.2, to_z-of_z w64 y.d fy.3, to_z-of_z w64 (t 8) fi) (cc)
+
+abbrev pub Two : (l m n x y : ℤ) → ℤ × ℤ → Type 0
+Two l m n x y r = (r.0 ≡ l *ℤ x +ℤ n *ℤ (x +ℤ y)) × (r.1 ≡ m *ℤ y +ℤ n *ℤ (x +ℤ y))
+
+module _ {l m n x y x' y' : ℤ} (rl : SFits w64 l) (rm : SFits w64 m) (rn : SFits w64 n) (rx : x' ≡ x) (ry : y' ≡ y) where
+  fit-read : Fit l m n x y → Fit (read l) (read m) (read n) x' y'
+  fit-read f = rw (to_z-of_z w64 l rl, to_z-of_z w64 m rm, to_z-of_z w64 n rn, rx, ry) f
+
+  two-read : {r : ℤ × ℤ} → Two (read l) (read m) (read n) x' y' r → Two l m n x y r
+  two-read q = (rw (to_z-of_z w64 l rl, to_z-of_z w64 n rn, rx, ry) at q.0, rw (to_z-of_z w64 m rm, to_z-of_z w64 n rn, rx, ry) at q.1)
+
+plus-read : (a b : ℤ) {z : ℤ} → SFits w64 a → SFits w64 b → a +ℤ b ≡ z → nat_abs z < 2 ^ 62 → SFits w64 (read a +ℤ read b) × (read (read a +ℤ read b) ≡ z)
+plus-read a b {z} fa fb e s =
+    let f : SFits w64 (a +ℤ b) = rw e (small w64 z (omega (arith, s))) in
+    (rw (to_z-of_z w64 a fa, to_z-of_z w64 b fb) f, rw (to_z-of_z w64 a fa, to_z-of_z w64 b fb) (to_z-of_z w64 (a +ℤ b) f ∙ e))
+
+-- each number of a leaf fits
+abbrev pub NineFit : Nine → Type 0
+NineFit l = SFits w64 l.a × SFits w64 l.b × SFits w64 l.c × SFits w64 l.d × SFits w64 l.e × SFits w64 l.f × SFits w64 l.g × SFits w64 l.h × SFits w64 l.i
+
+module _ (l : Nine) (x : Four) (h : Leaf (listed_nine l) (listed x)) where
+  x_is : (i : ℕ) → read (at (listed x) i) ≡ at (listed x) i
+  x_is i = to_z-of_z w64 _ (small w64 _ (omega (arith, h.sized.size i, numbers-small h.sized h.fits)))
+
+  x02 : SFits w64 (x.a +ℤ x.c)
+  x02 = small w64 _ (omega (arith, fit-sum h.sized h.fits 0 2))
+
+  x13 : SFits w64 (x.b +ℤ x.d)
+  x13 = small w64 _ (omega (arith, fit-sum h.sized h.fits 1 3))
+
+  pub sum-02 : SFits w64 (read x.a +ℤ read x.c)
+  sum-02 = rw (x_is 0, x_is 2) x02
+
+  pub sum-13 : SFits w64 (read x.b +ℤ read x.d)
+  sum-13 = rw (x_is 1, x_is 3) x13
+
+  x02_is : read (read x.a +ℤ read x.c) ≡ x.a +ℤ x.c
+  x02_is = rw (x_is 0, x_is 2) (to_z-of_z w64 _ x02)
+
+  x13_is : read (read x.b +ℤ read x.d) ≡ x.b +ℤ x.d
+  x13_is = rw (x_is 1, x_is 3) (to_z-of_z w64 _ x13)
+
+  module _ (f : NineFit l) where
+    pub p-fit : Fit (read l.a) (read l.b) (read l.e) (read x.a) (read x.b)
+    p-fit = fit-read f.0 f.1 f.4 (x_is 0) (x_is 1) (subst (λ t. Fit (at t 0) (at t 1) (at t 4) x.a x.b) (sym h.is) (fit-first h.sized h.fits))
+
+    pub r-fit : Fit (read l.c) (read l.d) (read l.f) (read x.c) (read x.d)
+    r-fit = fit-read f.2 f.3 f.5 (x_is 2) (x_is 3) (subst (λ t. Fit (at t 2) (at t 3) (at t 5) x.c x.d) (sym h.is) (fit-second h.sized h.fits))
+
+    pub t-fit : Fit (read l.g) (read l.h) (read l.i) (read (read x.a +ℤ read x.c)) (read (read x.b +ℤ read x.d))
+    t-fit = fit-read f.6 f.7 f.8 x02_is x13_is (subst (λ t. Fit (at t 6) (at t 7) (at t 8) (x.a +ℤ x.c) (x.b +ℤ x.d)) (sym h.is) (fit-middle h.sized h.fits))
+
+    module _ {p r t : ℤ × ℤ} (ep : Two (read l.a) (read l.b) (read l.e) (read x.a) (read x.b) p) (er : Two (read l.c) (read l.d) (read l.f) (read x.c) (read x.d) r)
+        (et : Two (read l.g) (read l.h) (read l.i) (read (read x.a +ℤ read x.c)) (read (read x.b +ℤ read x.d)) t) where
+      p_is : Two l.a l.b l.e x.a x.b p
+      p_is = two-read f.0 f.1 f.4 (x_is 0) (x_is 1) ep
+
+      r_is : Two l.c l.d l.f x.c x.d r
+      r_is = two-read f.2 f.3 f.5 (x_is 2) (x_is 3) er
+
+      t_is : Two l.g l.h l.i (x.a +ℤ x.c) (x.b +ℤ x.d) t
+      t_is = two-read f.6 f.7 f.8 x02_is x13_is et
+
+      abbrev a : ℕ → ℤ
+      a = at (listed x)
+
+      sums : (g : ℕ → ℤ) → listed_nine l ≡ nine g → (p.0 +ℤ t.0 ≡ product 4 g a 0) × (p.1 +ℤ t.1 ≡ product 4 g a 1) × (r.0 +ℤ t.0 ≡ product 4 g a 2) × (r.1 +ℤ t.1 ≡ product 4 g a 3)
+      sums g e = (
+        ap₂ ◌+ℤ◌ p_is.0 t_is.0 ∙ ap (λ t. (at t 0 *ℤ a 0 +ℤ at t 4 *ℤ (a 0 +ℤ a 1)) +ℤ (at t 6 *ℤ (a 0 +ℤ a 2) +ℤ at t 8 *ℤ ((a 0 +ℤ a 2) +ℤ (a 1 +ℤ a 3)))) e ∙ leaf_first g a,
+        ap₂ ◌+ℤ◌ p_is.1 t_is.1 ∙ ap (λ t. (at t 1 *ℤ a 1 +ℤ at t 4 *ℤ (a 0 +ℤ a 1)) +ℤ (at t 7 *ℤ (a 1 +ℤ a 3) +ℤ at t 8 *ℤ ((a 0 +ℤ a 2) +ℤ (a 1 +ℤ a 3)))) e ∙ leaf-second g a,
+        ap₂ ◌+ℤ◌ r_is.0 t_is.0 ∙ ap (λ t. (at t 2 *ℤ a 2 +ℤ at t 5 *ℤ (a 2 +ℤ a 3)) +ℤ (at t 6 *ℤ (a 0 +ℤ a 2) +ℤ at t 8 *ℤ ((a 0 +ℤ a 2) +ℤ (a 1 +ℤ a 3)))) e ∙ leaf-third g a,
+        ap₂ ◌+ℤ◌ r_is.1 t_is.1 ∙ ap (λ t. (at t 3 *ℤ a 3 +ℤ at t 5 *ℤ (a 2 +ℤ a 3)) +ℤ (at t 7 *ℤ (a 1 +ℤ a 3) +ℤ at t 8 *ℤ ((a 0 +ℤ a 2) +ℤ (a 1 +ℤ a 3)))) e ∙ leaf-fourth g a,
+      )
+
+      module _ (fp : SFits w64 p.0 × SFits w64 p.1) (fr : SFits w64 r.0 × SFits w64 r.1) (ft : SFits w64 t.0 × SFits w64 t.1) where
+        pub sums-fit : SFits w64 (read p.0 +ℤ read t.0) × SFits w64 (read p.1 +ℤ read t.1) × SFits w64 (read r.0 +ℤ read t.0) × SFits w64 (read r.1 +ℤ read t.1)
+        sums-fit =
+            let s = sums h.list h.is in
+            let w = fit-product h.sized h.fits in
+            ((plus-read p.0 t.0 fp.0 ft.0 s.0 (w 0)).0, (plus-read p.1 t.1 fp.1 ft.1 s.1 (w 1)).0, (plus-read r.0 t.0 fr.0 ft.0 s.2 (w 2)).0, (plus-read r.1 t.1 fr.1 ft.1 s.3 (w 3)).0)
+
+        pub leaf_is : (g : ℕ → ℤ) → listed_nine l ≡ nine g
+            → listed (record { a = read (read p.0 +ℤ read t.0); b = read (read p.1 +ℤ read t.1); c = read (read r.0 +ℤ read t.0); d = read (read r.1 +ℤ read t.1) }) ≡ places 4 (product 4 g a)
+        leaf_is g e =
+            let s = sums h.list h.is in
+            let w = fit-product h.sized h.fits in
+            let q = sums g e in
+            four-places (product 4 g a)
+            ((plus-read p.0 t.0 fp.0 ft.0 s.0 (w 0)).1 ∙ sym s.0 ∙ q.0)
+            ((plus-read p.1 t.1 fp.1 ft.1 s.1 (w 1)).1 ∙ sym s.1 ∙ q.1)
+            ((plus-read r.0 t.0 fr.0 ft.0 s.2 (w 2)).1 ∙ sym s.2 ∙ q.2)
+            ((plus-read r.1 t.1 fr.1 ft.1 s.3 (w 3)).1 ∙ sym s.3 ∙ q.3)
 
 -- ---- every leaf
 module _ {k v : ℕ} {lists r₀ r : List ℤ} (s : Leafed k v lists r₀ r) (l : v < k) (x : Four) (n : Nine)
@@ -167,6 +253,3 @@ module _ {k v : ℕ} {lists r₀ r : List ℤ} (s : Leafed k v lists r₀ r) (l 
         ∙ sum-ext 4 _ _ (λ i p. ap (λ t. L v (j + i) *ℤ t) (ap (λ t. at t i) (four_is a da) ∙ at_places 4 (a v) i p))) w b;
     rest = λ p b. stored-out r (v * 4) z p (λ c. omega arith) ∙ s.rest p (omega arith);
   }
-
-pub leafed-none : (k : ℕ) (lists r : List ℤ) → Leafed k 0 lists r r
-leafed-none k lists r = record { long = refl; done = λ L a dL da w j b. absurd (omega arith); rest = λ p b. refl }

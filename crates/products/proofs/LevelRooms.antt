@@ -3,7 +3,7 @@ use mathlib.Core.Path.{◌≡◌, refl, sym, ap, ap₂, subst, ◌∙◌}
 use mathlib.Core.Bool.{Bool, true, false}
 use mathlib.Core.List.{List}
 use Prim.Native.Nat.{ℕ, zero, suc, ◌+◌, ◌-◌, ◌*◌, ◌/◌, ◌%◌, ◌^◌, ◌≤◌, ◌<◌}
-use native.Mathlib.Nat.{mul-le-mul_left, mul-le-mul_right, pow-suc, div-add-mod, mod-lt, div-lt_iff_lt-mul}
+use native.Mathlib.Nat.{mul-le-mul_right, pow-suc, div-add-mod, mod-lt, div-lt_iff_lt-mul}
 use native.Mathlib.Omega.{arith}
 use borrow.Author.Tests.{ltb-true, ltb-false}
 use lib.Dec.{ltb}
@@ -107,9 +107,6 @@ module _ {m n k : ℕ} (d : Level m n k) (more : 4 < n) where
   next-room p =
       let e : k * 3 * (n / 2) ≡ 3 ^ suc d.level * wide m (suc d.level) = ap₂ ◌*◌ (ap (λ x. x * 3) d.count ∙ sym (pow-suc 3 d.level)) half_is in
       omega (arith, e, rw (power-same d.power p) at (level-room d.power (suc d.level) below))
-
-  pub next-count : k * 3 ≤ k * 3 * (n / 2)
-  next-count = let l : k * 3 * 1 ≤ k * 3 * (n / 2) = mul-le-mul_left (k * 3) (omega arith) in omega arith
 
 -- the leaves' level is the last
 pub last-level : {m n k : ℕ} (d : Level m n k) → n ≤ 4 → (p : Power m) → d.level ≡ p.levels

@@ -1,5 +1,5 @@
 -- The steps of a level, turn by turn, and what they come to.
-use mathlib.Core.Path.{◌≡◌, refl, sym, ap, ap₂, subst, subst₂, ◌∙◌}
+use mathlib.Core.Path.{◌≡◌, refl, ap, ap₂, subst, ◌∙◌}
 use mathlib.Core.Bool.{Bool, true, false}
 use mathlib.Core.List.{List}
 use Prim.Native.Nat.{ℕ, ◌+◌, ◌-◌, ◌*◌, ◌/◌, ◌%◌, ◌^◌, ◌≤◌, ◌<◌}
@@ -9,13 +9,13 @@ use borrow.Author.Tests.{ltb-true, ltb-false}
 use lib.Dec.{ltb}
 use lib.IntN.{ℤ, nat_abs, ◌+ℤ◌}
 use lib.ListN.{length}
-use Rattle.integers.specs.Places.{places, at}
+use Rattle.integers.specs.Places.{places, at, Within}
 use Rattle.integers.proofs.PlaceLaws.{at_places, places-ext}
 use Rattle.slices.specs.declared.fours.Four.{Four}
 use Rattle.slices.specs.Own.Fours.{listed, stored}
 use Rattle.products.specs.Own.Products.{Lists, Laid, down, up}
 use Rattle.products.specs.Own.Rooms.{Small, Written, AllWritten, half_sums, Spread, AllSpread}
-use Rattle.slices.proofs.FourLaws.{next-four, length-stored, stored-out, stored_is}
+use Rattle.slices.proofs.FourLaws.{next-four, length-stored, stored-out, stored_is, listed-within}
 
 -- the sum or difference of two fours, by what the first is
 pub op-is : (op : ℤ → ℤ → ℤ) (x y z : Four) (f : ℕ → ℤ) → listed x ≡ places 4 f → listed z ≡ places 4 (λ j. op (at (listed x) j) (at (listed y) j)) → listed z ≡ places 4 (λ j. op (f j) (at (listed y) j))
@@ -56,23 +56,31 @@ written-four f {g} {to} {i} {r₀} {r} {r'} s t e = record {
 }
 
 -- ---- both halves
-pub spread_none : (op : ℤ → ℤ → ℤ) (to h from : ℕ) (r : List ℤ) → Spread op to h from 0 r r
-spread_none op to h from r = record { long = refl; first = λ j l. absurd (omega arith); second = λ j l. absurd (omega arith); rest = λ p a b. refl }
-
 module _ {op : ℤ → ℤ → ℤ} {to h from i : ℕ} {r₀ r : List ℤ} (s : Spread op to h from i r₀ r) (apart : to + (h + h) ≤ from) (l : i + 4 ≤ h) where
-  pub spread-read-first : (j : ℕ) → j < 4 → at r (to + i + j) ≡ at r₀ (to + i + j)
+  spread-read-first : (j : ℕ) → j < 4 → at r (to + i + j) ≡ at r₀ (to + i + j)
   spread-read-first j k = s.rest (to + i + j) (λ q. omega arith) (λ q. absurd (omega arith))
 
-  pub spread-read-second : (j : ℕ) → j < 4 → at r (to + h + i + j) ≡ at r₀ (to + h + i + j)
+  spread-read-second : (j : ℕ) → j < 4 → at r (to + h + i + j) ≡ at r₀ (to + h + i + j)
   spread-read-second j k = s.rest (to + h + i + j) (λ q. omega arith) (λ q. omega arith)
 
-  pub spread-read-middle : (j : ℕ) → at r (from + i + j) ≡ at r₀ (from + i + j)
+  spread-read-middle : (j : ℕ) → at r (from + i + j) ≡ at r₀ (from + i + j)
   spread-read-middle j = s.rest (from + i + j) (λ q. omega arith) (λ q. omega arith)
 
-  pub spread-next : (z : Four) → listed z ≡ places 4 (λ j. at r (from + i + j)) → {r₁ r₂ : List ℤ} → Written (λ j. op (at r (to + i + j)) (at (listed z) j)) (to + i) 4 r r₁
-      → Written (λ j. op (at r₁ (to + h + i + j)) (at (listed z) j)) (to + h + i) 4 r₁ r₂ → Spread op to h from (i + 4) r₀ r₂
-  spread-next z ez {r₁} {r₂} t u =
-      let taken : (j : ℕ) → j < 4 → at (listed z) j ≡ at r₀ (from + i + j) = λ j k. ap (λ x. at x j) ez ∙ at_places 4 _ j k ∙ spread-read-middle j in record {
+  module _ (z : Small to (from + h) r₀) where
+    pub spread-small_first : Small (to + i) (to + i + 4) r
+    spread-small_first = small-four _ _ (λ j k. rw (spread-read-first j k) (z.small _ (omega arith) (omega arith)))
+
+    pub spread-small_second : {f : ℕ → ℤ} {r₁ : List ℤ} → Written f (to + i) 4 r r₁ → Small (to + h + i) (to + h + i + 4) r₁
+    spread-small_second t = small-four _ _ (λ j k. rw (t.rest (to + h + i + j) (λ q. omega arith), spread-read-second j k) (z.small _ (omega arith) (omega arith)))
+
+    pub spread-within : {y : Four} → listed y ≡ places 4 (λ j. at r (from + i + j)) → Within (2 ^ 62 - 1) (listed y)
+    spread-within {y} e = listed-within y _ (2 ^ 62 - 1) e (λ j k. rw (spread-read-middle j) (z.small _ (omega arith) (omega arith)))
+
+  pub spread-next : {n : ℕ} → i + 4 ≡ n → {z : Four} → listed z ≡ places 4 (λ j. at r (from + i + j)) → {r₁ r₂ : List ℤ} → Written (λ j. op (at r (to + i + j)) (at (listed z) j)) (to + i) 4 r r₁
+      → Written (λ j. op (at r₁ (to + h + i + j)) (at (listed z) j)) (to + h + i) 4 r₁ r₂ → Spread op to h from n r₀ r₂
+  spread-next {n} e {z} ez {r₁} {r₂} t u =
+      let taken : (j : ℕ) → j < 4 → at (listed z) j ≡ at r₀ (from + i + j) = λ j k. ap (λ x. at x j) ez ∙ at_places 4 _ j k ∙ spread-read-middle j in
+      subst (λ n. Spread op to h from n r₀ r₂) e record {
         long = u.long ∙ t.long ∙ s.long;
         first = next-four (λ j. at r₂ (to + j) ≡ op (at r₀ (to + j)) (at r₀ (from + j))) i
             (λ j k. written-before u (to + j) (omega arith) ∙ written-before t (to + j) (omega arith) ∙ s.first j k)
@@ -98,9 +106,6 @@ next_one P v f g w l = by (ltb w v) refl
     by true e = f w (ltb-true w v e)
     by false e = let n : v ≡ w = omega (arith, ltb-false w v e) in subst P n g
 
-pub all-written-none : (F : Lists) (to h : ℕ) (r : List ℤ) → AllWritten F to h 0 r r
-all-written-none F to h r = record { long = refl; old = λ p l. refl; new = λ w j l. absurd (omega arith) }
-
 pub all-written-next : {F : Lists} {to h v : ℕ} {r₀ r r' : List ℤ} → AllWritten F to h v r₀ r → (f : ℕ → ℤ) → ((j : ℕ) → j < h → f j ≡ F v j) → Written f (to + v * h) h r r' → AllWritten F to h (v + 1) r₀ r'
 all-written-next {F = F} {to = to} {h = h} {v = v} {r' = r'} s f e t = record {
   long = t.long ∙ s.long;
@@ -109,9 +114,6 @@ all-written-next {F = F} {to = to} {h = h} {v = v} {r' = r'} s f e t = record {
       (λ w n. let before : (w + 1) * h ≤ v * h = mul-le-mul_right h (omega arith) in written-before t (to + w * h + j) (omega arith) ∙ s.new w j n m)
       (t.new j m ∙ e j m) w q;
 }
-
-pub all-spread-none : (op : ℤ → ℤ → ℤ) (h k : ℕ) (r : List ℤ) → AllSpread op h k 0 r r
-all-spread-none op h k r = record { long = refl; first = λ w j l. absurd (omega arith); second = λ w j l. absurd (omega arith); rest = λ p l. refl }
 
 pub all-spread-next : {op : ℤ → ℤ → ℤ} {h k v : ℕ} {r₀ r r' : List ℤ} → AllSpread op h k v r₀ r → v < k → Spread op (v * (h + h)) h (k * (h + h) + v * h) h r r' → AllSpread op h k (v + 1) r₀ r'
 all-spread-next {op = op} {h = h} {k = k} {v = v} {r₀ = r₀} {r = r} {r' = r'} s l t =
@@ -125,46 +127,6 @@ all-spread-next {op = op} {h = h} {k = k} {v = v} {r₀ = r₀} {r = r} {r' = r'
           (λ w n. let before : (w + 1) * (h + h) ≤ v * (h + h) = mul-le-mul_right (h + h) (omega arith) in t.rest (w * (h + h) + h + j) (λ q. absurd (omega arith)) (λ q. absurd (omega arith)) ∙ s.second w j n m)
           (t.second j m ∙ ap₂ op (s.rest (v * (h + h) + h + j) (omega arith)) (middle j)) w q;
       rest = λ p q. t.rest p (λ a. omega arith) (λ a. omega arith) ∙ s.rest p (omega arith);
-    }
-
--- the loop over the lists: v of k are done, and the next one is at `to`, what it takes at `from`
-pub record Spreading (op : ℤ → ℤ → ℤ) (h k : ℕ) (r₀ r : List ℤ) (to from v : ℕ) : Type 0 where
-  upto : v ≤ k
-  to_is : to ≡ v * (h + h)
-  from_is : from ≡ k * (h + h) + v * h
-  spread : AllSpread op h k v r₀ r
-
-pub spreading-none : (op : ℤ → ℤ → ℤ) (h k : ℕ) (r : List ℤ) → Spreading op h k r r 0 (k * (h + h)) 0
-spreading-none op h k r = record { upto = omega arith; to_is = omega arith; from_is = omega arith; spread = all-spread-none op h k r }
-
--- the first list is in the room
-pub one-in-room : (h : ℕ) {k n : ℕ} → 1 ≤ k → k * (h + h) + k * h ≤ n → h + h ≤ n
-one-in-room h {k} l n = let one : 1 * (h + h) ≤ k * (h + h) = mul-le-mul_right (h + h) l in omega arith
-
-module _ {op : ℤ → ℤ → ℤ} {h k : ℕ} {r₀ r : List ℤ} {to from v : ℕ} (s : Spreading op h k r₀ r to from v) where
-  pub spreading-long : length r ≡ length r₀
-  spreading-long = s.spread.long
-
-  pub spreading-all : k ≤ v → AllSpread op h k k r₀ r
-  spreading-all n = let e : v ≡ k = omega (arith, n, s.upto) in subst (λ w. AllSpread op h k w r₀ r) e s.spread
-
-  module _ (n : k * (h + h) + k * h ≤ length r₀) (l : v < k) where
-    -- the next list, and what it takes
-    pub spreading-inside : (to + (h + h) ≤ from) × (from + h ≤ length r)
-    spreading-inside =
-        let lists : (v + 1) * (h + h) ≤ k * (h + h) = mul-le-mul_right (h + h) (omega arith) in
-        let sums : (v + 1) * h ≤ k * h = mul-le-mul_right h (omega arith) in
-        (omega (arith, s.to_is, s.from_is), omega (arith, s.from_is, spreading-long))
-
-    pub spreading-small : Small 0 (k * (h + h) + k * h) r₀ → Small to (from + h) r
-    spreading-small z = record { small = λ p b q. subst (λ x. nat_abs x ≤ 2 ^ 62 - 1) (sym (s.spread.rest p (omega (arith, s.to_is)))) (z.small p (omega arith) (let sums : (v + 1) * h ≤ k * h = mul-le-mul_right h (omega arith) in omega (arith, s.from_is))) }
-
-    pub spreading-next : {r' : List ℤ} → Spread op to h from h r r' → Spreading op h k r₀ r' (to + (h + h)) (from + h) (v + 1)
-    spreading-next {r'} t = record {
-      upto = omega arith;
-      to_is = omega (arith, s.to_is);
-      from_is = omega (arith, s.from_is);
-      spread = all-spread-next s.spread l (subst₂ (λ p q. Spread op p h q h r r') s.to_is s.from_is t);
     }
 
 -- what a whole turn comes to

@@ -1,7 +1,7 @@
 -- The lists of a table halved, level by level, and the nine numbers of each leaf.
 use mathlib.Core.Path.{◌≡◌, refl, sym, ap, ap₂, subst, ◌∙◌}
 use mathlib.Core.Bool.{Bool, true, false}
-use mathlib.Core.List.{List, [], ◌∷◌, ◌++◌}
+use mathlib.Core.List.{List, [], ◌++◌}
 use Prim.Native.Nat.{ℕ, zero, suc, ◌+◌, ◌-◌, ◌*◌, ◌/◌, ◌%◌, ◌^◌, ◌≤◌, ◌<◌}
 use native.Mathlib.Nat.{mul-le-mul_right, pow-suc, div-add-mod, mod-lt, div-lt_iff_lt-mul}
 use native.Mathlib.Omega.{arith}
@@ -21,7 +21,7 @@ use Rattle.products.specs.Own.Tables.{middles, Tabled, TablesHalved}
 use Rattle.slices.proofs.FourLaws.{next-four, length-stored}
 use Rattle.products.proofs.RoomLaws.{written_none, written_next, next_one, all-written-next}
 use Rattle.products.proofs.LevelLaws.{wide-top, wide-leaf, wide-times, differing-size}
-use Rattle.products.proofs.LevelRooms.{level-room, wide-some, laid-small, top-level, half_is, half, next_level, next-room, next-count, last-level}
+use Rattle.products.proofs.LevelRooms.{level-room, wide-some, laid-small, top-level, half_is, half, next_level, next-room, last-level}
 
 -- ---- nine numbers stored one behind the other: four, four and one
 pub written-nine : (f : ℕ → ℤ) {r r' r'' : List ℤ} {p : ℕ} {low high : Four} {z : ℤ} → r' ≡ stored r p low → r'' ≡ stored r' (p + 4) high → p + 9 ≤ length r
@@ -45,10 +45,6 @@ written-nine f {r} {r'} {r''} {p} {low} {high} {z} e₁ e₂ h el eh ez =
 pub nine-ext : (f g : ℕ → ℤ) → ((e : ℕ) → e < 8 → f e ≡ g e) → nine f ≡ nine g
 unfolding nine
 nine-ext f g h = rw (h 0 (omega arith), h 1 (omega arith), h 2 (omega arith), h 3 (omega arith), h 4 (omega arith), h 5 (omega arith), h 6 (omega arith))
-
-pub length-nine : (f : ℕ → ℤ) → length (nine f) ≡ 9
-unfolding nine
-length-nine f = refl
 
 pub eight_is : (x y : Four) (f : ℕ → ℤ) → listed x ≡ places 4 f → listed y ≡ places 4 (λ j. f (4 + j)) → (e : ℕ) → e < 8 → at (listed x ++ listed y) e ≡ f e
 eight_is x y f ex ey = next-four (λ e. at (listed x ++ listed y) e ≡ f e) 4
@@ -174,9 +170,6 @@ module _ {m n k : ℕ} {r₀ r : List ℤ} (d : TablesHalved m r₀ n k r) (g : 
 
   pub halve-room : k * (n / 2 + n / 2 + (n / 2 + n / 2)) + k * (n / 2 + n / 2) ≤ length r
   halve-room = omega (arith, next-room d.here more g.power, g.long, d.long)
-
-  pub lists-fit : k * 3 ≤ length r
-  lists-fit = omega (arith, next-count d.here more, halve-room)
 
   pub halve-small : Small 0 (k * (n / 2 + n / 2 + (n / 2 + n / 2))) r
   halve-small = record { small = λ p b l. let e : k * (n + n) ≡ k * (n / 2 + n / 2 + (n / 2 + n / 2)) = ap (λ x. k * x) four-times in omega (arith, laid-small (2 ^ 60) d.laid (omega arith) (λ v i. tables-small d.here.power g.most (take (m + m) r₀) g.within g.fits d.here.level v i d.here.inside) p (omega arith)) }

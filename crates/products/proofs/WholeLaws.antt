@@ -15,7 +15,7 @@ use Rattle.products.specs.Own.Rooms.{Small}
 use Rattle.products.specs.Own.Leaf.{Leaves}
 use Rattle.products.specs.Own.Whole.{LeafLists, Roomy, ProductInput, Multiplied, Rising, Descended, Ascended}
 use Rattle.products.proofs.LevelLaws.{wide-times, wide-next, wide-top, wide-leaf, level-up, level-sized, level-fits, products-small}
-use Rattle.products.proofs.LevelRooms.{power-same, three-pos, level-room, wide-fours, wide-some, laid-small, numbers-small, top-level, half_is, half, next_level, next-room, next-count, last-level}
+use Rattle.products.proofs.LevelRooms.{power-same, three-pos, level-room, wide-fours, wide-some, laid-small, numbers-small, top-level, half_is, half, next_level, next-room, last-level}
 
 -- ---- the loop down
 pub descended-top : (m : ℕ) (r : List ℤ) → Roomy m [] r → Descended m r m 1 r
@@ -29,9 +29,6 @@ descended-top m r h = record {
 module _ {m n k : ℕ} {r₀ r : List ℤ} (d : Descended m r₀ n k r) (more : 4 < n) where
   pub descend-room : {L : List ℤ} → Roomy m L r₀ → k * (n / 2 + n / 2) + k * (n / 2) ≤ length r
   descend-room g = omega (arith, next-room d.here more g.power, g.long, d.long)
-
-  pub count_fits : {L : List ℤ} → Roomy m L r₀ → k * 3 ≤ length r
-  count_fits g = omega (arith, next-count d.here more, descend-room g)
 
   pub descend-small : {L : List ℤ} → ProductFits m L (take m r₀) → Small 0 (k * (n / 2 + n / 2)) r
   descend-small z = record { small = λ p b l. laid-small (2 ^ 62 - 1) d.laid (omega arith) (λ v i. numbers-small d.here.power z d.here.level v i d.here.inside) p (let e : k * n ≡ k * (n / 2 + n / 2) = ap (λ x. k * x) (half d.here more) in omega arith) }
@@ -164,13 +161,6 @@ laid_one m L a r d =
 
 -- ---- what the steps of the whole are given
 module _ {m : ℕ} {lists r : List ℤ} (g : ProductInput m lists r) where
-  pub given-roomy : Roomy m [] r
-  given-roomy = let z = g.roomy.sizes in record {
-    power = g.roomy.power;
-    sizes = record { most-list = z.most-list; most = z.most; some = z.some; list-within = record { size = λ i. omega arith }; within = z.within; fits = z.fits };
-    long = g.roomy.long;
-  }
-
   abbrev own : Power m
   own = g.leaves.power
 

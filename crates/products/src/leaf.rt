@@ -8,6 +8,7 @@ ghost use Rattle.products.specs.Own.Leaf.{listed_nine, Fit, Leaf, Leaves};
 use slices::fours;
 use slices::fours::Four;
 
+// Names rather than an array, as in `Four`: for speed.
 #[derive(Clone, Copy)]
 pub struct Nine {
     pub a: i64,
@@ -19,12 +20,6 @@ pub struct Nine {
     pub g: i64,
     pub h: i64,
     pub i: i64,
-}
-
-#[derive(Clone, Copy)]
-struct Pair {
-    p: i64,
-    q: i64,
 }
 
 // The nine numbers from place p on.
@@ -48,15 +43,12 @@ fn nine_at(x: &[i64], p: usize) -> Nine
 }
 
 // Two numbers, by three products.
-fn two(l: i64, m: i64, n: i64, x: i64, y: i64) -> Pair
+fn two(l: i64, m: i64, n: i64, x: i64, y: i64) -> (i64, i64)
     requires { Fit l m n x y }
-    ensures { (result.p ≡ l *ℤ x +ℤ n *ℤ (x +ℤ y)) × (result.q ≡ m *ℤ y +ℤ n *ℤ (x +ℤ y)) }
+    ensures { (result.0 ≡ l *ℤ x +ℤ n *ℤ (x +ℤ y)) × (result.1 ≡ m *ℤ y +ℤ n *ℤ (x +ℤ y)) }
 {
     let z = n * (x + y);
-    Pair {
-        p: l * x + z,
-        q: m * y + z,
-    }
+    (l * x + z, m * y + z)
 }
 
 // Four numbers, by nine products.
@@ -64,14 +56,14 @@ pub fn leaf(l: Nine, x: Four) -> Four
     requires { Leaf (listed_nine l) (listed x) }
     ensures { (g : ℕ → ℤ) → listed_nine l ≡ nine g → listed result ≡ places 4 (product 4 g (at (listed x))) }
 {
-    let first = two(l.a, l.b, l.e, x.a, x.b);
-    let second = two(l.c, l.d, l.f, x.c, x.d);
-    let middle = two(l.g, l.h, l.i, x.a + x.c, x.b + x.d);
+    let (p, q) = two(l.a, l.b, l.e, x.a, x.b);
+    let (r, s) = two(l.c, l.d, l.f, x.c, x.d);
+    let (t, u) = two(l.g, l.h, l.i, x.a + x.c, x.b + x.d);
     Four {
-        a: first.p + middle.p,
-        b: first.q + middle.q,
-        c: second.p + middle.p,
-        d: second.q + middle.q,
+        a: p + t,
+        b: q + u,
+        c: r + t,
+        d: s + u,
     }
 }
 
@@ -80,10 +72,8 @@ pub fn leaves(lists: &[i64], room: &mut [i64], k: usize)
     requires { Leaves k lists.now room.old }
     ensures { (L a : Lists) → Laid 9 k (λ v. at (nine (L v))) lists.now → Laid 4 k a room.old → Laid 4 k (products 4 L a) room.new }
 {
-    let mut v = 0;
-    while v < k {
+    for v in 0..k {
         let x = fours::four_at(room, v * 4);
         fours::put(room, v * 4, leaf(nine_at(lists, v * 9), x));
-        v += 1;
     }
 }

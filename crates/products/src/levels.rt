@@ -9,7 +9,7 @@ ghost use Rattle.slices.specs.Own.Moves.{moved};
 use slices::fours;
 use slices::fours::Four;
 
-// To `to` the four numbers from x on with z added, or taken off.
+// To `to` the four numbers from x on with z added, or where `less` says so taken off: one code for both ways through the levels.
 fn move_four(less: bool, room: &mut [i64], x: usize, z: Four, to: usize)
     requires { (x + 4 ≤ length room.old) × (to + 4 ≤ length room.old) × Small x (x + 4) room.old × Within (2 ^ 62 - 1) (listed z) }
     ensures { Written (λ j. moved less (at room.old (x + j)) (at (listed z) j)) to 4 room.old room.new }
@@ -24,11 +24,9 @@ fn append_list(room: &mut [i64], from: usize, to: usize, h: usize)
     requires small { Small from (from + (h + h)) room.old }
     ensures { Written (λ j. at room.old (from + j) +ℤ at room.old (from + h + j)) to h room.old room.new }
 {
-    let mut i = 0;
-    while i < h {
+    for i in (0..h).step_by(4) {
         let y = fours::four_at(room, from + h + i);
         move_four(false, room, from + i, y, to + i);
-        i += 4;
     }
 }
 
@@ -39,14 +37,8 @@ pub fn append(room: &mut [i64], k: usize, h: usize)
     ensures { (a : Lists) → Laid (h + h) k a room.old → Laid h (3 * k) (down h k a) room.new }
 {
     let n = h + h;
-    let mut from = 0;
-    let mut to = k * n;
-    let mut v = 0;
-    while v < k {
-        append_list(room, from, to, h);
-        from += n;
-        to += h;
-        v += 1;
+    for v in 0..k {
+        append_list(room, v * n, k * n + v * h, h);
     }
 }
 
@@ -56,14 +48,12 @@ fn spread_list(less: bool, room: &mut [i64], to: usize, from: usize, h: usize)
     requires small { Small to (from + h) room.old }
     ensures { Spread (moved less) to h from h room.old room.new }
 {
-    let mut i = 0;
-    while i < h {
+    for i in (0..h).step_by(4) {
         let z = fours::four_at(room, from + i);
         let p = to + i;
         let q = to + h + i;
         move_four(less, room, p, z, p);
         move_four(less, room, q, z, q);
-        i += 4;
     }
 }
 
@@ -74,13 +64,7 @@ pub fn spread_lists(less: bool, room: &mut [i64], k: usize, h: usize)
     ensures { AllSpread (moved less) h k k room.old room.new }
 {
     let n = h + h;
-    let mut to = 0;
-    let mut from = k * n;
-    let mut v = 0;
-    while v < k {
-        spread_list(less, room, to, from, h);
-        to += n;
-        from += h;
-        v += 1;
+    for v in 0..k {
+        spread_list(less, room, v * n, k * n + v * h, h);
     }
 }

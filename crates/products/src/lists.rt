@@ -11,18 +11,6 @@ use crate::levels;
 use slices::fours;
 use slices::fours::Four;
 
-fn copy_list(room: &mut [i64], from: usize, to: usize, h: usize)
-    requires { (h % 4 ≡ 0) × (from + h ≤ to) × (to + h ≤ length room.old) }
-    ensures { Written (λ j. at room.old (from + j)) to h room.old room.new }
-{
-    let mut i = 0;
-    while i < h {
-        let x = fours::four_at(room, from + i);
-        fours::put(room, to + i, x);
-        i += 4;
-    }
-}
-
 // The middles of k lists of 4q numbers, to the end.
 fn copy_middles(room: &mut [i64], k: usize, q: usize)
     requires { (q % 4 ≡ 0) × (1 ≤ k) × (k * (q + q + (q + q)) + k * (q + q) ≤ length room.old) }
@@ -30,14 +18,9 @@ fn copy_middles(room: &mut [i64], k: usize, q: usize)
 {
     let h = q + q;
     let n = h + h;
-    let mut from = q;
-    let mut to = k * n;
-    let mut v = 0;
-    while v < k {
-        copy_list(room, from, to, h);
-        from += n;
-        to += h;
-        v += 1;
+    for v in 0..k {
+        let from = v * n + q;
+        room.copy_within(from..from + h, k * n + v * h);
     }
 }
 
@@ -99,12 +82,10 @@ fn nines(lists: &[i64], out: &mut [i64], k: usize)
     requires by_index { (p : ℕ) → p < k * 8 → nat_abs (at lists.now p) ≤ 2 ^ 60 }
     ensures { (L : Lists) → Laid 8 k L lists.now → Laid 9 k (λ v. at (Rattle.products.specs.Own.Products.nine (L v))) out.new }
 {
-    let mut v = 0;
-    while v < k {
+    for v in 0..k {
         let x = fours::four_at(lists, v * 8);
         let y = fours::four_at(lists, v * 8 + 4);
         put_nine(out, v * 9, x, y);
-        v += 1;
     }
 }
 

@@ -1,36 +1,29 @@
 // A line behind the width: a frame, or the end line of its run.
-ghost use Rattle.std.specs.Prelude.{◌≡◌, ◌*◌, ◌%◌, ◌<◌, ◌≤◌, length};
-ghost use Rattle.std.proofs.Math.Option.{some};
-ghost use Rattle.integers.specs.Places.{at, Within};
+ghost use Rattle.std.specs.Prelude.{◌≡◌, ◌*◌, ◌%◌, ◌≤◌, nat_abs, length, Some};
+ghost use Rattle.integers.specs.Places.{Within};
 ghost use Rattle.steps.specs.Limits.{coefficient_limit};
 ghost use Rattle.runs.specs.Record.{frame_limit};
-ghost use Rattle.text_runs.specs.Lines.{numbers_in, end_total};
+ghost use Rattle.text_runs.specs.Lines.{numbers_in};
 ghost use Rattle.reels.specs.Verdicts.{verdict_told};
 ghost use Rattle.reels.specs.Page.{squared};
 ghost use Rattle.reels.specs.Reel.{run_limit, to_phase, taken_or, frame_asked, squares_added, frame_line, end_asked, run_line};
 ghost use Rattle.reels.specs.declared.reel.ReelPhase.TheVariants.{NextRun};
 ghost use Rattle.reels.specs.Limits.{SumsWithin, WithinLimits};
-ghost use Rattle.reel_lines.specs.Own.Totals.{is_total};
 
 use crate::refuse;
 use decimal::read;
-use decimal::read::Fields;
 use gate::questions;
+use reels::reel;
 use reels::reel::{Reel, ReelPhase};
-use reels::verdict::Verdict;
-use reels::{reel, verdict};
-use runs::answer::Found;
+use reels::verdict::{Refusal, Verdict};
 use runs::limits;
 use slices::room;
-use text_runs::number::Field;
 
-fn square_at(frame: &[i32], i: usize) -> i64
-    requires i_in_bounds { i < length frame.now }
-    requires within { Within coefficient_limit frame.now }
-    ensures { result ≡ squared (at frame.now i) }
+fn square(x: i32) -> i64
+    requires { nat_abs x ≤ coefficient_limit }
+    ensures { result ≡ squared x }
 {
-    let x = frame[i] as i64;
-    x * x
+    i64::from(x) * i64::from(x)
 }
 
 // Each square to the sum of its own coefficient number.
@@ -40,10 +33,8 @@ fn add_squares(sums: &mut [i64], frame: &[i32])
     requires sums_within { SumsWithin (run_limit * frame_limit) sums.old }
     ensures { sums.new ≡ squares_added sums.old frame.now }
 {
-    let mut i = 0;
-    while i < frame.len() {
-        sums[i] = sums[i] + square_at(frame, i);
-        i += 1;
+    for (i, x) in frame.iter().enumerate() {
+        sums[i] += square(*x);
     }
 }
 
@@ -53,38 +44,33 @@ fn asked(frame: &[i32], width: usize, count: usize) -> Verdict
     ensures { result ≡ frame_asked width count frame.now }
 {
     if limits::FRAME_LIMIT <= count {
-        return Verdict::Full;
+        return Err(Refusal::Full);
     }
-    let n = frame.len();
-    if n != width {
-        return Verdict::Length;
+    if frame.len() != width {
+        return Err(Refusal::Length);
     }
-    let mut wide = room::of_128();
-    let beyond = questions::seldom_beyond(frame, limits::COEFFICIENT_LIMIT, &mut wide[..n]);
-    if let Found::At(place) = beyond {
-        return Verdict::Range(place);
+    let mut wide = room::zeros::<128>();
+    match questions::seldom_beyond(frame, limits::COEFFICIENT_LIMIT, &mut wide[..width]) {
+        Some(place) => Err(Refusal::Range(place)),
+        None => Ok(()),
     }
-    Verdict::Taken
 }
 
 fn take_frame(reel: Reel, frame: &[i32]) -> Reel
     requires { WithinLimits reel }
-    ensures { result ≡ frame_line reel (some frame.now) }
+    ensures { result ≡ frame_line reel (Some frame.now) }
 {
-    let verdict = asked(frame, reel.width, reel.count);
-    let told = verdict::told_by(verdict);
-    if told.0 != 0 {
-        return refuse::by(reel, verdict);
+    if let Err(refusal) = asked(frame, reel.width, reel.count) {
+        return refuse::by(reel, refusal);
     }
     let mut sums = reel.sums;
     add_squares(&mut sums, frame);
     Reel {
         phase: ReelPhase::Frames,
-        width: reel.width,
-        runs: reel.runs,
         count: reel.count + 1,
         frames: reel.frames + 1,
-        sums: sums,
+        sums,
+        ..reel
     }
 }
 
@@ -94,9 +80,8 @@ fn take_row(reel: Reel, line: &[u8]) -> Reel
     ensures { result ≡ frame_line reel (numbers_in line.now) }
 {
     let mut numbers = [0i32; 1024];
-    let fields = read::numbers(line, &mut numbers);
-    let Fields::Numbers(n) = fields else {
-        return refuse::by(reel, Verdict::Form);
+    let Some(n) = read::numbers(line, &mut numbers) else {
+        return refuse::by(reel, Refusal::Form);
     };
     take_frame(reel, &numbers[..n])
 }
@@ -107,27 +92,17 @@ fn end_run(reel: Reel) -> Reel
     ensures { result ≡ taken_or reel (verdict_told (end_asked reel.count)) (to_phase NextRun reel) }
 {
     if reel.count == 0 {
-        return refuse::by(reel, Verdict::Empty);
+        return refuse::by(reel, Refusal::Empty);
     }
     reel::to_phase(reel, ReelPhase::NextRun)
 }
 
-// Whether a line is the end line of a run of so many frames. Frames that do not go back have no total, so its value is not asked.
-fn is_end(line: &[u8], count: usize) -> bool
-    ensures { result ≡ is_total (end_total count line.now) }
-{
-    let end = read::end_total(line, count);
-    match end {
-        Field::Number(_total) => true,
-        Field::Bad => false,
-    }
-}
-
+// An end line or a frame. Frames that do not go back have no total, so its value is not asked.
 pub fn take_between(reel: Reel, line: &[u8]) -> Reel
     requires { WithinLimits reel × (length line.now ≤ 2048) }
     ensures { result ≡ run_line reel line.now }
 {
-    if is_end(line, reel.count) {
+    if read::end_total(line, reel.count).is_some() {
         return end_run(reel);
     }
     take_row(reel, line)

@@ -6,55 +6,54 @@ ghost use Rattle.reels.specs.Limits.{WithinLimits};
 
 use crate::refuse;
 use constants::widths;
+use reels::limits;
 use reels::reel::{Reel, ReelPhase};
-use reels::verdict::Verdict;
-use reels::{limits, reel, verdict};
-use text_runs::number::Field;
+use reels::verdict::{Refusal, Verdict};
 
 // Questions 1, 14 and 15, where so many runs were begun, the first of this width.
 fn asked(width: usize, first: usize, runs: usize) -> Verdict
     ensures { result ≡ width_asked width first runs }
 {
     if widths::half_width(width) == 0 {
-        return Verdict::Width;
+        return Err(Refusal::Width);
     }
     if runs == 0 {
-        return Verdict::Taken;
+        return Ok(());
     }
     if width != first {
-        return Verdict::OtherWidth;
+        return Err(Refusal::OtherWidth);
     }
     if limits::RUN_LIMIT <= runs {
-        return Verdict::RunTooMany;
+        return Err(Refusal::RunTooMany);
     }
-    Verdict::Taken
+    Ok(())
 }
 
 fn start_run(reel: Reel, width: usize) -> Reel
     requires { WithinLimits reel }
     ensures { result ≡ taken_or reel (verdict_told (width_asked width reel.width reel.runs)) (run_begun reel width) }
 {
-    let verdict = asked(width, reel.width, reel.runs);
-    let told = verdict::told_by(verdict);
-    if told.0 != 0 {
-        return refuse::by(reel, verdict);
+    if let Err(refusal) = asked(width, reel.width, reel.runs) {
+        return refuse::by(reel, refusal);
     }
-    let mut begun = reel::to_phase(reel, ReelPhase::Frames);
-    begun.width = width;
-    begun.runs += 1;
-    begun.count = 0;
-    begun
+    Reel {
+        phase: ReelPhase::Frames,
+        width,
+        runs: reel.runs + 1,
+        count: 0,
+        ..reel
+    }
 }
 
-pub fn take_width(reel: Reel, field: Field) -> Reel
+pub fn take_width(reel: Reel, field: Option<i64>) -> Reel
     requires { WithinLimits reel }
     ensures { result ≡ width_line reel field }
 {
-    let Field::Number(width) = field else {
-        return refuse::by(reel, Verdict::Form);
+    let Some(width) = field else {
+        return refuse::by(reel, Refusal::Form);
     };
     if width < 0 {
-        return refuse::by(reel, Verdict::Width);
+        return refuse::by(reel, Refusal::Width);
     }
     start_run(reel, width as usize)
 }

@@ -27,10 +27,8 @@ fn sum_lines(out: &mut [u8], at: usize, sums: &[i64]) -> usize
     ensures { Put at out.old (sum_lines 0 sums.now) result out.new }
 {
     let mut n = at;
-    let mut i = 0;
-    while i < sums.len() {
-        n = sum_line(out, n, i, sums[i]);
-        i += 1;
+    for (i, sum) in sums.iter().enumerate() {
+        n = sum_line(out, n, i, *sum);
     }
     n
 }
@@ -50,16 +48,11 @@ pub fn refusal(phase: ReelPhase, out: &mut [u8], at: usize) -> usize
     requires { at + 71 ≤ length out.old }
     ensures { Put at out.old (refusal_in phase) result out.new × (result ≤ at + 71) }
 {
-    match phase {
-        ReelPhase::FirstRun => at,
-        ReelPhase::Frames => at,
-        ReelPhase::NextRun => at,
-        ReelPhase::Whole => at,
-        ReelPhase::Refused(number, line, place) => {
-            let n = print::refusal(out, at, number, line, place);
-            print::bytes(out, n, b"\n")
-        }
+    if let ReelPhase::Refused(number, line, place) = phase {
+        let n = print::refusal(out, at, number, line, place);
+        return print::bytes(out, n, b"\n");
     }
+    at
 }
 
 // What a reel says that has come to its end; before, nothing.
@@ -67,16 +60,9 @@ pub fn says(reel: Reel, out: &mut [u8], at: usize) -> usize
     requires { WithinLimits reel × (at + most_printed ≤ length out.old) }
     ensures { Put at out.old (reel_says reel.phase reel) result out.new }
 {
-    let phase = reel.phase;
-    match phase {
-        ReelPhase::FirstRun => at,
-        ReelPhase::Frames => at,
-        ReelPhase::NextRun => at,
-        ReelPhase::Whole => {
-            let n = reel.width;
-            let sums = reel.sums;
-            page(out, at, &sums[..n], reel.frames)
-        }
-        ReelPhase::Refused(_, _, _) => refusal(phase, out, at),
+    match reel.phase {
+        ReelPhase::FirstRun | ReelPhase::Frames | ReelPhase::NextRun => at,
+        ReelPhase::Whole => page(out, at, &reel.sums[..reel.width], reel.frames),
+        ReelPhase::Refused(..) => refusal(reel.phase, out, at),
     }
 }

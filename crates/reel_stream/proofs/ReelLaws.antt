@@ -3,12 +3,10 @@ use mathlib.Core.Path.{◌≡◌, refl, sym, ap, subst, ◌∙◌}
 use mathlib.Core.Logic.{⊎_elim}
 use mathlib.Core.Bool.{Bool, true, false, cond, false≢true}
 use mathlib.Core.List.{List, []}
-use mathlib.Core.Option.{Option, none, some}
+use Rattle.std.specs.Prelude.{Option, None, Some}
 use Prim.Native.Nat.{ℕ}
 use lib.Dec.{eqb}
 use lib.IntN.{ℤ, pos, negsuc}
-use Rattle.text_runs.specs.declared.number.Field.{Field}
-use Rattle.text_runs.specs.declared.number.Field.TheVariants as Field
 use Rattle.text_runs.specs.Decimal.{number_in}
 use Rattle.text_runs.specs.Lines.{numbers_in, end_total}
 use Rattle.text_runs.proofs.UpToLaws.{tested}
@@ -50,21 +48,21 @@ taken-no-page : (s : Reel) (told : ℕ × ℕ) (next : Reel) → is_whole next.p
 unfolding is_whole taken_or reel_refused to_phase
 taken-no-page s told next e = ⊎_elim (λ t. rw t e) (λ t. rw t) (tested (eqb told.0 0))
 
-width-no-page : (s : Reel) (field : Field) → is_whole (width_line s field).phase ≡ false
+width-no-page : (s : Reel) (field : Option ℤ) → is_whole (width_line s field).phase ≡ false
 unfolding is_whole width_line run_begun reel_refused to_phase
-width-no-page s (Field.Number (pos N)) = taken-no-page s _ (run_begun s N) refl
-width-no-page s (Field.Number (negsuc n)) = refl
-width-no-page s Field.Bad = refl
+width-no-page s (Some (pos N)) = taken-no-page s _ (run_begun s N) refl
+width-no-page s (Some (negsuc n)) = refl
+width-no-page s None = refl
 
 frame-no-page : (s : Reel) (read : Option (List ℤ)) → is_whole (frame_line s read).phase ≡ false
 unfolding is_whole frame_line frame_added reel_refused to_phase
-frame-no-page s none = refl
-frame-no-page s (some frame) = taken-no-page s _ (frame_added s frame) refl
+frame-no-page s None = refl
+frame-no-page s (Some frame) = taken-no-page s _ (frame_added s frame) refl
 
-run-no-page : (s : Reel) (bytes : List ℕ) (field : Field) → is_whole (run_line_by s bytes field).phase ≡ false
+run-no-page : (s : Reel) (bytes : List ℕ) (field : Option ℤ) → is_whole (run_line_by s bytes field).phase ≡ false
 unfolding is_whole run_line_by to_phase
-run-no-page s bytes (Field.Number total) = taken-no-page s _ (to_phase NextRun s) refl
-run-no-page s bytes Field.Bad = frame-no-page s (numbers_in bytes)
+run-no-page s bytes (Some total) = taken-no-page s _ (to_phase NextRun s) refl
+run-no-page s bytes None = frame-no-page s (numbers_in bytes)
 
 line-no-page : (phase : ReelPhase) (s : Reel) (whole : Bool) (bytes : List ℕ) → reel_over phase ≡ false → is_whole (cond whole (reel_taken phase s bytes) (reel_broken phase s)).phase ≡ false
 unfolding is_whole reel_taken run_line reel_broken reel_refused to_phase reel_over

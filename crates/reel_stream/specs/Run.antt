@@ -1,10 +1,10 @@
 -- A whole run of the squares over a reel.
-use Rattle.std.specs.Prelude.{◌≡◌, ◌⊎◌, List, ℕ}
+use Rattle.std.specs.Prelude.{◌≡◌, ◌⊎◌, List, ℕ, Option}
 use Rattle.feeding.specs.Feed.{reader_begun, fed, reader_ended}
-use Rattle.pieces.specs.Piece.{Place}
 use Rattle.pieces.specs.Run.{RanToTheEnd}
 use Rattle.reels.specs.declared.reel.ReelPhase.{ReelPhase}
 use Rattle.reels.specs.declared.reel.ReelPhase.TheVariants.{FirstRun}
+use Rattle.reels.specs.declared.reel.Reel.{Reel}
 use Rattle.reels.specs.Reel.{reel_begun}
 use Rattle.reels.specs.Program.{reel_program}
 
@@ -12,11 +12,11 @@ use Rattle.reels.specs.Program.{reel_program}
 unfoldable pub phase_of : List ℕ → ReelPhase
 phase_of input = (reader_ended reel_program (fed reel_program (reader_begun reel_program reel_begun) input)).0.phase
 
--- A run that ended was fed with some input, and wrote what its lines print: the last bytes of it stand at the start of the output buffer.
-pub record Finished (r : ReelPhase) (out : List ℕ) : Type 0 where
-  pub last : Place reel_program
-  pub whole : RanToTheEnd reel_program reel_begun last out
-  pub phase : (r ≡ FirstRun) ⊎ (r ≡ phase_of whole.read)
+-- A run that ended was fed with the bytes that it read, and wrote what its lines print.
+pub record Finished (left left' written written' : Option (List ℕ)) (room : ℕ) (r : ReelPhase) : Type 0 where
+  pub last : Reel
+  pub whole : RanToTheEnd reel_program reel_begun left left' written written' room last
+  pub phase : r ≡ phase_of whole.read
 
 -- The input that was read decides how a run ended; one that could not be read or written did not end.
 abbrev pub EndedAs : ReelPhase → Type 0

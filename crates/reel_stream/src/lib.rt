@@ -1,4 +1,4 @@
-// The squares over a reel: the step on a piece of the input, and the loop.
+// The squares over a reel as a program over lines, and its loop.
 #![tactic(auto)]
 
 mod piece;

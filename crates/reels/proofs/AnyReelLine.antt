@@ -1,9 +1,9 @@
 -- What any line of a reel is: refused, or the width of a run, a frame or the end line, as a reel takes them.
+use Rattle.std.specs.Prelude.{Ok, Err, Option, None, Some}
 use mathlib.Core.Path.{◌≡◌, refl, sym, ap}
 use mathlib.Core.Logic.{◌⊎◌, inl, inr, ⊎_elim}
 use mathlib.Core.Bool.{Bool, true, false, cond, ◌&&◌}
 use mathlib.Core.List.{List, [], ◌∷◌}
-use mathlib.Core.Option.{Option, none, some}
 use Prim.Native.Nat.{ℕ, suc, ◌+◌, ◌≤◌, ◌<◌}
 use native.Mathlib.Omega.{arith}
 use borrow.Author.Tests.{eqb-true, eqb-false, leb-true}
@@ -16,8 +16,6 @@ use Rattle.steps.specs.Limits.{coefficient_limit}
 use Rattle.distance.specs.Statement.{IsWidth}
 use Rattle.runs.specs.Answers.{first_where, first_beyond}
 use Rattle.runs.specs.Record.{frame_limit}
-use Rattle.text_runs.specs.declared.number.Field.{Field}
-use Rattle.text_runs.specs.declared.number.Field.TheVariants as Field
 use Rattle.text_runs.specs.Decimal.{decimal, printed, number_in, bits64}
 use Rattle.text_runs.specs.Lines.{row, end_line, numbers_in, end_total}
 use Rattle.text_runs.specs.Line.{line_limit}
@@ -28,8 +26,8 @@ use Rattle.text_runs.proofs.Inverse.{printed-read, row_read}
 use Rattle.text_runs.proofs.EndRead.{end-only}
 use Rattle.feeding.specs.Program.{handed}
 use Rattle.feeding.specs.Lines.{line_handed}
-use Rattle.reels.specs.declared.verdict.Verdict.{Verdict}
-use Rattle.reels.specs.declared.verdict.Verdict.TheVariants.{Taken, Width, Full, Empty, Length, Range, Form, OtherWidth, RunTooMany}
+use Rattle.reels.specs.Verdicts.{Verdict}
+use Rattle.reels.specs.declared.verdict.Refusal.TheVariants.{Width, Full, Empty, Length, Range, Form, OtherWidth, RunTooMany}
 use Rattle.reels.specs.declared.reel.ReelPhase.TheVariants.{NextRun}
 use Rattle.reels.specs.declared.reel.Reel.{Reel}
 use Rattle.reels.specs.Verdicts.{verdict_told}
@@ -55,15 +53,15 @@ record TakenTo (v : Verdict) (next after : Reel) : Type 0 where
 by-verdict : (s : Reel) (v : Verdict) (next : Reel) → (s.width ≤ 128 → (verdict_told v).1 < 128)
     → TakenTo v next (taken_or s (verdict_told v) next) ⊎ RefusedTo s (taken_or s (verdict_told v) next)
 unfolding taken_or verdict_told among
-by-verdict s Taken next p = inl (record { taken = refl; after_is = refl })
-by-verdict s Width next p = inr (record { told = (1, 0); numbered = refl; placed = p; after_is = refl })
-by-verdict s Full next p = inr (record { told = (4, 0); numbered = refl; placed = p; after_is = refl })
-by-verdict s Empty next p = inr (record { told = (5, 0); numbered = refl; placed = p; after_is = refl })
-by-verdict s Length next p = inr (record { told = (6, 0); numbered = refl; placed = p; after_is = refl })
-by-verdict s (Range i) next p = inr (record { told = (9, i); numbered = refl; placed = p; after_is = refl })
-by-verdict s Form next p = inr (record { told = (13, 0); numbered = refl; placed = p; after_is = refl })
-by-verdict s OtherWidth next p = inr (record { told = (14, 0); numbered = refl; placed = p; after_is = refl })
-by-verdict s RunTooMany next p = inr (record { told = (15, 0); numbered = refl; placed = p; after_is = refl })
+by-verdict s (Ok tt) next p = inl (record { taken = refl; after_is = refl })
+by-verdict s (Err Width) next p = inr (record { told = (1, 0); numbered = refl; placed = p; after_is = refl })
+by-verdict s (Err Full) next p = inr (record { told = (4, 0); numbered = refl; placed = p; after_is = refl })
+by-verdict s (Err Empty) next p = inr (record { told = (5, 0); numbered = refl; placed = p; after_is = refl })
+by-verdict s (Err Length) next p = inr (record { told = (6, 0); numbered = refl; placed = p; after_is = refl })
+by-verdict s (Err (Range i)) next p = inr (record { told = (9, i); numbered = refl; placed = p; after_is = refl })
+by-verdict s (Err Form) next p = inr (record { told = (13, 0); numbered = refl; placed = p; after_is = refl })
+by-verdict s (Err OtherWidth) next p = inr (record { told = (14, 0); numbered = refl; placed = p; after_is = refl })
+by-verdict s (Err RunTooMany) next p = inr (record { told = (15, 0); numbered = refl; placed = p; after_is = refl })
 
 pub bad-form : (s : Reel) → RefusedTo s (reel_refused s (13, 0))
 unfolding among
@@ -104,7 +102,7 @@ width-placed : (N first runs : ℕ) → (verdict_told (width_asked N first runs)
 unfolding width_asked verdict_told
 width-placed N first runs = by (eqb (half_width N) 0) (eqb runs 0) (eqb N first) (ltb runs run_limit)
   where
-    by : (w r n l : Bool) → (verdict_told (cond w Width (cond r Taken (cond n (cond l Taken RunTooMany) OtherWidth)))).1 < 128
+    by : (w r n l : Bool) → (verdict_told (cond w (Err Width) (cond r (Ok tt) (cond n (cond l (Ok tt) (Err RunTooMany)) (Err OtherWidth))))).1 < 128
     by true r n l = omega arith
     by false true n l = omega arith
     by false false true true = omega arith
@@ -115,15 +113,15 @@ pub width_is : (s : Reel) (bytes : List ℕ) → WidthIs s bytes (width_line s (
 unfolding width_line printed verdict_told among
 width_is s bytes = by (number_in bytes) refl
   where
-    by : (f : Field) → number_in bytes ≡ f → WidthIs s bytes (width_line s f) ⊎ RefusedTo s (width_line s f)
-    by (Field.Number (pos N)) e =
+    by : (f : Option ℤ) → number_in bytes ≡ f → WidthIs s bytes (width_line s f) ⊎ RefusedTo s (width_line s f)
+    by (Some (pos N)) e =
         ⊎_elim
         (λ t. let p = first-or-same N s.width s.runs t.taken in
         inl (record { width = N; wide = p.0; next = p.1; bytes-are = sym (printed-read bytes (pos N) e); after_is = t.after_is }))
         inr
         (by-verdict s (width_asked N s.width s.runs) (run_begun s N) (λ _. width-placed N s.width s.runs))
-    by (Field.Number (negsuc n)) e = inr (record { told = (1, 0); numbered = refl; placed = λ _. omega arith; after_is = refl })
-    by Field.Bad e = inr (bad-form s)
+    by (Some (negsuc n)) e = inr (record { told = (1, 0); numbered = refl; placed = λ _. omega arith; after_is = refl })
+    by None e = inr (bad-form s)
 
 -- ---- a frame
 pub record FrameIs (s : Reel) (bytes : List ℕ) (after : Reel) : Type 0 where
@@ -144,7 +142,7 @@ frame-placed : (N count : ℕ) (frame : List ℤ) → N ≤ 128 → (verdict_tol
 unfolding frame_asked verdict_told
 frame-placed N count frame h = by (ltb count frame_limit) (eqb (length frame) N) refl
   where
-    by : (l n : Bool) → eqb (length frame) N ≡ n → (verdict_told (cond l (cond n (range_asked (first_beyond (pos coefficient_limit) frame 0)) Length) Full)).1 < 128
+    by : (l n : Bool) → eqb (length frame) N ≡ n → (verdict_told (cond l (cond n (range_asked (first_beyond (pos coefficient_limit) frame 0)) (Err Length)) (Err Full))).1 < 128
     by true true q = range-placed _ frame 0 (omega (arith, eqb-true (length frame) N q))
     by true false q = omega arith
     by false n q = omega arith
@@ -154,8 +152,8 @@ unfolding frame_line verdict_told
 frame_is s bytes = by (numbers_in bytes) refl
   where
     by : (o : Option (List ℤ)) → numbers_in bytes ≡ o → FrameIs s bytes (frame_line s o) ⊎ RefusedTo s (frame_line s o)
-    by none e = inr (bad-form s)
-    by (some frame) e =
+    by None e = inr (bad-form s)
+    by (Some frame) e =
         ⊎_elim
         (λ t. let p = frame-passed s.width s.count frame t.taken in
         inl (record { frame = frame; below = p.0; long = p.1; within = p.2; bytes-are = sym (row_read bytes frame e); after_is = t.after_is }))
@@ -174,7 +172,7 @@ end-passed : (count : ℕ) → (verdict_told (end_asked count)).0 ≡ 0 → 1 �
 unfolding end_asked verdict_told
 end-passed count e = by (eqb count 0) refl e
   where
-    by : (z : Bool) → eqb count 0 ≡ z → (verdict_told (cond z Empty Taken)).0 ≡ 0 → 1 ≤ count
+    by : (z : Bool) → eqb count 0 ≡ z → (verdict_told (cond z (Err Empty) (Ok tt))).0 ≡ 0 → 1 ≤ count
     by true p e = absurd (omega arith)
     by false p e = omega (arith, eqb-false count 0 p)
 
@@ -186,11 +184,11 @@ pub run-line-is : (s : Reel) (bytes : List ℕ) → EndIs s bytes (run_line s by
 unfolding run_line run_line_by
 run-line-is s bytes = by (end_total s.count bytes) refl
   where
-    by : (f : Field) → end_total s.count bytes ≡ f → EndIs s bytes (run_line_by s bytes f) ⊎ FrameIs s bytes (run_line_by s bytes f) ⊎ RefusedTo s (run_line_by s bytes f)
-    by (Field.Number total) e =
+    by : (f : Option ℤ) → end_total s.count bytes ≡ f → EndIs s bytes (run_line_by s bytes f) ⊎ FrameIs s bytes (run_line_by s bytes f) ⊎ RefusedTo s (run_line_by s bytes f)
+    by (Some total) e =
         let only = end-only s.count total bytes e in
         ⊎_elim
         (λ t. inl (record { some = end-passed s.count t.taken; total = total; bits = only.1; bytes-are = only.0; after_is = t.after_is }))
         (λ r. inr (inr r))
         (by-verdict s (end_asked s.count) (to_phase NextRun s) (λ _. end-placed s.count))
-    by Field.Bad e = inr (frame_is s bytes)
+    by None e = inr (frame_is s bytes)

@@ -1,9 +1,9 @@
 -- The state of a reel keeps its limits.
+use Rattle.std.specs.Prelude.{Ok, Err, Option, None, Some}
 use mathlib.Core.Path.{◌≡◌, refl}
 use mathlib.Core.Logic.{◌⊎◌, inl, inr, ⊎_elim}
 use mathlib.Core.Bool.{Bool, true, false, cond}
 use mathlib.Core.List.{List}
-use mathlib.Core.Option.{Option, none, some}
 use Prim.Native.Nat.{ℕ, suc, ◌+◌, ◌-◌, ◌*◌, ◌%◌, ◌≤◌, ◌<◌}
 use native.Mathlib.Omega.{arith}
 use borrow.Author.Tests.{eqb-true, eqb-false, ltb-true}
@@ -13,17 +13,13 @@ use lib.ListN.{length}
 use Rattle.integers.specs.Vectors.{AllAbs}
 use Rattle.tables.specs.Widths.{by_width, half_width}
 use Rattle.steps.specs.Limits.{coefficient_limit}
-use Rattle.runs.specs.declared.answer.Found.{Found}
-use Rattle.runs.specs.declared.answer.Found.TheVariants.{At, Nothing}
 use Rattle.runs.specs.Answers.{first_beyond}
 use Rattle.runs.specs.Record.{frame_limit}
 use Rattle.runs.proofs.Searches.{none_within, all-within}
-use Rattle.text_runs.specs.declared.number.Field.{Field}
-use Rattle.text_runs.specs.declared.number.Field.TheVariants as Field
 use Rattle.text_runs.specs.Decimal.{number_in}
 use Rattle.text_runs.specs.Lines.{numbers_in, end_total}
 use Rattle.text_runs.proofs.UpToLaws.{tested}
-use Rattle.reels.specs.declared.verdict.Verdict.TheVariants.{Taken, Width, Full, Length, OtherWidth, RunTooMany}
+use Rattle.reels.specs.declared.verdict.Refusal.TheVariants.{Width, Full, Length, OtherWidth, RunTooMany}
 use Rattle.reels.specs.declared.reel.ReelPhase.{ReelPhase}
 use Rattle.reels.specs.declared.reel.ReelPhase.TheVariants.{FirstRun, Frames, NextRun, Whole, Refused}
 use Rattle.reels.specs.declared.reel.Reel.{Reel}
@@ -39,7 +35,7 @@ frames-few s w = omega (arith, w.frames, w.runs)
 one_not_zero : {n : ℕ} {A : Type 0} → suc n ≡ 0 → A
 one_not_zero e = absurd (omega arith)
 
-width-taken : (a b c d : Bool) → (verdict_told (cond a Width (cond b Taken (cond c (cond d Taken RunTooMany) OtherWidth)))).0 ≡ 0
+width-taken : (a b c d : Bool) → (verdict_told (cond a (Err Width) (cond b (Ok tt) (cond c (cond d (Ok tt) (Err RunTooMany)) (Err OtherWidth))))).0 ≡ 0
     → (a ≡ false) × ((b ≡ true) ⊎ ((c ≡ true) × (d ≡ true)))
 unfolding verdict_told
 width-taken true b c d e = one_not_zero e
@@ -59,10 +55,10 @@ first-or-same N first runs e =
 pub width-passed : (N first runs : ℕ) → (verdict_told (width_asked N first runs)).0 ≡ 0 → (runs < run_limit) × (0 < half_width N)
 width-passed N first runs e = let t = first-or-same N first runs e in (⊎_elim (λ z. omega (arith, z)) (λ s. s.1) t.1, t.0)
 
-frame-taken : (a b : Bool) (found : Found) → (verdict_told (cond a (cond b (range_asked found) Length) Full)).0 ≡ 0 → (a ≡ true) × (b ≡ true) × (found ≡ Nothing)
+frame-taken : (a b : Bool) (found : Option ℕ) → (verdict_told (cond a (cond b (range_asked found) (Err Length)) (Err Full))).0 ≡ 0 → (a ≡ true) × (b ≡ true) × (found ≡ None)
 unfolding verdict_told range_asked
-frame-taken true true (At place) e = one_not_zero e
-frame-taken true true Nothing e = (refl, refl, refl)
+frame-taken true true (Some place) e = one_not_zero e
+frame-taken true true None e = (refl, refl, refl)
 frame-taken true false found e = one_not_zero e
 frame-taken false b found e = one_not_zero e
 
@@ -104,12 +100,12 @@ begun_kept s N w h p = let t = width_narrow N p in record {
   sums = w.sums;
 }
 
-width-kept : (s : Reel) (field : Field) → WithinLimits s → WithinLimits (width_line s field)
+width-kept : (s : Reel) (field : Option ℤ) → WithinLimits s → WithinLimits (width_line s field)
 unfolding width_line
-width-kept s (Field.Number (pos N)) w =
+width-kept s (Some (pos N)) w =
     taken-or s _ (run_begun s N) w (λ e. let t = width-passed N s.width s.runs e in begun_kept s N w t.0 t.1)
-width-kept s (Field.Number (negsuc n)) w = refused-kept s _ w
-width-kept s Field.Bad w = refused-kept s _ w
+width-kept s (Some (negsuc n)) w = refused-kept s _ w
+width-kept s None w = refused-kept s _ w
 
 added-kept : (s : Reel) (frame : List ℤ) → s.phase ≡ Frames → WithinLimits s → s.count < frame_limit → AllAbs coefficient_limit frame → WithinLimits (frame_added s frame)
 unfolding frame_added frames_left
@@ -125,8 +121,8 @@ added-kept s frame p w h a =
 
 frame-kept : (s : Reel) (read : Option (List ℤ)) → s.phase ≡ Frames → WithinLimits s → WithinLimits (frame_line s read)
 unfolding frame_line
-frame-kept s none p w = refused-kept s _ w
-frame-kept s (some frame) p w =
+frame-kept s None p w = refused-kept s _ w
+frame-kept s (Some frame) p w =
     taken-or s _ (frame_added s frame) w (λ e. let t = frame-passed s.width s.count frame e in added-kept s frame p w t.0 t.2)
 
 -- a phase in which no frame comes
@@ -134,10 +130,10 @@ phase-kept : (phase : ReelPhase) (s : Reel) → frames_left phase s.count ≡ 0 
 unfolding to_phase
 phase-kept phase s e w = record { runs = w.runs; narrow = w.narrow; fours = w.fours; count = w.count; frames = omega (arith, w.frames, e); sums = w.sums }
 
-line_kept : (s : Reel) (bytes : List ℕ) (field : Field) → s.phase ≡ Frames → WithinLimits s → WithinLimits (run_line_by s bytes field)
+line_kept : (s : Reel) (bytes : List ℕ) (field : Option ℤ) → s.phase ≡ Frames → WithinLimits s → WithinLimits (run_line_by s bytes field)
 unfolding run_line_by frames_left
-line_kept s bytes (Field.Number total) p w = taken-or s _ (to_phase NextRun s) w (λ _. phase-kept NextRun s refl w)
-line_kept s bytes Field.Bad p w = frame-kept s (numbers_in bytes) p w
+line_kept s bytes (Some total) p w = taken-or s _ (to_phase NextRun s) w (λ _. phase-kept NextRun s refl w)
+line_kept s bytes None p w = frame-kept s (numbers_in bytes) p w
 
 taken-kept : (phase : ReelPhase) (s : Reel) (bytes : List ℕ) → s.phase ≡ phase → WithinLimits s → WithinLimits (reel_taken phase s bytes)
 unfolding reel_taken run_line

@@ -3,14 +3,12 @@ use mathlib.Core.Path.{◌≡◌, refl, sym}
 use mathlib.Core.Logic.{⊎_elim}
 use mathlib.Core.Bool.{false, false≢true}
 use mathlib.Core.List.{List}
-use mathlib.Core.Option.{Option, none, some}
+use Rattle.std.specs.Prelude.{Option, None, Some}
 use Prim.Native.Nat.{ℕ, suc, ◌-◌, ◌<◌}
 use native.Mathlib.Omega.{arith}
 use borrow.Author.Tests.{eqb-true}
 use lib.Dec.{eqb}
 use lib.IntN.{ℤ, pos, negsuc}
-use Rattle.text_runs.specs.declared.number.Field.{Field}
-use Rattle.text_runs.specs.declared.number.Field.TheVariants as Field
 use Rattle.text_runs.specs.Decimal.{number_in}
 use Rattle.text_runs.specs.Lines.{numbers_in, end_total}
 use Rattle.text_runs.proofs.UpToLaws.{tested}
@@ -34,22 +32,22 @@ taken-falls s told next l h = ⊎_elim (λ e. rw e (h (eqb-true told.0 0 e))) (�
 
 -- where a run may begin
 module _ (s : Reel) (left : 0 < reel_lines_left s) where
-  width-falls : (s.runs < run_limit → reel_left_in Frames (suc s.runs) 0 < reel_lines_left s) → (field : Field) → reel_lines_left (width_line s field) < reel_lines_left s
+  width-falls : (s.runs < run_limit → reel_left_in Frames (suc s.runs) 0 < reel_lines_left s) → (field : Option ℤ) → reel_lines_left (width_line s field) < reel_lines_left s
   unfolding width_line run_begun
-  width-falls h (Field.Number (pos N)) = taken-falls s _ (run_begun s N) left (λ e. h (width-passed N s.width s.runs e).0)
-  width-falls h (Field.Number (negsuc n)) = refused-falls s _ left
-  width-falls h Field.Bad = refused-falls s _ left
+  width-falls h (Some (pos N)) = taken-falls s _ (run_begun s N) left (λ e. h (width-passed N s.width s.runs e).0)
+  width-falls h (Some (negsuc n)) = refused-falls s _ left
+  width-falls h None = refused-falls s _ left
 
   module _ (p : s.phase ≡ Frames) where
     frame-falls : (read : Option (List ℤ)) → reel_lines_left (frame_line s read) < reel_lines_left s
     unfolding frame_line frame_added reel_left_in
-    frame-falls none = refused-falls s _ left
-    frame-falls (some frame) = taken-falls s _ (frame_added s frame) left (λ e. rw p (omega (arith, (frame-passed s.width s.count frame e).0)))
+    frame-falls None = refused-falls s _ left
+    frame-falls (Some frame) = taken-falls s _ (frame_added s frame) left (λ e. rw p (omega (arith, (frame-passed s.width s.count frame e).0)))
 
-    line-falls : (bytes : List ℕ) (field : Field) → reel_lines_left (run_line_by s bytes field) < reel_lines_left s
+    line-falls : (bytes : List ℕ) (field : Option ℤ) → reel_lines_left (run_line_by s bytes field) < reel_lines_left s
     unfolding run_line_by to_phase reel_left_in
-    line-falls bytes (Field.Number total) = taken-falls s _ (to_phase NextRun s) left (λ _. rw p (omega arith))
-    line-falls bytes Field.Bad = frame-falls (numbers_in bytes)
+    line-falls bytes (Some total) = taken-falls s _ (to_phase NextRun s) left (λ _. rw p (omega arith))
+    line-falls bytes None = frame-falls (numbers_in bytes)
 
 lines-fall : (s : Reel) (bytes : List ℕ) → reel_is_over s ≡ false → reel_lines_left (reel_line s bytes).0 < reel_lines_left s
 unfolding reel_line reel_given reel_taken run_line reel_over reel_left_in

@@ -1,4 +1,5 @@
 -- The texts of the runs of a reel, line by line: each is taken, and at the end the page of all frames is printed.
+use Rattle.std.specs.Prelude.{Ok, None}
 use mathlib.Core.Path.{◌≡◌, refl, ap, ◌∙◌}
 use mathlib.Core.Bool.{true}
 use mathlib.Core.List.{List, [], ◌∷◌, ◌++◌}
@@ -14,7 +15,6 @@ use Rattle.distance.specs.Statement.{IsWidth}
 use Rattle.runs.specs.Record.{frame_limit, zeros}
 use Rattle.runs.specs.Answers.{first_beyond}
 use Rattle.runs.specs.Gate.{inside}
-use Rattle.runs.specs.declared.answer.Found.TheVariants.{Nothing}
 use Rattle.runs.proofs.Searches.{inside-all, nothing_is}
 use Rattle.runs.proofs.RecordLaws.{width-le, width-pos}
 use Rattle.text_runs.specs.Decimal.{decimal, printed, number_in, fits, bits64, all_bits}
@@ -28,7 +28,6 @@ use Rattle.text_runs.proofs.LineLaws.{lines_between, text-lines-front}
 use Rattle.text_runs.proofs.OneLine.{some_read}
 use Rattle.text_runs.proofs.RunRows.{within-bits}
 use Rattle.feeding.specs.Lines.{printed_from, printed_of}
-use Rattle.reels.specs.declared.verdict.Verdict.TheVariants.{Taken}
 use Rattle.reels.specs.declared.reel.ReelPhase.TheVariants.{Frames, NextRun}
 use Rattle.reels.specs.declared.reel.Reel.{Reel}
 use Rattle.reels.specs.Verdicts.{verdict_told}
@@ -40,7 +39,7 @@ use Rattle.reels.proofs.FrameSums.{frames_added, added-behind, sums-are}
 use Rattle.reels.proofs.ReelSteps.{reel_at, goes_on}
 
 -- ---- a width line
-module _ (s : Reel) (N : ℕ) (w : IsWidth N) (asked : width_asked N s.width s.runs ≡ Taken) where
+module _ (s : Reel) (N : ℕ) (w : IsWidth N) (asked : width_asked N s.width s.runs ≡ (Ok tt)) where
   width-taken : width_line s (number_in (decimal N)) ≡ run_begun s N
   unfolding width_line taken_or verdict_told printed fits
   width-taken = rw (read-printed (pos N) (omega (arith, width-le N w)), asked)
@@ -54,7 +53,7 @@ module _ (s : Reel) (N : ℕ) (w : IsWidth N) (asked : width_asked N s.width s.r
 frame-bits : (frame : List ℤ) → AllAbs coefficient_limit frame → all_bits frame
 frame-bits frame h = within-bits coefficient_limit frame (omega arith) h
 
-none-beyond : (frame : List ℤ) → AllAbs coefficient_limit frame → first_beyond (pos coefficient_limit) frame 0 ≡ Nothing
+none-beyond : (frame : List ℤ) → AllAbs coefficient_limit frame → first_beyond (pos coefficient_limit) frame 0 ≡ None
 unfolding inside
 none-beyond frame h = nothing_is _ (inside-all coefficient_limit frame h)
 
@@ -98,11 +97,11 @@ module _ (N runs : ℕ) (w : IsWidth N) where
       ∙ end-goes-on N runs (length run) all (frames_added sums run) total bits r.some r.few lines
 
 -- ---- all runs
-first-asked : (N : ℕ) → IsWidth N → width_asked N 0 0 ≡ Taken
+first-asked : (N : ℕ) → IsWidth N → width_asked N 0 0 ≡ (Ok tt)
 unfolding width_asked
 first-asked N w = rw (ne_eqb (half_width N) 0 (λ e. omega arith))
 
-next-asked : (N runs : ℕ) → IsWidth N → 1 ≤ runs → runs < run_limit → width_asked N N runs ≡ Taken
+next-asked : (N runs : ℕ) → IsWidth N → 1 ≤ runs → runs < run_limit → width_asked N N runs ≡ (Ok tt)
 unfolding width_asked
 next-asked N runs w h l = rw (ne_eqb (half_width N) 0 (λ e. omega arith), ne_eqb runs 0 (λ e. omega arith), eq-eqb N N refl, lt-ltb runs run_limit l)
 
@@ -113,7 +112,7 @@ unfolding texts_of
 texts-lines N run runs = text-lines-front N run.0 run.1 (texts_of N runs)
 
 module _ (N : ℕ) (w : IsWidth N) where
-  first_run : (s : Reel) (run : FramesAndTotal) (more : List FramesAndTotal) → RunOf N run.0 → bits64 run.1 → width_asked N s.width s.runs ≡ Taken
+  first_run : (s : Reel) (run : FramesAndTotal) (more : List FramesAndTotal) → RunOf N run.0 → bits64 run.1 → width_asked N s.width s.runs ≡ (Ok tt)
       → reel_taken s.phase s (decimal N) ≡ width_line s (number_in (decimal N))
       → printed_from reel_program s (lines_of (texts_of N (run ∷ more)))
       ≡ printed_from reel_program (reel_at NextRun N (suc s.runs) (length run.0) (s.frames + length run.0) (frames_added s.sums run.0)) (lines_of (texts_of N more))

@@ -1,23 +1,17 @@
 -- One line of a reel, and the end of its input: request 1. A reel is up to 100 runs of frames as text, one behind the other.
-use Rattle.std.specs.Prelude.{Bool, true, false, cond, List, [], ◌∷◌, ℕ, suc, ◌+◌, ◌*◌, eqb, ltb, ℤ, pos, negsuc, ◌+ℤ◌, length, take}
-use Rattle.std.proofs.Math.Option.{Option, none, some}
+use Rattle.std.specs.Prelude.{Ok, Err, Bool, true, false, cond, List, [], ◌∷◌, ℕ, suc, ◌+◌, ◌*◌, eqb, ltb, ℤ, pos, negsuc, ◌+ℤ◌, length, take, Option, Some, None}
 use Rattle.tables.specs.Widths.{half_width}
 use Rattle.steps.specs.Limits.{coefficient_limit}
-use Rattle.runs.specs.declared.answer.Found.{Found}
-use Rattle.runs.specs.declared.answer.Found.TheVariants.{At, Nothing}
 use Rattle.runs.specs.Answers.{first_beyond}
 use Rattle.runs.specs.Record.{frame_limit, zeros}
-use Rattle.text_runs.specs.declared.number.Field.{Field}
-use Rattle.text_runs.specs.declared.number.Field.TheVariants as Field
 use Rattle.text_runs.specs.Decimal.{number_in}
 use Rattle.text_runs.specs.Lines.{numbers_in, end_total}
 use Rattle.text_runs.specs.EveryInput.{refusal_line}
-use Rattle.reels.specs.declared.verdict.Verdict.{Verdict}
-use Rattle.reels.specs.declared.verdict.Verdict.TheVariants.{Taken, Width, Full, Empty, Length, Range, Form, OtherWidth, RunTooMany}
+use Rattle.reels.specs.declared.verdict.Refusal.TheVariants.{Width, Full, Empty, Length, Range, Form, OtherWidth, RunTooMany}
 use Rattle.reels.specs.declared.reel.ReelPhase.{ReelPhase}
 use Rattle.reels.specs.declared.reel.ReelPhase.TheVariants.{FirstRun, Frames, NextRun, Whole, Refused}
 use Rattle.reels.specs.declared.reel.Reel.{Reel}
-use Rattle.reels.specs.Verdicts.{verdict_told}
+use Rattle.reels.specs.Verdicts.{Verdict, verdict_told}
 use Rattle.reels.specs.Page.{squared, page}
 
 -- the most runs of a reel
@@ -57,26 +51,26 @@ taken_or s told next = cond (eqb told.0 0) next (reel_refused s told)
 -- ---- the width line of a run: 1, then 14 and 15 where it is not the first
 unfoldable pub width_asked : ℕ → ℕ → ℕ → Verdict
 width_asked N first runs =
-    cond (eqb (half_width N) 0) Width
-    (cond (eqb runs 0) Taken
-    (cond (eqb N first) (cond (ltb runs run_limit) Taken RunTooMany) OtherWidth))
+    cond (eqb (half_width N) 0) (Err Width)
+    (cond (eqb runs 0) (Ok tt)
+    (cond (eqb N first) (cond (ltb runs run_limit) (Ok tt) (Err RunTooMany)) (Err OtherWidth)))
 
 unfoldable pub run_begun : Reel → ℕ → Reel
 run_begun s N = record { phase = Frames; width = N; runs = suc s.runs; count = 0; frames = s.frames; sums = s.sums }
 
-unfoldable pub width_line : Reel → Field → Reel
-width_line s (Field.Number (pos N)) = taken_or s (verdict_told (width_asked N s.width s.runs)) (run_begun s N)
-width_line s (Field.Number (negsuc n)) = reel_refused s (verdict_told Width)
-width_line s Field.Bad = reel_refused s (verdict_told Form)
+unfoldable pub width_line : Reel → Option ℤ → Reel
+width_line s (Some (pos N)) = taken_or s (verdict_told (width_asked N s.width s.runs)) (run_begun s N)
+width_line s (Some (negsuc n)) = reel_refused s (verdict_told (Err Width))
+width_line s None = reel_refused s (verdict_told (Err Form))
 
 -- ---- a frame: 4, 6 and 9
-unfoldable pub range_asked : Found → Verdict
-range_asked (At place) = Range place
-range_asked Nothing = Taken
+unfoldable pub range_asked : Option ℕ → Verdict
+range_asked (Some place) = Err (Range place)
+range_asked None = (Ok tt)
 
 unfoldable pub frame_asked : ℕ → ℕ → List ℤ → Verdict
 frame_asked N count frame =
-    cond (ltb count frame_limit) (cond (eqb (length frame) N) (range_asked (first_beyond (pos coefficient_limit) frame 0)) Length) Full
+    cond (ltb count frame_limit) (cond (eqb (length frame) N) (range_asked (first_beyond (pos coefficient_limit) frame 0)) (Err Length)) (Err Full)
 
 -- its squares are added, each to the sum of its own number
 unfoldable pub squares_added : List ℤ → List ℤ → List ℤ
@@ -95,16 +89,16 @@ frame_added s frame = record {
 }
 
 unfoldable pub frame_line : Reel → Option (List ℤ) → Reel
-frame_line s none = reel_refused s (verdict_told Form)
-frame_line s (some frame) = taken_or s (verdict_told (frame_asked s.width s.count frame)) (frame_added s frame)
+frame_line s None = reel_refused s (verdict_told (Err Form))
+frame_line s (Some frame) = taken_or s (verdict_told (frame_asked s.width s.count frame)) (frame_added s frame)
 
 -- ---- the end line, with its run's count: 5. Its total is any number of 64 bits.
 unfoldable pub end_asked : ℕ → Verdict
-end_asked count = cond (eqb count 0) Empty Taken
+end_asked count = cond (eqb count 0) (Err Empty) (Ok tt)
 
-unfoldable pub run_line_by : Reel → List ℕ → Field → Reel
-run_line_by s bytes (Field.Number total) = taken_or s (verdict_told (end_asked s.count)) (to_phase NextRun s)
-run_line_by s bytes Field.Bad = frame_line s (numbers_in bytes)
+unfoldable pub run_line_by : Reel → List ℕ → Option ℤ → Reel
+run_line_by s bytes (Some total) = taken_or s (verdict_told (end_asked s.count)) (to_phase NextRun s)
+run_line_by s bytes None = frame_line s (numbers_in bytes)
 
 unfoldable pub run_line : Reel → List ℕ → Reel
 run_line s bytes = run_line_by s bytes (end_total s.count bytes)
@@ -118,16 +112,16 @@ reel_taken Whole s bytes = s
 reel_taken (Refused number line place) s bytes = s
 
 unfoldable pub reel_broken : ReelPhase → Reel → Reel
-reel_broken FirstRun s = reel_refused s (verdict_told Form)
-reel_broken Frames s = reel_refused s (verdict_told Form)
-reel_broken NextRun s = reel_refused s (verdict_told Form)
+reel_broken FirstRun s = reel_refused s (verdict_told (Err Form))
+reel_broken Frames s = reel_refused s (verdict_told (Err Form))
+reel_broken NextRun s = reel_refused s (verdict_told (Err Form))
 reel_broken Whole s = s
 reel_broken (Refused number line place) s = s
 
 -- the input may stop behind an end line alone; else text is missing
 unfoldable pub reel_ended : ReelPhase → Reel → Reel
-reel_ended FirstRun s = reel_refused s (verdict_told Form)
-reel_ended Frames s = reel_refused s (verdict_told Form)
+reel_ended FirstRun s = reel_refused s (verdict_told (Err Form))
+reel_ended Frames s = reel_refused s (verdict_told (Err Form))
 reel_ended NextRun s = to_phase Whole s
 reel_ended Whole s = s
 reel_ended (Refused number line place) s = s

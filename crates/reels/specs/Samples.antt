@@ -1,5 +1,5 @@
 -- Small reels computed on the definitions, before anything is proved.
-use Rattle.std.specs.Prelude.{◌≡◌, refl, List, [], ◌∷◌, map, ℕ, ℤ, pos, negsuc}
+use Rattle.std.specs.Prelude.{Ok, Err, ◌≡◌, refl, List, [], ◌∷◌, map, ℕ, ℤ, pos, negsuc}
 use Prim.Native.String.{String}
 use Rattle.tables.specs.Widths.{by_width, half_width}
 use Rattle.runs.specs.Answers.{first_where, beyond}
@@ -11,7 +11,7 @@ use Rattle.text_runs.specs.Input.{lines_of}
 use Rattle.text_runs.specs.EveryInput.{refusal_line}
 use Rattle.feeding.specs.Program.{handed}
 use Rattle.feeding.specs.Lines.{line_handed, printed_from, printed_of}
-use Rattle.reels.specs.declared.verdict.Verdict.TheVariants.{Taken, Width, Full, Length, Range, OtherWidth, RunTooMany}
+use Rattle.reels.specs.declared.verdict.Refusal.TheVariants.{Width, Full, Length, Range, OtherWidth, RunTooMany}
 use Rattle.reels.specs.Verdicts.{verdict_told}
 use Rattle.reels.specs.Page.{frames_tag, sum_line, sum_lines, page, sum_of_squares, sums_from, page_of}
 use Rattle.reels.specs.Reel.{reel_begun, reel_over, reel_line_number, to_phase, reel_refused, taken_or, width_asked, run_begun, width_line, range_asked, frame_asked, squares_added, frame_added, frame_line, end_asked, run_line_by, run_line, reel_taken, reel_broken, reel_ended, reel_says, reel_given}
@@ -19,13 +19,13 @@ use Rattle.reels.specs.Program.{reel_line, reel_cut, reel_last, reel_printed}
 
 -- ---- the questions to a width line, where so many runs were begun, the first of width 8; and to a frame
 widths-asked : map (λ (row : ℕ × ℕ). width_asked row.0 8 row.1) ((8, 0) ∷ (32, 0) ∷ (9, 0) ∷ (8, 99) ∷ (8, 100) ∷ (32, 1) ∷ (32, 100) ∷ (9, 100) ∷ [])
-    ≡ Taken ∷ Taken ∷ Width ∷ Taken ∷ RunTooMany ∷ OtherWidth ∷ OtherWidth ∷ Width ∷ []
+    ≡ (Ok tt) ∷ (Ok tt) ∷ (Err Width) ∷ (Ok tt) ∷ (Err RunTooMany) ∷ (Err OtherWidth) ∷ (Err OtherWidth) ∷ (Err Width) ∷ []
 unfolding width_asked half_width by_width
 widths-asked = refl
 
 frames-asked : map (λ (row : ℕ × List ℤ). frame_asked 2 row.0 row.1)
     ((65536, pos 1048576 ∷ pos 0 ∷ []) ∷ (65537, []) ∷ (0, []) ∷ (0, pos 0 ∷ pos 0 ∷ pos 1048577 ∷ []) ∷ (0, pos 1048577 ∷ pos 1048577 ∷ []) ∷ [])
-    ≡ Taken ∷ Full ∷ Length ∷ Length ∷ Range 0 ∷ []
+    ≡ (Ok tt) ∷ (Err Full) ∷ (Err Length) ∷ (Err Length) ∷ (Err (Range 0)) ∷ []
 unfolding frame_asked range_asked first_where beyond
 frames-asked = refl
 

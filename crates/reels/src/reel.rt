@@ -26,6 +26,7 @@ pub struct Reel {
 }
 
 // Before the first line.
+#[tactic(auto, unfolding(crate::specs::Reel::reel_begun))]
 pub fn begin() -> Reel
     ensures { result ≡ reel_begun }
 {
@@ -40,43 +41,31 @@ pub fn begin() -> Reel
 }
 
 // The same reel in another phase.
+#[tactic(auto, unfolding(crate::specs::Reel::to_phase))]
 pub fn to_phase(reel: Reel, phase: ReelPhase) -> Reel
     ensures { result ≡ to_phase phase reel }
 {
-    let sums = reel.sums;
-    Reel {
-        phase: phase,
-        width: reel.width,
-        runs: reel.runs,
-        count: reel.count,
-        frames: reel.frames,
-        sums: sums,
-    }
+    Reel { phase, ..reel }
 }
 
+#[tactic(auto, unfolding(crate::specs::Reel::reel_over))]
 pub fn is_over(phase: ReelPhase) -> bool
     ensures { result ≡ reel_over phase }
 {
-    match phase {
-        ReelPhase::FirstRun => false,
-        ReelPhase::Frames => false,
-        ReelPhase::NextRun => false,
-        ReelPhase::Whole => true,
-        ReelPhase::Refused(_, _, _) => true,
-    }
+    matches!(phase, ReelPhase::Whole | ReelPhase::Refused(..))
 }
 
 // The number of the line that comes: each run has two lines besides its frames.
+#[tactic(auto, unfolding(crate::specs::Reel::reel_line_number))]
 pub fn line_number(phase: ReelPhase, runs: usize, frames: usize) -> usize
     requires { (runs ≤ run_limit) × (frames ≤ run_limit * frame_limit) }
     ensures { result ≡ reel_line_number phase runs frames }
 {
     let behind = 2 * runs + frames;
     match phase {
-        ReelPhase::FirstRun => behind + 1,
         ReelPhase::Frames => behind,
-        ReelPhase::NextRun => behind + 1,
-        ReelPhase::Whole => behind + 1,
-        ReelPhase::Refused(_, _, _) => behind + 1,
+        ReelPhase::FirstRun | ReelPhase::NextRun | ReelPhase::Whole | ReelPhase::Refused(..) => {
+            behind + 1
+        }
     }
 }

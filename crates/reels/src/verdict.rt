@@ -2,10 +2,9 @@
 ghost use Rattle.std.specs.Prelude.{◌≡◌};
 ghost use Rattle.reels.specs.Verdicts.{verdict_told};
 
-// The number of each refusal, and its place, are in the definition `verdict_told`.
-#[derive(Clone, Copy)]
-pub enum Verdict {
-    Taken,
+// Why a line is refused. The number of each refusal, and its place, are in the definition `verdict_told`.
+#[derive(Clone, Copy, PartialEq, Eq)]
+pub enum Refusal {
     Width,
     Full,
     Empty,
@@ -16,22 +15,22 @@ pub enum Verdict {
     RunTooMany,
 }
 
-// A verdict's number and its place.
-#[derive(Clone, Copy)]
-pub struct VerdictTold(pub usize, pub usize);
+pub type Verdict = Result<(), Refusal>;
 
-pub fn told_by(verdict: Verdict) -> VerdictTold
-    ensures { (result.0, result.1) ≡ verdict_told verdict }
+// A verdict's number and its place.
+#[tactic(auto, unfolding(crate::specs::Verdicts::verdict_told))]
+pub fn told_by(verdict: Verdict) -> (usize, usize)
+    ensures { result ≡ verdict_told verdict }
 {
     match verdict {
-        Verdict::Taken => VerdictTold(0, 0),
-        Verdict::Width => VerdictTold(1, 0),
-        Verdict::Full => VerdictTold(4, 0),
-        Verdict::Empty => VerdictTold(5, 0),
-        Verdict::Length => VerdictTold(6, 0),
-        Verdict::Range(i) => VerdictTold(9, i),
-        Verdict::Form => VerdictTold(13, 0),
-        Verdict::OtherWidth => VerdictTold(14, 0),
-        Verdict::RunTooMany => VerdictTold(15, 0),
+        Ok(()) => (0, 0),
+        Err(Refusal::Width) => (1, 0),
+        Err(Refusal::Full) => (4, 0),
+        Err(Refusal::Empty) => (5, 0),
+        Err(Refusal::Length) => (6, 0),
+        Err(Refusal::Range(i)) => (9, i),
+        Err(Refusal::Form) => (13, 0),
+        Err(Refusal::OtherWidth) => (14, 0),
+        Err(Refusal::RunTooMany) => (15, 0),
     }
 }

@@ -25,8 +25,7 @@ pub fn in_order(places: &[i64], signs: &[i64], x: &[i64], out: &mut [i64])
     requires by_index { (m : ℕ) → m < length x.now → nat_abs (row_at places.now signs.now x.now m) ≤ 2 ^ 62 }
     ensures { out.new ≡ Places.places (length out.old) (row_at places.now signs.now x.now) }
 {
-    let mut k = 0;
-    while k < out.len() {
+    for k in (0..out.len()).step_by(4) {
         let made = Four {
             a: row_at(places, signs, x, k),
             b: row_at(places, signs, x, k + 1),
@@ -34,11 +33,11 @@ pub fn in_order(places: &[i64], signs: &[i64], x: &[i64], out: &mut [i64])
             d: row_at(places, signs, x, k + 3),
         };
         fours::put(out, k, made);
-        k += 4;
     }
 }
 
 // Secants: the even places, then the odd ones from the end, with a minus.
+#[tactic(auto, unfolding(crate::specs::Orders::secant_in))]
 fn secant_from(x: &[i64], j: usize) -> i64
     requires j_in_bounds { j < length x.now }
     requires x_len_bound { length x.now ≤ 64 }
@@ -56,14 +55,13 @@ pub fn secant_in(x: &[i64], out: &mut [i64])
     requires within { Within (2 ^ 62) x.now }
     ensures { out.new ≡ Places.places (length out.old) (secant_in (length x.now) (at x.now)) }
 {
-    let mut j = 0;
-    while j < out.len() {
-        out[j] = secant_from(x, j);
-        j += 1;
+    for (j, number) in out.iter_mut().enumerate() {
+        *number = secant_from(x, j);
     }
 }
 
 // The sum of row m, where a product with such a list has left it.
+#[tactic(auto, unfolding(crate::specs::Orders::secant_out))]
 pub fn secant_row(z: &[i64], m: usize) -> i64
     requires m_in_bounds { m < length z.now }
     requires z_len_bound { length z.now ≤ 64 }

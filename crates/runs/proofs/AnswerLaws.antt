@@ -13,8 +13,7 @@ use Rattle.steps.specs.Limits.{reading_limit, folded_limit, coefficient_limit}
 use Rattle.steps.specs.Steps.{unstages}
 use Rattle.steps.proofs.Lengths.{length-unstages, width-half}
 use Rattle.runs.specs.Answers.{beyond}
-use Rattle.runs.specs.declared.answer.Found.{Found}
-use Rattle.runs.specs.declared.answer.Found.TheVariants.{At, Nothing}
+use Rattle.std.specs.Prelude.{Option, Some, None}
 use Rattle.runs.specs.declared.record.Run.{Run}
 use Rattle.runs.specs.Gate.{CallResult, ask, ask_each, sound, admitted}
 use Rattle.runs.proofs.CallLaws.{every-answer}
@@ -37,10 +36,10 @@ module _ {g h : CallResult} (n : ℕ) (run : Run) (o p : List ℤ) where
   alike-asked true a = a
   alike-asked false a = record { same = refl }
 
-  alike-each : (found : Found) → Alike g h → Alike (ask_each n found run o g) (ask_each n found run p h)
+  alike-each : (found : Option ℕ) → Alike g h → Alike (ask_each n found run o g) (ask_each n found run p h)
   unfolding ask_each
-  alike-each (At place) a = record { same = refl }
-  alike-each Nothing a = a
+  alike-each (Some place) a = record { same = refl }
+  alike-each None a = a
 
 alike-either : {g h i k : CallResult} (b : Bool) → Alike g h → Alike i k → Alike (cond b g i) (cond b h k)
 alike-either true a c = a
@@ -65,10 +64,10 @@ module _ (K : ℕ) (next : CallResult) (n : ℕ) (run : Run) (out : List ℤ) wh
   place-asked true h = h refl
   place-asked false h = zero-le
 
-  place-each : (found : Found) → place_found found ≤ K → next.0.1 ≤ K → (ask_each n found run out next).0.1 ≤ K
+  place-each : (found : Option ℕ) → place_found found ≤ K → next.0.1 ≤ K → (ask_each n found run out next).0.1 ≤ K
   unfolding ask_each place_found
-  place-each (At place) h k = h
-  place-each Nothing h k = k
+  place-each (Some place) h k = h
+  place-each None h k = k
 
 place-either : (K : ℕ) (g h : CallResult) (b : Bool) → g.0.1 ≤ K → h.0.1 ≤ K → (cond b g h).0.1 ≤ K
 place-either K g h true k l = k

@@ -1,4 +1,5 @@
 -- What the gate says to a fresh start, to a block and to a finish, question by question.
+use Rattle.std.specs.Prelude.{Ok, Err}
 use mathlib.Core.Path.{◌≡◌, sym, ap, subst}
 use mathlib.Core.Bool.{true, false, not}
 use mathlib.Core.List.{List, []}
@@ -9,8 +10,8 @@ use lib.IntN.{ℤ, pos}
 use lib.ListN.{length}
 use Rattle.tables.specs.Widths.{half_width}
 use Rattle.runs.specs.Answers.{told}
-use Rattle.runs.specs.declared.answer.Answer.{Answer}
-use Rattle.runs.specs.declared.answer.Answer.TheVariants.{Done, Width, Record, Closed, Full, InputLength, OutputLength}
+use Rattle.runs.specs.Answers.{Answer}
+use Rattle.runs.specs.declared.answer.Refusal.TheVariants.{Width, Record, Closed, Full, InputLength, OutputLength}
 use Rattle.runs.specs.declared.record.Run.{Run}
 use Rattle.runs.specs.declared.record.Outcome.{Outcome}
 use Rattle.runs.specs.Record.{block_limit, zeros, outcome_of, zero_padded, opened, closed}
@@ -35,27 +36,27 @@ module _ (N : ℕ) (held : List ℤ) (h : held ≡ zeros 64) where
   unfolding opened zero_padded
   fresh-is n = ap (λ xs. record { width = n; count = 0; held = xs; finished = false; total = pos 0 }) h
 
-  pub start-refused : half_width N ≡ 0 → (told Width, fresh 0) ≡ started N
+  pub start-refused : half_width N ≡ 0 → (told (Err Width), fresh 0) ≡ started N
   unfolding told started
   start-refused e = rw (eq-eqb _ _ e) (ap (λ r. ((1, 0), r)) (fresh-is 0))
 
-  pub start-done : (half_width N ≡ 0 → ⊥) → (told Done, fresh N) ≡ started N
+  pub start-done : (half_width N ≡ 0 → ⊥) → (told (Ok tt), fresh N) ≡ started N
   unfolding told started
   start-done e = rw (ne_eqb _ _ e) (ap (λ r. ((0, 0), r)) (fresh-is N))
 
 -- ---- questions 2 and 3, to a block, a frame or a finish
 module _ (top : ℕ) (run : Run) (out : List ℤ) (next : CallResult) where
-  pub record-refused : sound top run ≡ false → (told Record, run, out) ≡ ask 2 (sound top run) run out next
+  pub record-refused : sound top run ≡ false → (told (Err Record), run, out) ≡ ask 2 (sound top run) run out next
   unfolding told ask
   record-refused e = rw e
 
-  pub closed-refused : sound top run ≡ true → run.finished ≡ true → (told Closed, run, out) ≡ ask 2 (sound top run) run out (ask 3 (not run.finished) run out next)
+  pub closed-refused : sound top run ≡ true → run.finished ≡ true → (told (Err Closed), run, out) ≡ ask 2 (sound top run) run out (ask 3 (not run.finished) run out next)
   unfolding told ask
   closed-refused s e = rw (s, e)
 
 -- ---- questions 4, 6 and 7 to a block or a frame
 module _ (top : ℕ) (run : Run) (given out : List ℤ) (next : CallResult) (s : sound top run ≡ true) (o : run.finished ≡ false) where
-  pub full-refused : run.count ≡ top → (told Full, run, out) ≡ admitted top run given out next
+  pub full-refused : run.count ≡ top → (told (Err Full), run, out) ≡ admitted top run given out next
   unfolding told admitted ask
   full-refused e = rw (s, o, le-ltb run.count top (omega (arith, e)))
 
@@ -64,12 +65,12 @@ module _ (top : ℕ) (run : Run) (given out : List ℤ) (next : CallResult) (s :
     unfolding sound
     counted = leb-true _ _ (every-answer _ s 1)
 
-    pub input-refused : (length given ≡ run.width → ⊥) → (told InputLength, run, out) ≡ admitted top run given out next
+    pub input-refused : (length given ≡ run.width → ⊥) → (told (Err InputLength), run, out) ≡ admitted top run given out next
     unfolding told admitted ask
     input-refused e = rw (s, o, lt-ltb run.count top (omega (arith, n, counted)), ne_eqb _ _ e)
 
     module _ (l : length given ≡ run.width) where
-      pub output-refused : (length out ≡ run.width → ⊥) → (told OutputLength, run, out) ≡ admitted top run given out next
+      pub output-refused : (length out ≡ run.width → ⊥) → (told (Err OutputLength), run, out) ≡ admitted top run given out next
       unfolding told admitted ask
       output-refused e = rw (s, o, lt-ltb run.count top (omega (arith, n, counted)), eq-eqb _ _ l, ne_eqb _ _ e)
 
@@ -79,10 +80,10 @@ module _ (top : ℕ) (run : Run) (given out : List ℤ) (next : CallResult) (s :
 
 -- ---- question 7 to a finish
 module _ (run : Run) (out : List ℤ) (s : sound block_limit run ≡ true) (o : run.finished ≡ false) where
-  pub end-output-refused : (length out ≡ run.width → ⊥) → (told OutputLength, run, out) ≡ ended run out
+  pub end-output-refused : (length out ≡ run.width → ⊥) → (told (Err OutputLength), run, out) ≡ ended run out
   unfolding told ended ask
   end-output-refused e = rw (s, o, ne_eqb _ _ e)
 
-  pub ended-done : length out ≡ run.width → (told Done, closed run, frame_on run (zeros run.width)) ≡ ended run out
+  pub ended-done : length out ≡ run.width → (told (Ok tt), closed run, frame_on run (zeros run.width)) ≡ ended run out
   unfolding told ended ask
   ended-done e = rw (s, o, eq-eqb _ _ e)

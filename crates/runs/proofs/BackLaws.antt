@@ -20,7 +20,7 @@ use Rattle.steps.proofs.Undo.{unstages-stages, unfolded-fold}
 use Rattle.steps.proofs.Rotation.{lower-gate, held-gate}
 use Rattle.steps.proofs.ZeroBlock.{lower-zeros, held-zeros}
 use Rattle.runs.specs.Answers.{first_where, beyond, first_beyond}
-use Rattle.runs.specs.declared.answer.Found.TheVariants.{At}
+use Rattle.std.specs.Prelude.{Some}
 use Rattle.distance.specs.Statement.{IsWidth, Block, coefficient}
 use Rattle.distance.proofs.ZeroBlock.{zero-block}
 use Rattle.distance_theorems.proofs.Theorems.{frame-size}
@@ -124,7 +124,7 @@ unfolding first_where nothing
 nothing-anywhere test [] j k = refl
 nothing-anywhere test (x ∷ xs) j k = by (test x) (nothing-anywhere test xs (suc j) (suc k))
   where
-    by : (b : Bool) → nothing (first_where test xs (suc j)) ≡ nothing (first_where test xs (suc k)) → nothing (cond b (At j) (first_where test xs (suc j))) ≡ nothing (cond b (At k) (first_where test xs (suc k)))
+    by : (b : Bool) → nothing (first_where test xs (suc j)) ≡ nothing (first_where test xs (suc k)) → nothing (cond b (Some j) (first_where test xs (suc j))) ≡ nothing (cond b (Some k) (first_where test xs (suc k)))
     by true e = refl
     by false e = e
 

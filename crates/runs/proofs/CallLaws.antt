@@ -12,8 +12,7 @@ use Rattle.tables.specs.Widths.{half_width}
 use Rattle.steps.specs.Limits.{reading_limit}
 use Rattle.steps.specs.Steps.{held, frame}
 use Rattle.steps.proofs.Lengths.{length-held}
-use Rattle.runs.specs.declared.answer.Found.{Found}
-use Rattle.runs.specs.declared.answer.Found.TheVariants.{At, Nothing}
+use Rattle.std.specs.Prelude.{Option, Some, None}
 use Rattle.distance.specs.Statement.{Block}
 use Rattle.runs.specs.declared.record.Run.{Run}
 use Rattle.runs.specs.Record.{block_limit, zeros, opened, advanced, closed}
@@ -56,10 +55,10 @@ module _ {run : Run} {out : List ℤ} {good : CallResult} where
     asked true d = d
     asked false d = denied n 0
 
-    pub asked-each : (found : Found) → Decided rest run out good next → Decided (nothing found && rest) run out good (ask_each (suc n) found run out next)
+    pub asked-each : (found : Option ℕ) → Decided rest run out good next → Decided (nothing found && rest) run out good (ask_each (suc n) found run out next)
     unfolding ask_each nothing
-    asked-each (At place) d = denied n place
-    asked-each Nothing d = d
+    asked-each (Some place) d = denied n place
+    asked-each None d = d
 
 -- ---- what an accepted block is
 pub every-answer : (answers : List Bool) → all_yes answers ≡ true → (i : ℕ) → get_or answers i true ≡ true

@@ -1,4 +1,5 @@
 pub mod Cases
+pub mod Told
 pub mod AcceptedCalls
 pub mod Searches
 pub mod AloneLaws

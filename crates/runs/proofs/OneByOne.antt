@@ -10,8 +10,7 @@ use lib.ListN.{length, take, drop, length-replicate}
 use lib.Seq.{take_at, drop_at}
 use Rattle.tables.specs.Widths.{half_width}
 use Rattle.runs.specs.Answers.{placed}
-use Rattle.runs.specs.declared.answer.Found.{Found}
-use Rattle.runs.specs.declared.answer.Found.TheVariants.{At, Nothing}
+use Rattle.std.specs.Prelude.{Option, Some, None}
 use Rattle.runs.specs.declared.record.Run.{Run}
 use Rattle.runs.specs.Record.{zeros, opened}
 use Rattle.runs.specs.Gate.{CallResult, ask, ask_each, admitted}
@@ -53,10 +52,10 @@ module _ (run : Run) (out : List ℤ) (next : CallResult) (e : next.2 ≡ out) w
   ask-kept n true = e
   ask-kept n false = refl
 
-  each-kept : (n : ℕ) (found : Found) → (ask_each n found run out next).2 ≡ out
+  each-kept : (n : ℕ) (found : Option ℕ) → (ask_each n found run out next).2 ≡ out
   unfolding ask_each
-  each-kept n (At place) = refl
-  each-kept n Nothing = e
+  each-kept n (Some place) = refl
+  each-kept n None = e
 
 first-kept : (run : Run) (frame out : List ℤ) → run.count ≡ 0 → (taken_back run frame out).2 ≡ out
 unfolding taken_back admitted undone_in unfolded_in first_frame

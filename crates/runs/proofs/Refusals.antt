@@ -10,8 +10,7 @@ use lib.IntN.{ℤ, ◌+ℤ◌}
 use lib.ListN.{length}
 use Rattle.integers.specs.Vectors.{sum_of}
 use Rattle.steps.specs.Steps.{unstages}
-use Rattle.runs.specs.declared.answer.Found.{Found}
-use Rattle.runs.specs.declared.answer.Found.TheVariants.{At, Nothing}
+use Rattle.std.specs.Prelude.{Option, Some, None}
 use Rattle.runs.specs.declared.record.Run.{Run}
 use Rattle.runs.specs.Record.{next_count, next_total}
 use Rattle.runs.specs.Gate.{CallResult, ask, ask_each, all_yes, sound, admitted}
@@ -77,10 +76,10 @@ module _ {run : Run} {next : CallResult} (n : ℕ) (out : List ℤ) where
   same_asked true h = h
   same_asked false h = record { same = λ _. refl }
 
-  pub same-each : (found : Found) → Same run next → Same run (ask_each n found run out next)
+  pub same-each : (found : Option ℕ) → Same run next → Same run (ask_each n found run out next)
   unfolding ask_each
-  same-each (At place) h = record { same = λ _. refl }
-  same-each Nothing h = h
+  same-each (Some place) h = record { same = λ _. refl }
+  same-each None h = h
 
 pub same-admitted : (top : ℕ) (run : Run) (given out : List ℤ) (next : CallResult) → Same run next → Same run (admitted top run given out next)
 unfolding admitted

@@ -13,7 +13,7 @@ use Rattle.integers.specs.Vectors.{sum_of}
 use Rattle.integers.proofs.Sums.{sum-none}
 use Rattle.steps.specs.Limits.{reading_limit, folded_limit, coefficient_limit}
 use Rattle.steps.specs.Steps.{unstages}
-use Rattle.runs.specs.declared.answer.Found.{Found}
+use Rattle.std.specs.Prelude.{Option}
 use Rattle.runs.specs.declared.record.Run.{Run}
 use Rattle.runs.specs.Answers.{first_beyond}
 use Rattle.runs.specs.Record.{block_limit, frame_limit, opened, advanced}
@@ -67,7 +67,7 @@ module _ (run : Run) (frame out : List ℤ) where
   abbrev behind : CallResult → CallResult
   behind next = ask_each 9 (first_beyond (pos coefficient_limit) frame 0) run out (ask_each 10 (first_beyond (pos folded_limit) folded 0) run out next)
 
-  abbrev asks : Found → Bool
+  abbrev asks : Option ℕ → Bool
   asks last = all_yes (nothing (first_beyond (pos coefficient_limit) frame 0) ∷ nothing (first_beyond (pos folded_limit) folded 0) ∷ nothing last ∷ [])
 
   first-asked : Decided (asks (first_upper run folded)) run out ((0, 0), framed run [] folded, out) (behind (first_frame run folded out))

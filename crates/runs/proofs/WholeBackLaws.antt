@@ -1,4 +1,5 @@
 -- What the gate says of a whole run back; and its answer does not depend on what the output holds.
+use Rattle.std.specs.Prelude.{Err}
 use mathlib.Core.Path.{◌≡◌, refl, ◌∙◌}
 use mathlib.Core.Bool.{Bool, true, false, cond, ◌&&◌}
 use mathlib.Core.List.{List, [], ◌++◌}
@@ -10,7 +11,7 @@ use lib.IntN.{ℤ}
 use lib.ListN.{length, take, drop, length-append, length-take, length-drop}
 use Rattle.tables.specs.Widths.{half_width}
 use Rattle.runs.specs.Answers.{told, placed}
-use Rattle.runs.specs.declared.answer.Answer.TheVariants.{OutputLength}
+use Rattle.runs.specs.declared.answer.Refusal.TheVariants.{OutputLength}
 use mathlib.Core.Logic.{◌⊎◌, inl, inr}
 use Rattle.runs.specs.declared.record.Run.{Run}
 use Rattle.runs.specs.Record.{frame_limit, zeros}
@@ -63,7 +64,7 @@ module _ {answer : ℕ × ℕ} (N : ℕ) (frames out : List ℤ) (e : answer ≡
 
 -- ---- the gate
 module _ (N : ℕ) (frames out : List ℤ) (w : half_width N ≡ 0 → ⊥) (e : length frames % N ≡ 0) (few : length frames / N ≤ frame_limit) (some : 0 < length frames) where
-  pub whole-output-refused : (length out + N ≡ length frames → ⊥) → (told OutputLength, out) ≡ whole_back N frames out
+  pub whole-output-refused : (length out + N ≡ length frames → ⊥) → (told (Err OutputLength), out) ≡ whole_back N frames out
   unfolding told whole_back
   whole-output-refused m = rw (ne_eqb _ _ w, eq-eqb _ _ e, le-leb _ _ few, lt-ltb _ _ some, ne_eqb _ _ m)
 

@@ -1,4 +1,5 @@
 -- The whole run forward: one without a refusal took blocks in range and gives the frames of its blocks and its finish, each near the exact one; and what the gate says.
+use Rattle.std.specs.Prelude.{Err}
 use mathlib.Core.Path.{◌≡◌, refl, ap, subst, ◌∙◌}
 use mathlib.Core.Bool.{Bool, true, false, cond}
 use mathlib.Core.List.{List, [], ◌∷◌, ◌++◌}
@@ -15,7 +16,7 @@ use Rattle.integers.specs.Vectors.{Rows}
 use Rattle.integers.proofs.PlaceLaws.{length-tab}
 use Rattle.tables.specs.Widths.{half_width}
 use Rattle.runs.specs.Answers.{told, placed}
-use Rattle.runs.specs.declared.answer.Answer.TheVariants.{OutputLength}
+use Rattle.runs.specs.declared.answer.Refusal.TheVariants.{OutputLength}
 use Rattle.distance.specs.Statement.{IsWidth, promised}
 use Rattle.distance_theorems.proofs.Theorems.{promised-distance}
 use Rattle.runs.specs.declared.record.Run.{Run}
@@ -143,7 +144,7 @@ abbrev pub calls_made : ℕ → List ℤ → List ℤ → List Made
 calls_made N readings out = made (started N).1 (calls_of N (length readings / N) readings out)
 
 module _ (N : ℕ) (readings out : List ℤ) (w : half_width N ≡ 0 → ⊥) (e : length readings % N ≡ 0) (few : length readings / N ≤ block_limit) where
-  pub whole-output-refused : (length out ≡ length readings + N → ⊥) → (told OutputLength, out) ≡ whole_forward N readings out
+  pub whole-output-refused : (length out ≡ length readings + N → ⊥) → (told (Err OutputLength), out) ≡ whole_forward N readings out
   unfolding told whole_forward
   whole-output-refused m = rw (ne_eqb _ _ w, eq-eqb _ _ e, le-leb _ _ few, ne_eqb _ _ m)
 

@@ -1,10 +1,8 @@
 -- The gate, for the five stages alone: document 01, "The gate, question by question".
-use Rattle.std.specs.Prelude.{cond, List, ℕ, eqb, ℤ, pos, length}
+use Rattle.std.specs.Prelude.{cond, List, ℕ, eqb, ℤ, pos, length, Option, Some, None}
 use Rattle.tables.specs.Widths.{half_width}
 use Rattle.steps.specs.Limits.{folded_limit, coefficient_limit}
 use Rattle.steps.specs.Steps.{stages, unstages}
-use Rattle.runs.specs.declared.answer.Found.{Found}
-use Rattle.runs.specs.declared.answer.Found.TheVariants.{At, Nothing}
 use Rattle.runs.specs.Answers.{first_beyond}
 
 -- what a call gives: the answer's number and place, and the output afterwards
@@ -12,9 +10,9 @@ abbrev pub StagesResult : Type 0
 StagesResult = (ℕ × ℕ) × List ℤ
 
 -- a refusal by `number` at the place found, which leaves the output as it is; else what follows
-unfoldable pub refused_at : ℕ → Found → List ℤ → StagesResult → StagesResult
-refused_at number (At i) out next = ((number, i), out)
-refused_at number Nothing out next = next
+unfoldable pub refused_at : ℕ → Option ℕ → List ℤ → StagesResult → StagesResult
+refused_at number (Some i) out next = ((number, i), out)
+refused_at number None out next = next
 
 -- questions 1, 6 and 7
 unfoldable pub shaped : ℕ → List ℤ → List ℤ → StagesResult → StagesResult

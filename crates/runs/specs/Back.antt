@@ -1,11 +1,10 @@
 -- A run back, call by call: document 01, "Widths, readings, frames" and the gate.
-use Rattle.std.specs.Prelude.{cond, not, List, [], suc, eqb, ltb, ℤ, pos, ◌+ℤ◌, take, drop}
+use Rattle.std.specs.Prelude.{cond, not, List, [], ℕ, suc, eqb, ltb, ℤ, pos, ◌+ℤ◌, take, drop, Option}
 use Rattle.integers.specs.Vectors.{sum_of}
 use Rattle.tables.specs.Widths.{half_width}
 use Rattle.steps.specs.Limits.{folded_limit, coefficient_limit}
 use Rattle.steps.specs.Steps.{unstages, unfolded}
 use Rattle.runs.specs.Answers.{first_beyond}
-use Rattle.runs.specs.declared.answer.Found.{Found}
 use Rattle.runs.specs.declared.record.Run.{Run}
 use Rattle.runs.specs.Record.{frame_limit, opened, closed}
 use Rattle.runs.specs.Gate.{CallResult, ask, ask_each, admitted, sound, first_out}
@@ -19,7 +18,7 @@ unfoldable pub block_on : Run → List ℤ → List ℤ
 block_on run folded = unfolded run.width (take (half_width run.width) run.held) (drop (half_width run.width) folded)
 
 -- A first frame: its upper half must be zero (11), and it gives no block. The place counts through all folded values.
-unfoldable pub first_upper : Run → List ℤ → Found
+unfoldable pub first_upper : Run → List ℤ → Option ℕ
 first_upper run folded = first_beyond (pos 0) (drop (half_width run.width) folded) (half_width run.width)
 
 unfoldable pub first_frame : Run → List ℤ → List ℤ → CallResult
@@ -43,7 +42,7 @@ unfoldable pub taken_back : Run → List ℤ → List ℤ → CallResult
 taken_back run frame out = admitted frame_limit run frame out (undone_in run frame out)
 
 -- finish back: 5, a frame has been taken; 11, the held lower half is zero. No output is lent.
-unfoldable pub first_held : Run → Found
+unfoldable pub first_held : Run → Option ℕ
 first_held run = first_beyond (pos 0) (take (half_width run.width) run.held) 0
 
 unfoldable pub ended_back : Run → CallResult

@@ -1,10 +1,8 @@
 -- The gate's questions to a run forward: document 01, "The gate, question by question".
-use Rattle.std.specs.Prelude.{Bool, true, false, cond, not, ◌&&◌, ◌||◌, List, [], ◌∷◌, ℕ, ◌+◌, ◌-◌, ◌*◌, eqb, ltb, leb, ℤ, pos, negsuc, nat_abs, length, drop}
+use Rattle.std.specs.Prelude.{Bool, true, false, cond, not, ◌&&◌, ◌||◌, List, [], ◌∷◌, ℕ, ◌+◌, ◌-◌, ◌*◌, eqb, ltb, leb, ℤ, pos, negsuc, nat_abs, length, drop, Option, Some, None}
 use Rattle.tables.specs.Widths.{half_width}
 use Rattle.steps.specs.Limits.{reading_limit, folded_limit}
 use Rattle.runs.specs.Answers.{first_where, first_beyond}
-use Rattle.runs.specs.declared.answer.Found.{Found}
-use Rattle.runs.specs.declared.answer.Found.TheVariants.{At, Nothing}
 use Rattle.runs.specs.declared.record.Run.{Run}
 use Rattle.runs.specs.Record.{frame_limit}
 
@@ -16,14 +14,14 @@ CallResult = (ℕ × ℕ) × Run × List ℤ
 unfoldable pub ask : ℕ → Bool → Run → List ℤ → CallResult → CallResult
 ask number answer run out next = cond answer next ((number, 0), run, out)
 
-unfoldable pub ask_each : ℕ → Found → Run → List ℤ → CallResult → CallResult
-ask_each number (At place) run out next = ((number, place), run, out)
-ask_each number Nothing run out next = next
+unfoldable pub ask_each : ℕ → Option ℕ → Run → List ℤ → CallResult → CallResult
+ask_each number (Some place) run out next = ((number, place), run, out)
+ask_each number None run out next = next
 
 -- no value of a list is beyond ±limit
-unfoldable pub nothing : Found → Bool
-nothing (At place) = false
-nothing Nothing = true
+unfoldable pub nothing : Option ℕ → Bool
+nothing (Some place) = false
+nothing None = true
 
 unfoldable pub inside : ℤ → List ℤ → Bool
 inside limit xs = nothing (first_beyond limit xs 0)
@@ -55,11 +53,11 @@ unfoldable pub dead : ℤ → Bool
 dead (pos n) = false
 dead (negsuc n) = eqb n 32767
 
-abbrev pub first_dead : List ℤ → ℕ → Found
+abbrev pub first_dead : List ℤ → ℕ → Option ℕ
 first_dead = first_where dead
 
 -- 9
-abbrev pub first_out : List ℤ → ℕ → Found
+abbrev pub first_out : List ℤ → ℕ → Option ℕ
 first_out = first_beyond (pos reading_limit)
 
 -- 2, 3, 4, 6 and 7 to a block or frame that is handed in, where `top` is the greatest count; then what follows

@@ -2,7 +2,7 @@
 use Rattle.std.specs.Prelude.{Bool, true, false, cond, List, [], ◌++◌, ℕ, suc, ◌-◌, eqb, ℤ, pos, ◌+ℤ◌, length, replicate}
 use Rattle.integers.specs.Vectors.{sum_of}
 use Rattle.steps.specs.Steps.{held}
-use Rattle.runs.specs.declared.answer.Answer.{Answer}
+use Rattle.runs.specs.Answers.{Answer}
 use Rattle.runs.specs.declared.record.Run.{Run}
 use Rattle.runs.specs.declared.record.Outcome.{Outcome}
 

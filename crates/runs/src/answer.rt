@@ -1,11 +1,10 @@
-// What a call answers, and what a search finds.
+// What a call answers.
 ghost use Rattle.std.specs.Prelude.{◌≡◌};
 ghost use Rattle.runs.specs.Answers.{told};
 
-// A call's answer. The number of each refusal, and its place, are in the definition `told`.
-#[derive(Clone, Copy)]
-pub enum Answer {
-    Done,
+// Why a call is refused. The number of each refusal, and its place, are in the definition `told`.
+#[derive(Clone, Copy, PartialEq, Eq)]
+pub enum Refusal {
     Width,
     Record,
     Closed,
@@ -20,33 +19,27 @@ pub enum Answer {
     Unfolded(usize),
 }
 
-#[derive(Clone, Copy)]
-pub enum Found {
-    At(usize),
-    Nothing,
-}
+pub type Answer = Result<(), Refusal>;
 
 // An answer's number and its place.
-#[derive(Clone, Copy)]
-struct Told(usize, usize);
-
-fn told_of(answer: Answer) -> Told
-    ensures { (result.0, result.1) ≡ told answer }
+#[tactic(auto, unfolding(crate::specs::Answers::told))]
+fn told_of(answer: Answer) -> (usize, usize)
+    ensures { result ≡ told answer }
 {
     match answer {
-        Answer::Done => Told(0, 0),
-        Answer::Width => Told(1, 0),
-        Answer::Record => Told(2, 0),
-        Answer::Closed => Told(3, 0),
-        Answer::Full => Told(4, 0),
-        Answer::Empty => Told(5, 0),
-        Answer::InputLength => Told(6, 0),
-        Answer::OutputLength => Told(7, 0),
-        Answer::DeadMark(i) => Told(8, i),
-        Answer::Range(i) => Told(9, i),
-        Answer::Folded(i) => Told(10, i),
-        Answer::Halves(i) => Told(11, i),
-        Answer::Unfolded(i) => Told(12, i),
+        Ok(()) => (0, 0),
+        Err(Refusal::Width) => (1, 0),
+        Err(Refusal::Record) => (2, 0),
+        Err(Refusal::Closed) => (3, 0),
+        Err(Refusal::Full) => (4, 0),
+        Err(Refusal::Empty) => (5, 0),
+        Err(Refusal::InputLength) => (6, 0),
+        Err(Refusal::OutputLength) => (7, 0),
+        Err(Refusal::DeadMark(i)) => (8, i),
+        Err(Refusal::Range(i)) => (9, i),
+        Err(Refusal::Folded(i)) => (10, i),
+        Err(Refusal::Halves(i)) => (11, i),
+        Err(Refusal::Unfolded(i)) => (12, i),
     }
 }
 

@@ -6,7 +6,7 @@ use crate::answer::Answer;
 
 // Going forward, held[i] becomes folded value M+i of the next frame; going back, it is folded value i of the last frame. The total is of the
 // readings taken or given.
-#[derive(Clone, Copy)]
+#[derive(Clone, Copy, PartialEq, Eq)]
 pub struct Run {
     pub width: usize,
     pub count: usize,

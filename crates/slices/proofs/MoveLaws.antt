@@ -2,7 +2,7 @@
 use mathlib.Core.Path.{◌≡◌}
 use mathlib.Core.Bool.{Bool, true, false}
 use mathlib.Core.List.{List}
-use Prim.Native.Nat.{ℕ, ◌+◌, ◌/◌, ◌%◌, ◌≤◌}
+use Prim.Native.Nat.{ℕ, ◌+◌, ◌*◌, ◌/◌, ◌%◌, ◌≤◌}
 use native.Mathlib.Omega.{arith}
 use borrow.Author.Tests.{eq-eqb, ne_eqb}
 use lib.IntN.{ℤ, nat_abs}
@@ -16,10 +16,16 @@ moved-size true y a h k = omega (arith, nat_abs--ℤ y a)
 moved-size false y a h k = omega (arith, nat_abs-+ℤ y a)
 
 module _ (top bottom : List ℤ) (i : ℕ) where
-  pub woven-top : i % 2 ≡ 0 → woven_at top bottom i ≡ at top (i / 2)
+  pub woven-even : woven_at top bottom (2 * i) ≡ at top i
   unfolding woven_at
-  woven-top e = rw (eq-eqb (i % 2) 0 e)
+  woven-even =
+      let e : (2 * i) % 2 ≡ 0 = omega arith in
+      let h : (2 * i) / 2 ≡ i = omega arith in
+      rw (eq-eqb ((2 * i) % 2) 0 e, h)
 
-  pub woven-bottom : (i % 2 ≡ 0 → ⊥) → woven_at top bottom i ≡ at bottom (i / 2)
+  pub woven-odd : woven_at top bottom (2 * i + 1) ≡ at bottom i
   unfolding woven_at
-  woven-bottom e = rw (ne_eqb (i % 2) 0 e)
+  woven-odd =
+      let e : (2 * i + 1) % 2 ≡ 0 → ⊥ = (λ e. omega arith) in
+      let h : (2 * i + 1) / 2 ≡ i = omega arith in
+      rw (ne_eqb ((2 * i + 1) % 2) 0 e, h)

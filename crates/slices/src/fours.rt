@@ -4,6 +4,7 @@ ghost use Rattle.integers.specs.Places.{places, at, Within};
 ghost use Rattle.slices.specs.Own.Fours.{listed, stored};
 ghost use Rattle.slices.specs.Own.Moves.{moved};
 
+// Fields and no array: an array of four is slower.
 #[derive(Clone, Copy)]
 pub struct Four {
     pub a: i64,
@@ -41,16 +42,14 @@ pub fn put(x: &mut [i64], p: usize, f: Four)
     requires { p + 4 ≤ length x.old }
     ensures { x.new ≡ stored x.old p f }
 {
-    let a = f.a;
-    let b = f.b;
-    let c = f.c;
-    let d = f.d;
+    let Four { a, b, c, d } = f;
     x[p] = a;
     x[p + 1] = b;
     x[p + 2] = c;
     x[p + 3] = d;
 }
 
+// plus and minus differ in the operator alone; one function that is handed the operator is no plainer.
 pub fn plus(x: Four, y: Four) -> Four
     requires within { Within (2 ^ 62 - 1) (listed x) }
     requires within_2 { Within (2 ^ 62 - 1) (listed y) }
@@ -78,13 +77,11 @@ pub fn minus(x: Four, y: Four) -> Four
 }
 
 // The sum, or the difference.
+#[tactic(auto, unfolding(crate::specs::Own::Moves::moved))]
 pub fn sum_or_difference(less: bool, x: Four, y: Four) -> Four
     requires within { Within (2 ^ 62 - 1) (listed x) }
     requires within_2 { Within (2 ^ 62 - 1) (listed y) }
     ensures { listed result ≡ places 4 (λ j. moved less (at (listed x) j) (at (listed y) j)) }
 {
-    if less {
-        return minus(x, y);
-    }
-    plus(x, y)
+    if less { minus(x, y) } else { plus(x, y) }
 }

@@ -4,3 +4,4 @@ pub mod RowLaws
 pub mod FrameSizes
 pub mod StageLaws
 pub mod PartLaws
+pub mod ChainLaws

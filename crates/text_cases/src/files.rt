@@ -1,7 +1,6 @@
 // Files that a run is written to, and read from again.
 ghost use Rattle.std.specs.Prelude.{◌≤◌};
 
-use decimal::compare;
 use pieces::reading::Source;
 use pieces::writing::Target;
 use pieces::{reading, writing};
@@ -48,7 +47,7 @@ pub fn empty(file: &mut File) {
 }
 
 // The programs that are tried.
-#[derive(Clone, Copy)]
+#[derive(Clone, Copy, PartialEq, Eq)]
 pub enum Tried {
     Forward,
     Back,
@@ -109,17 +108,15 @@ pub fn same(one: &mut File, other: &mut File) -> bool {
     rewind(other);
     let mut x = [0u8; 4096];
     let mut y = [0u8; 4096];
-    let mut turns: usize = 4096;
-    while 0 < turns {
+    for _ in 0..4096 {
         let n = reading::read_full(one, &mut x);
         let m = reading::read_full(other, &mut y);
-        if !compare::same(&x[..n], &y[..m]) {
+        if x[..n] != y[..m] {
             return false;
         }
         if n == 0 {
             return true;
         }
-        turns -= 1;
     }
     false
 }

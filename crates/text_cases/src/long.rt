@@ -23,10 +23,8 @@ fn write_block<W: Write>(file: &mut W, i: usize)
     requires { i ≤ 12000 }
 {
     let mut block = [0i32; 8];
-    let mut j = 0;
-    while j < 8 {
-        block[j] = reading(i, j);
-        j += 1;
+    for (j, x) in block.iter_mut().enumerate() {
+        *x = reading(i, j);
     }
     let mut text = [0u8; 128];
     let n = print::numbers(&mut text, 0, &block);
@@ -37,10 +35,8 @@ fn write_block<W: Write>(file: &mut W, i: usize)
 // The total is 96 times the sum of 0 to 999: at each place every number comes twelve times.
 fn write_run<W: Write>(file: &mut W) {
     writing::put(file, b"8\n");
-    let mut i = 0;
-    while i < BLOCKS {
+    for i in 0..BLOCKS {
         write_block(file, i);
-        i += 1;
     }
     writing::put(file, b"end,12000,47952000\n");
 }

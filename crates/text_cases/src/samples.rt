@@ -9,17 +9,7 @@ use std::fs::File;
 use std::io::Write;
 
 // The lengths of the pieces, besides 65,536.
-fn piece_length(i: usize) -> usize
-    ensures { result ≤ 65536 }
-{
-    match i {
-        0 => 1,
-        1 => 7,
-        2 => 2047,
-        3 => 2048,
-        _ => 2049,
-    }
-}
+const PIECES: [usize; 5] = [1, 7, 2047, 2048, 2049];
 
 fn run_from<W: Write>(rt: &HostRuntime, tried: Tried, name: &[u8], output: &mut W, length: usize)
     requires { length ≤ 65536 }
@@ -34,14 +24,12 @@ fn run_from<W: Write>(rt: &HostRuntime, tried: Tried, name: &[u8], output: &mut 
 fn agrees(rt: &HostRuntime, tried: Tried, name: &[u8], one: &mut File, other: &mut File) -> bool {
     files::empty(one);
     run_from(rt, tried, name, one, 65536);
-    let mut i = 0;
-    while i < 5 {
+    for length in PIECES {
         files::empty(other);
-        run_from(rt, tried, name, other, piece_length(i));
+        run_from(rt, tried, name, other, length);
         if !files::same(one, other) {
             return false;
         }
-        i += 1;
     }
     true
 }

@@ -13,8 +13,7 @@ fn take_formed(state: State, line: &[u8]) -> Printed
     ensures result_value { result_of result ≡ formed state.phase state line.now }
     ensures length_bound { result.length ≤ 2048 }
 {
-    let phase = state.phase;
-    match phase {
+    match state.phase {
         Phase::First => width::take_width(state, read::number(line)),
         Phase::Between => row::take_between(state, line),
         Phase::Ended(_) => refuse::bad_form(state),
@@ -22,28 +21,24 @@ fn take_formed(state: State, line: &[u8]) -> Printed
     }
 }
 
+#[tactic(auto, unfolding(text_runs::specs::Line::not_formed))]
 fn take_not_formed(state: State) -> Printed
     ensures result_value { result_of result ≡ not_formed state.phase state }
     ensures length_bound { result.length ≤ 2048 }
 {
-    let phase = state.phase;
-    match phase {
-        Phase::First => refuse::bad_form(state),
-        Phase::Between => refuse::bad_form(state),
-        Phase::Ended(_) => refuse::bad_form(state),
+    match state.phase {
+        Phase::First | Phase::Between | Phase::Ended(_) => refuse::bad_form(state),
         Phase::Over => refuse::silent(state),
     }
 }
 
 // One line, without its line feed. It is whole if it had one and is not cut.
+#[tactic(auto, unfolding(text_runs::specs::Line::line_taken))]
 pub fn take(state: State, whole: bool, line: &[u8]) -> Printed
     ensures result_value { result_of result ≡ line_taken state whole line.now }
     ensures length_bound { result.length ≤ 2048 }
 {
-    if !whole {
-        return take_not_formed(state);
-    }
-    if 2048 < line.len() {
+    if !whole || 2048 < line.len() {
         return take_not_formed(state);
     }
     take_formed(state, line)
@@ -54,10 +49,8 @@ pub fn end(state: State) -> Printed
     ensures result_value { result_of result ≡ input_ended state }
     ensures length_bound { result.length ≤ 2048 }
 {
-    let phase = state.phase;
-    match phase {
-        Phase::First => refuse::bad_form(state),
-        Phase::Between => refuse::bad_form(state),
+    match state.phase {
+        Phase::First | Phase::Between => refuse::bad_form(state),
         Phase::Ended(total) => row::finish(state, total),
         Phase::Over => refuse::silent(state),
     }

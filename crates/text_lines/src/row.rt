@@ -1,6 +1,5 @@
 // A line between the width and the end line: a block or a frame, or the end line.
-ghost use Rattle.std.specs.Prelude.{◌≡◌, ◌≤◌, min, length};
-ghost use Rattle.runs.specs.Record.{zeros};
+ghost use Rattle.std.specs.Prelude.{◌≡◌, ◌≤◌, length};
 ghost use Rattle.text_runs.specs.Lines.{numbers_in};
 ghost use Rattle.text_runs.specs.State.{result_of};
 ghost use Rattle.text_runs.specs.Way.{taken_by, ended_by, lent_output};
@@ -8,34 +7,18 @@ ghost use Rattle.text_runs.specs.Line.{row_given, row_taken, between_taken, fini
 
 use crate::way;
 use decimal::read;
-use decimal::read::Fields;
-use text_runs::number::Field;
 use text_runs::state;
 use text_runs::state::{Phase, Printed, State};
 use text_state::{lines, refuse};
 
 // No run is wider than 128.
-fn output_length(width: usize) -> usize
-    ensures { (result ≡ min width 128) × (result ≤ 128) }
-{
-    if width < 128 { width } else { 128 }
-}
-
-fn room() -> [i32; 128]
-    ensures { result ≡ zeros 128 }
-{
-    [0; 128]
-}
-
 fn take_numbers(state: State, numbers: &[i32]) -> Printed
     ensures result_value { result_of result ≡ row_given state (taken_by state.way state.run numbers.now (lent_output state.run)) }
     ensures length_bound { result.length ≤ 2048 }
 {
-    let way = state.way;
-    let run = state.run;
-    let n = output_length(run.width);
-    let mut out = room();
-    let outcome = way::take_by(way, run, numbers, &mut out[..n]);
+    let n = state.run.width.min(128);
+    let mut out = [0i32; 128];
+    let outcome = way::take_by(state.way, state.run, numbers, &mut out[..n]);
     lines::given_row(state, outcome, &out[..n])
 }
 
@@ -46,8 +29,7 @@ fn take_row(state: State, line: &[u8]) -> Printed
     ensures length_bound { result.length ≤ 2048 }
 {
     let mut numbers = [0i32; 1024];
-    let fields = read::numbers(line, &mut numbers);
-    let Fields::Numbers(n) = fields else {
+    let Some(n) = read::numbers(line, &mut numbers) else {
         return refuse::bad_form(state);
     };
     take_numbers(state, &numbers[..n])
@@ -59,8 +41,7 @@ pub fn take_between(state: State, line: &[u8]) -> Printed
     ensures length_bound { result.length ≤ 2048 }
 {
     let run = state.run;
-    let end = read::end_total(line, run.count);
-    let Field::Number(total) = end else {
+    let Some(total) = read::end_total(line, run.count) else {
         return take_row(state, line);
     };
     refuse::silent(state::with_run(state, Phase::Ended(total), run))
@@ -71,10 +52,8 @@ pub fn finish(state: State, total: i64) -> Printed
     ensures result_value { result_of result ≡ finish_given state total (ended_by state.way state.run (lent_output state.run)) }
     ensures length_bound { result.length ≤ 2048 }
 {
-    let way = state.way;
-    let run = state.run;
-    let n = output_length(run.width);
-    let mut out = room();
-    let outcome = way::finish_by(way, run, &mut out[..n]);
+    let n = state.run.width.min(128);
+    let mut out = [0i32; 128];
+    let outcome = way::finish_by(state.way, state.run, &mut out[..n]);
     lines::given_last(state, total, outcome, &out[..n])
 }

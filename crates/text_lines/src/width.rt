@@ -5,7 +5,6 @@ ghost use Rattle.text_runs.specs.Line.{width_started, width_taken};
 
 use calls_forward::forward;
 use decimal::print;
-use text_runs::number::Field;
 use text_runs::state;
 use text_runs::state::{Phase, Printed, State};
 use text_state::refuse;
@@ -15,29 +14,27 @@ fn start_run(state: State, width: usize) -> Printed
     ensures length_bound { result.length ≤ 2048 }
 {
     let begun = forward::start(width);
-    let answer = begun.answer;
-    if runs::answer::number(answer) != 0 {
-        return refuse::by_answer(state, answer);
+    if let Err(refusal) = begun.answer {
+        return refuse::by_refusal(state, refusal);
     }
-    let run = begun.run;
     let mut text = [0u8; 2048];
     let length = print::last_natural(&mut text, 0, width as u64);
     Printed {
-        state: state::with_run(state, Phase::Between, run),
-        text: text,
-        length: length,
+        state: state::with_run(state, Phase::Between, begun.run),
+        text,
+        length,
     }
 }
 
-pub fn take_width(state: State, field: Field) -> Printed
+pub fn take_width(state: State, field: Option<i64>) -> Printed
     ensures result_value { result_of result ≡ width_taken state field }
     ensures length_bound { result.length ≤ 2048 }
 {
-    let Field::Number(width) = field else {
+    let Some(width) = field else {
         return refuse::bad_form(state);
     };
-    if width < 0 {
-        return refuse::by(state, 1, 0);
+    match usize::try_from(width) {
+        Ok(width) => start_run(state, width),
+        Err(_) => refuse::by(state, 1, 0),
     }
-    start_run(state, width as usize)
 }

@@ -4,13 +4,10 @@ use mathlib.Core.Bool.{Bool, true, false, cond}
 use mathlib.Core.List.{List}
 use Prim.Native.Nat.{ℕ, ◌≤◌}
 use borrow.Author.Tests.{le-leb}
-use lib.ListN.{length, take}
-use lib.Seq.{length-take-le}
+use lib.ListN.{length}
 use Rattle.feeding.specs.Program.{handed}
-use Rattle.text_runs.specs.declared.state.Printed.{Printed}
-use Rattle.text_runs.specs.State.{LineResult, result_of}
+use Rattle.text_runs.specs.State.{LineResult}
 use Rattle.text_runs.specs.Line.{line_taken, formed, not_formed, input_ended, line_limit}
-use Rattle.feeding.specs.declared.session.Ending.{Ending}
 use Rattle.feeding.specs.declared.session.Session.{Session}
 use Rattle.feeding.specs.Text.{session_after, text_line, text_broken, text_end, text_program}
 
@@ -24,8 +21,3 @@ line-given s false bytes h e = ap (session_after s.ending) e
 pub end-given : (s : Session) {g : LineResult} → g ≡ input_ended s.state → session_after s.ending g ≡ text_end s
 unfolding text_end
 end-given s e = ap (session_after s.ending) e
-
--- the bytes that are printed, at the start of a text
-pub text-part : (g : Printed) → g.length ≤ length g.text → g.length ≡ length (result_of g).1
-unfolding result_of
-text-part g h = sym (length-take-le g.length g.text h)

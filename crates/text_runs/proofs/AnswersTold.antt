@@ -15,7 +15,7 @@ use Rattle.steps.specs.Limits.{reading_limit, folded_limit, coefficient_limit}
 use Rattle.steps.specs.Steps.{held, unstages}
 use Rattle.steps.proofs.Lengths.{length-unstages, width-half}
 use Rattle.runs.specs.Answers.{first_where, beyond}
-use Rattle.runs.specs.declared.answer.Found.TheVariants.{At}
+use Rattle.std.specs.Prelude.{Some}
 use Rattle.runs.specs.declared.record.Run.{Run}
 use Rattle.runs.specs.Record.{block_limit, frame_limit, opened}
 use Rattle.runs.specs.Gate.{CallResult, ask, ask_each, admitted, dead}
@@ -51,7 +51,7 @@ module _ (ms : List ℕ) (N : ℕ) (p : 0 < N) (n : ℕ) (m : among n ms ≡ tru
   told-each test [] k h t = t
   told-each test (x ∷ xs) k h t = by (test x) (told-each test xs (suc k) (omega arith) t)
     where
-      by : (b : Bool) → Told ms N (ask_each n (first_where test xs (suc k)) run out next).0 → Told ms N (ask_each n (cond b (At k) (first_where test xs (suc k))) run out next).0
+      by : (b : Bool) → Told ms N (ask_each n (first_where test xs (suc k)) run out next).0 → Told ms N (ask_each n (cond b (Some k) (first_where test xs (suc k))) run out next).0
       by true u = record { numbered = λ _. m; placed = omega arith }
       by false u = u
 

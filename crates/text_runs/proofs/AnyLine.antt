@@ -3,7 +3,7 @@ use mathlib.Core.Path.{◌≡◌, refl, ap}
 use mathlib.Core.Logic.{◌⊎◌, inl, inr, ⊎_elim}
 use mathlib.Core.Bool.{Bool, true, false, ◌&&◌}
 use mathlib.Core.List.{List, [], ◌∷◌, ◌++◌, append-nil}
-use mathlib.Core.Option.{Option, none, some}
+use Rattle.std.specs.Prelude.{Option, None, Some}
 use Prim.Native.Nat.{ℕ, ◌<◌}
 use native.Mathlib.Omega.{arith}
 use borrow.Author.Tests.{eqb-true, eqb-false}
@@ -11,8 +11,6 @@ use lib.Dec.{eqb, leb}
 use lib.IntN.{ℤ}
 use lib.ListN.{length}
 use Rattle.runs.specs.declared.record.Run.{Run}
-use Rattle.text_runs.specs.declared.number.Field.{Field}
-use Rattle.text_runs.specs.declared.number.Field.TheVariants as Field
 use Rattle.text_runs.specs.Lines.{row, end_line, numbers_in, end_total}
 use Rattle.text_runs.specs.declared.state.Way.{Way}
 use Rattle.text_runs.specs.declared.state.State.{State}
@@ -79,22 +77,22 @@ module _ (way : Way) (run : Run) where
   not-formed whole bytes e = record { answer = (13, 0); numbered = omega arith; source = inl refl; given = rw e }
 
   module _ (bytes : List ℕ) (short : leb (length bytes) line_limit ≡ true) where
-    is-end : (total : ℤ) → end_total run.count bytes ≡ Field.Number total → LineEnds way run (true, bytes)
+    is-end : (total : ℤ) → end_total run.count bytes ≡ Some total → LineEnds way run (true, bytes)
     unfolding line_taken formed between_taken between_by in_phase
     is-end total e = record { total = total; is = ap (λ (b : List ℕ). (true, b)) (end-only run.count total bytes e).0; given = rw (short, e) }
 
-    module _ (between : end_total run.count bytes ≡ Field.Bad) where
-      row-bad : numbers_in bytes ≡ none → LineRefused way run (true, bytes)
+    module _ (between : end_total run.count bytes ≡ None) where
+      row-bad : numbers_in bytes ≡ None → LineRefused way run (true, bytes)
       unfolding line_taken formed between_taken between_by row_taken bad_form
       row-bad e = record { answer = (13, 0); numbered = omega arith; source = inl refl; given = rw (short, between, e) }
 
-      row-refused : (xs : List ℤ) → numbers_in bytes ≡ some xs → eqb (taken_by way run xs (lent_output run)).0.0 0 ≡ false → LineRefused way run (true, bytes)
+      row-refused : (xs : List ℤ) → numbers_in bytes ≡ Some xs → eqb (taken_by way run xs (lent_output run)).0.0 0 ≡ false → LineRefused way run (true, bytes)
       unfolding line_taken formed between_taken between_by row_taken row_given
       row-refused xs e f =
           let z = eqb-false (taken_by way run xs (lent_output run)).0.0 0 f in
           record { answer = (taken_by way run xs (lent_output run)).0; numbered = omega (arith, z); source = inr (xs, refl); given = rw (short, between, e, f) }
 
-      row-works : (xs : List ℤ) → numbers_in bytes ≡ some xs → eqb (taken_by way run xs (lent_output run)).0.0 0 ≡ true → LineRow way run (true, bytes)
+      row-works : (xs : List ℤ) → numbers_in bytes ≡ Some xs → eqb (taken_by way run xs (lent_output run)).0.0 0 ≡ true → LineRow way run (true, bytes)
       unfolding line_taken formed between_taken between_by row_taken row_given with_run
       row-works xs e f = record {
         xs = xs;
@@ -104,12 +102,12 @@ module _ (way : Way) (run : Run) where
       }
 
       any-row : (o : Option (List ℤ)) → numbers_in bytes ≡ o → AnyLine way run (true, bytes)
-      any-row none e = inl (row-bad e)
-      any-row (some xs) e = ⊎_elim (λ f. inr (inr (row-works xs e f))) (λ f. inl (row-refused xs e f)) (tested (eqb (taken_by way run xs (lent_output run)).0.0 0))
+      any-row None e = inl (row-bad e)
+      any-row (Some xs) e = ⊎_elim (λ f. inr (inr (row-works xs e f))) (λ f. inl (row-refused xs e f)) (tested (eqb (taken_by way run xs (lent_output run)).0.0 0))
 
-    any-short : (f : Field) → end_total run.count bytes ≡ f → AnyLine way run (true, bytes)
-    any-short (Field.Number total) e = inr (inl (is-end total e))
-    any-short Field.Bad e = any-row e (numbers_in bytes) refl
+    any-short : (f : Option ℤ) → end_total run.count bytes ≡ f → AnyLine way run (true, bytes)
+    any-short (Some total) e = inr (inl (is-end total e))
+    any-short None e = any-row e (numbers_in bytes) refl
 
   any-line : (whole : Bool) (bytes : List ℕ) → AnyLine way run (whole, bytes)
   any-line true bytes = ⊎_elim (λ e. any-short bytes e (end_total run.count bytes) refl) (λ e. inl (not-formed true bytes e)) (tested (leb (length bytes) line_limit))

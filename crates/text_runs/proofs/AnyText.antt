@@ -15,8 +15,7 @@ use Rattle.tables.specs.Widths.{half_width}
 use Rattle.distance.specs.Statement.{IsWidth}
 use Rattle.runs.specs.declared.record.Run.{Run}
 use Rattle.runs.specs.Forward.{started}
-use Rattle.text_runs.specs.declared.number.Field.{Field}
-use Rattle.text_runs.specs.declared.number.Field.TheVariants as Field
+use Rattle.std.specs.Prelude.{Option, Some, None}
 use Rattle.text_runs.specs.Decimal.{decimal, printed, number_in}
 use Rattle.text_runs.specs.Lines.{line_feed, end_line}
 use Rattle.text_runs.specs.declared.state.Way.{Way}
@@ -56,11 +55,11 @@ module _ (way : Way) where
   not-started N e = let d : (started N).0 ≡ (1, 0) = rw e in rw d
 
   module _ (bytes : List ℕ) (short : leb (length bytes) line_limit ≡ true) where
-    any-number : (f : Field) → number_in bytes ≡ f → FirstNo way (true, bytes) ⊎ FirstWidth (true, bytes)
+    any-number : (f : Option ℤ) → number_in bytes ≡ f → FirstNo way (true, bytes) ⊎ FirstWidth (true, bytes)
     unfolding begun line_taken formed width_taken bad_form printed
-    any-number Field.Bad e = inl (record { number = 13; numbered = inr refl; given = rw (short, e) })
-    any-number (Field.Number (negsuc n)) e = inl (record { number = 1; numbered = inl refl; given = rw (short, e) })
-    any-number (Field.Number (pos N)) e =
+    any-number None e = inl (record { number = 13; numbered = inr refl; given = rw (short, e) })
+    any-number (Some (negsuc n)) e = inl (record { number = 1; numbered = inl refl; given = rw (short, e) })
+    any-number (Some (pos N)) e =
         ⊎_elim (λ w. inl (record { number = 1; numbered = inl refl; given = rw (short, e) (not-started N w) }))
         (λ w.
         let z = eqb-false (half_width N) 0 w in

@@ -2,7 +2,7 @@
 use mathlib.Core.Path.{◌≡◌, ◌∙◌}
 use mathlib.Core.Bool.{true}
 use mathlib.Core.List.{List, [], ◌∷◌, ◌++◌}
-use mathlib.Core.Option.{some}
+use Rattle.std.specs.Prelude.{Some}
 use Prim.Native.Nat.{ℕ, suc, ◌≤◌, ◌<◌}
 use native.Mathlib.Omega.{arith}
 use borrow.Author.Tests.{le-leb, ne_eqb}
@@ -61,7 +61,7 @@ unfolding printed_from
 width-printed way N w lines = rw (width-taken way N w)
 
 -- ---- between, where the call works: a row,
-pub some_read : (xs : List ℤ) → 0 < length xs → all_bits xs → numbers_in (row xs) ≡ some xs
+pub some_read : (xs : List ℤ) → 0 < length xs → all_bits xs → numbers_in (row xs) ≡ Some xs
 some_read [] p b = absurd (omega arith)
 some_read (x ∷ xs) p b = read-row x xs b
 

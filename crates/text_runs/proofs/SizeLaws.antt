@@ -9,8 +9,7 @@ use native.Mathlib.Omega.{arith}
 use borrow.Author.Tests.{lt-ltb, le-ltb, le-leb, leb-true, ne_eqb, eqb-false, not-true}
 use lib.Dec.{leb, eqb}
 use Rattle.text_runs.specs.Decimal.{spelled, decimal, is_digit, all_digits, value_of, valued, leads, sized}
-use Rattle.text_runs.specs.declared.number.Size.{Size}
-use Rattle.text_runs.specs.declared.number.Size.TheVariants as Size
+use Rattle.std.specs.Prelude.{Option, Some, None}
 use Rattle.text_runs.proofs.DecimalLaws.{spelled-last, spelled-more, one-or-more, tenth, more_left, decimal-digits}
 
 -- ---- digits behind a number spell no less
@@ -48,7 +47,7 @@ module _ (n : ℕ) (h : n < 10 ^ 20) where
   unfolding decimal leads spelled
   decimal-leads = ⊎_elim (λ e. rw e) (λ p. spelled-leads 20 n [] h (omega arith) p) (eq-zero-or-pos n)
 
-  pub sized-decimal : (limit : ℕ) → n ≤ limit → sized limit (decimal n) ≡ Size.Of n
+  pub sized-decimal : (limit : ℕ) → n ≤ limit → sized limit (decimal n) ≡ Some n
   unfolding sized valued
   sized-decimal limit l = rw (decimal-leads, decimal-digits n, decimal-value, le-leb n limit l)
 
@@ -89,11 +88,11 @@ decimal-again (b ∷ c ∷ cs) l e h =
     let z = eqb-false b 48 (not-true (eqb b 48) l) in
     spelled-again (0 * 10 + (b - 48)) (c ∷ cs) (omega (arith, z)) t.2 h ∙ spelled-last 19 (0 * 10 + (b - 48)) (c ∷ cs) (omega arith) ∙ ap (λ d. d ∷ c ∷ cs) (omega arith)
 
-pub decimal-sized : (limit n : ℕ) (bs : List ℕ) → limit < 10 ^ 19 → sized limit bs ≡ Size.Of n → (decimal n ≡ bs) × (n ≤ limit)
+pub decimal-sized : (limit n : ℕ) (bs : List ℕ) → limit < 10 ^ 19 → sized limit bs ≡ Some n → (decimal n ≡ bs) × (n ≤ limit)
 unfolding sized valued
 decimal-sized limit n bs h e = by-test (leads bs) (all_digits bs) (leb (value_of 0 bs) limit) refl refl refl e
   where
-    by-test : (l d t : Bool) → leads bs ≡ l → all_digits bs ≡ d → leb (value_of 0 bs) limit ≡ t → cond l (cond (d && t) (Size.Of (value_of 0 bs)) Size.Bad) Size.Bad ≡ Size.Of n → (decimal n ≡ bs) × (n ≤ limit)
+    by-test : (l d t : Bool) → leads bs ≡ l → all_digits bs ≡ d → leb (value_of 0 bs) limit ≡ t → cond l (cond (d && t) (Some (value_of 0 bs)) None) None ≡ Some n → (decimal n ≡ bs) × (n ≤ limit)
     by-test true true true p q r e =
         let v : value_of 0 bs ≡ n = cc in
         let w = leb-true (value_of 0 bs) limit r in (rw (← v) (decimal-again bs p q (omega arith)), omega arith)

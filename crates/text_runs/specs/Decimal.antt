@@ -1,10 +1,6 @@
 -- A whole number in decimal, 32 bits signed: document 01, "The text run"; and 64 bits signed: request 2. There is one way to write each number.
 -- Bytes are the codes of ASCII.
-use Rattle.std.specs.Prelude.{Bool, true, false, cond, not, ◌&&◌, List, [], ◌∷◌, ℕ, zero, suc, ◌+◌, ◌-◌, ◌*◌, ◌/◌, ◌%◌, ◌<◌, eqb, ltb, leb, ℤ, pos, negsuc}
-use Rattle.text_runs.specs.declared.number.Size.{Size}
-use Rattle.text_runs.specs.declared.number.Field.{Field}
-use Rattle.text_runs.specs.declared.number.Size.TheVariants as Size
-use Rattle.text_runs.specs.declared.number.Field.TheVariants as Field
+use Rattle.std.specs.Prelude.{Bool, true, false, cond, not, ◌&&◌, List, [], ◌∷◌, ℕ, zero, suc, ◌+◌, ◌-◌, ◌*◌, ◌/◌, ◌%◌, ◌<◌, eqb, ltb, leb, ℤ, pos, negsuc, Option, Some, None}
 
 -- '0', '9' and '-'
 abbrev pub digit_zero : ℕ
@@ -44,8 +40,8 @@ value_of n [] = n
 value_of n (b ∷ bs) = value_of (n * 10 + (b - digit_zero)) bs
 
 -- up to a limit
-unfoldable pub valued : ℕ → ℕ → List ℕ → Size
-valued limit n bs = cond (all_digits bs && leb (value_of n bs) limit) (Size.Of (value_of n bs)) Size.Bad
+unfoldable pub valued : ℕ → ℕ → List ℕ → Option ℕ
+valued limit n bs = cond (all_digits bs && leb (value_of n bs) limit) (Some (value_of n bs)) None
 
 -- at least one digit, and a '0' in front of no other digit
 unfoldable pub leads : List ℕ → Bool
@@ -53,22 +49,22 @@ leads [] = false
 leads (b ∷ []) = true
 leads (b ∷ c ∷ bs) = not (eqb b digit_zero)
 
-unfoldable pub sized : ℕ → List ℕ → Size
-sized limit bs = cond (leads bs) (valued limit 0 bs) Size.Bad
+unfoldable pub sized : ℕ → List ℕ → Option ℕ
+sized limit bs = cond (leads bs) (valued limit 0 bs) None
 
 -- a number behind a minus sign: `-0` is none
-unfoldable pub negative : Size → Field
-negative (Size.Of zero) = Field.Bad
-negative (Size.Of (suc n)) = Field.Number (negsuc n)
-negative Size.Bad = Field.Bad
+unfoldable pub negative : Option ℕ → Option ℤ
+negative (Some zero) = None
+negative (Some (suc n)) = Some (negsuc n)
+negative None = None
 
-unfoldable pub positive : Size → Field
-positive (Size.Of n) = Field.Number (pos n)
-positive Size.Bad = Field.Bad
+unfoldable pub positive : Option ℕ → Option ℤ
+positive (Some n) = Some (pos n)
+positive None = None
 
 -- signed, where `limit` is the size of the least
-unfoldable pub signed_in : ℕ → List ℕ → Field
-signed_in limit [] = Field.Bad
+unfoldable pub signed_in : ℕ → List ℕ → Option ℤ
+signed_in limit [] = None
 signed_in limit (b ∷ bs) = cond (eqb b minus_sign) (negative (sized limit bs)) (positive (sized (limit - 1) (b ∷ bs)))
 
 -- 32 bits, and 64
@@ -78,10 +74,10 @@ least32 = 2147483648
 abbrev pub least64 : ℕ
 least64 = 9223372036854775808
 
-unfoldable pub number_in : List ℕ → Field
+unfoldable pub number_in : List ℕ → Option ℤ
 number_in bs = signed_in least32 bs
 
-unfoldable pub total_in : List ℕ → Field
+unfoldable pub total_in : List ℕ → Option ℤ
 total_in bs = signed_in least64 bs
 
 -- a number of so many bits, and a list of numbers of 32 bits

@@ -1,11 +1,8 @@
 -- One line of a text run, and the end of its input: document 01, "The text run".
-use Rattle.std.specs.Prelude.{Bool, cond, ◌&&◌, List, [], ◌∷◌, ◌++◌, ℕ, eqb, leb, ℤ, pos, negsuc, length}
-use Rattle.std.proofs.Math.Option.{Option, none, some}
+use Rattle.std.specs.Prelude.{Bool, cond, ◌&&◌, List, [], ◌∷◌, ◌++◌, ℕ, eqb, leb, ℤ, pos, negsuc, length, Option, Some, None}
 use Rattle.integers.specs.Vectors.{alike}
 use Rattle.runs.specs.Gate as Gate
 use Rattle.runs.specs.Forward.{started}
-use Rattle.text_runs.specs.declared.number.Field.{Field}
-use Rattle.text_runs.specs.declared.number.Field.TheVariants as Field
 use Rattle.text_runs.specs.Decimal.{decimal, number_in}
 use Rattle.text_runs.specs.Lines.{line_feed, numbers_in, end_total}
 use Rattle.text_runs.specs.declared.state.Phase.{Phase}
@@ -26,10 +23,10 @@ bad_form state = refused state (13, 0)
 unfoldable pub width_started : State → ℕ → LineResult
 width_started state N = cond (eqb (started N).0.0 0) (with_run Between (started N).1 state, decimal N ++ line_feed ∷ []) (refused state (started N).0)
 
-unfoldable pub width_taken : State → Field → LineResult
-width_taken state (Field.Number (pos N)) = width_started state N
-width_taken state (Field.Number (negsuc n)) = refused state (1, 0)
-width_taken state Field.Bad = bad_form state
+unfoldable pub width_taken : State → Option ℤ → LineResult
+width_taken state (Some (pos N)) = width_started state N
+width_taken state (Some (negsuc n)) = refused state (1, 0)
+width_taken state None = bad_form state
 
 -- a line with a block or a frame
 unfoldable pub row_given : State → Gate.CallResult → LineResult
@@ -37,13 +34,13 @@ row_given state given =
     cond (eqb given.0.0 0) (with_run Between given.1 state, shown_row state.way state.run given.2) (refused state given.0)
 
 unfoldable pub row_taken : State → Option (List ℤ) → LineResult
-row_taken state none = bad_form state
-row_taken state (some xs) = row_given state (taken_by state.way state.run xs (lent_output state.run))
+row_taken state None = bad_form state
+row_taken state (Some xs) = row_given state (taken_by state.way state.run xs (lent_output state.run))
 
 -- such a line, or the end line with the right count, whose total is kept
-unfoldable pub between_by : State → List ℕ → Field → LineResult
-between_by state bytes (Field.Number total) = (in_phase (Ended total) state, [])
-between_by state bytes Field.Bad = row_taken state (numbers_in bytes)
+unfoldable pub between_by : State → List ℕ → Option ℤ → LineResult
+between_by state bytes (Some total) = (in_phase (Ended total) state, [])
+between_by state bytes None = row_taken state (numbers_in bytes)
 
 unfoldable pub between_taken : State → List ℕ → LineResult
 between_taken state bytes = between_by state bytes (end_total state.run.count bytes)

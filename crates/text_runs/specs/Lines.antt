@@ -1,8 +1,5 @@
 -- The lines of a text run: document 01, "The text run".
-use Rattle.std.specs.Prelude.{Bool, true, false, cond, ◌&&◌, List, [], ◌∷◌, ◌++◌, ℕ, eqb, ℤ, pos, negsuc, take, drop}
-use Rattle.std.proofs.Math.Option.{Option, none, some}
-use Rattle.text_runs.specs.declared.number.Field.{Field}
-use Rattle.text_runs.specs.declared.number.Field.TheVariants as Field
+use Rattle.std.specs.Prelude.{Bool, true, false, cond, ◌&&◌, List, [], ◌∷◌, ◌++◌, ℕ, eqb, ℤ, pos, negsuc, take, drop, Option, Some, None}
 use Rattle.text_runs.specs.Decimal.{decimal, printed, number_in, total_in}
 
 abbrev pub comma : ℕ
@@ -47,13 +44,13 @@ fields [] = [] ∷ []
 fields (b ∷ bs) = cond (eqb b comma) ([] ∷ fields bs) (longer b (fields bs))
 
 -- the numbers of all fields, if each is one
-unfoldable pub number_in_front : Field → Option (List ℤ) → Option (List ℤ)
-number_in_front (Field.Number x) (some xs) = some (x ∷ xs)
-number_in_front (Field.Number x) none = none
-number_in_front Field.Bad rest = none
+unfoldable pub number_in_front : Option ℤ → Option (List ℤ) → Option (List ℤ)
+number_in_front (Some x) (Some xs) = Some (x ∷ xs)
+number_in_front (Some x) None = None
+number_in_front None rest = None
 
 unfoldable pub all_numbers : List (List ℕ) → Option (List ℤ)
-all_numbers [] = some []
+all_numbers [] = Some []
 all_numbers (field ∷ rest) = number_in_front (number_in field) (all_numbers rest)
 
 unfoldable pub numbers_in : List ℕ → Option (List ℤ)
@@ -73,16 +70,16 @@ same (x ∷ xs) (y ∷ ys) = eqb x y && same xs ys
 
 -- ---- the end line, read behind this count of lines between: its total. The tag is compared; behind it stand the right count and a number of 64
 -- bits, and nothing else. Any other line has none.
-unfoldable pub is_count : ℕ → Field → Bool
-is_count count (Field.Number (pos n)) = eqb n count
-is_count count (Field.Number (negsuc n)) = false
-is_count count Field.Bad = false
+unfoldable pub is_count : ℕ → Option ℤ → Bool
+is_count count (Some (pos n)) = eqb n count
+is_count count (Some (negsuc n)) = false
+is_count count None = false
 
-unfoldable pub count_and_total : ℕ → List (List ℕ) → Field
-count_and_total count [] = Field.Bad
-count_and_total count (first ∷ []) = Field.Bad
-count_and_total count (first ∷ second ∷ []) = cond (is_count count (number_in first)) (total_in second) Field.Bad
-count_and_total count (first ∷ second ∷ third ∷ rest) = Field.Bad
+unfoldable pub count_and_total : ℕ → List (List ℕ) → Option ℤ
+count_and_total count [] = None
+count_and_total count (first ∷ []) = None
+count_and_total count (first ∷ second ∷ []) = cond (is_count count (number_in first)) (total_in second) None
+count_and_total count (first ∷ second ∷ third ∷ rest) = None
 
-unfoldable pub end_total : ℕ → List ℕ → Field
-end_total count bytes = cond (same (take 4 bytes) end_tag) (count_and_total count (fields (drop 4 bytes))) Field.Bad
+unfoldable pub end_total : ℕ → List ℕ → Option ℤ
+end_total count bytes = cond (same (take 4 bytes) end_tag) (count_and_total count (fields (drop 4 bytes))) None

@@ -1,7 +1,6 @@
 -- Numbers, lines and whole inputs at width 8, computed on the definitions: what is printed for each, and how each is refused. The frames
 -- are those of `runs/specs/Samples`.
-use Rattle.std.specs.Prelude.{◌≡◌, refl, true, false, List, [], ◌∷◌, map, ℕ, ℤ, pos, neg_ℤ, length}
-use Rattle.std.proofs.Math.Option.{none, some}
+use Rattle.std.specs.Prelude.{◌≡◌, refl, true, false, List, [], ◌∷◌, map, ℕ, ℤ, pos, neg_ℤ, length, Option, Some, None}
 use Prim.Native.String.{String}
 use Rattle.std.proofs.Common.{arith}
 use Rattle.integers.specs.Floor.{round, floor_div}
@@ -17,9 +16,6 @@ use Rattle.runs.specs.Gate.{ask, ask_each, nothing, inside, all_yes, blocks_behi
 use Rattle.runs.specs.Forward.{started, frame_on, taken_in, taken, ended}
 use Rattle.runs.specs.Calls.{block_at, block_before, frame_at}
 use Rattle.runs.specs.Back.{framed, block_on, first_upper, first_frame, later_frame, unfolded_in, undone_in, taken_back, first_held, ended_back}
-use Rattle.text_runs.specs.declared.number.Field.{Field}
-use Rattle.text_runs.specs.declared.number.Size.TheVariants as Size
-use Rattle.text_runs.specs.declared.number.Field.TheVariants as Field
 use Rattle.text_runs.specs.declared.state.Way.{Way}
 use Rattle.text_runs.specs.declared.state.Phase.{Phase}
 use Rattle.text_runs.specs.declared.state.State.{State}
@@ -58,12 +54,12 @@ unfolding bytes printed decimal spelled
 numbers-printed = refl
 
 numbers-read : Said
-    ((number_in (bytes "0"), Field.Number (pos 0))
-    ∷ (number_in (bytes "9"), Field.Number (pos 9))
-    ∷ (number_in (bytes "-1"), Field.Number (less 1))
-    ∷ (number_in (bytes "-30507"), Field.Number (less 30507))
-    ∷ (number_in (bytes "2147483647"), Field.Number (pos 2147483647))
-    ∷ (number_in (bytes "-2147483648"), Field.Number (less 2147483648))
+    ((number_in (bytes "0"), Some (pos 0))
+    ∷ (number_in (bytes "9"), Some (pos 9))
+    ∷ (number_in (bytes "-1"), Some (less 1))
+    ∷ (number_in (bytes "-30507"), Some (less 30507))
+    ∷ (number_in (bytes "2147483647"), Some (pos 2147483647))
+    ∷ (number_in (bytes "-2147483648"), Some (less 2147483648))
     ∷ [])
 unfolding bytes number_in signed_in negative positive sized leads valued value_of all_digits is_digit
 numbers-read = refl
@@ -72,14 +68,14 @@ numbers-read = refl
 abbrev no_numbers : List String
 no_numbers = "" ∷ "-" ∷ "--1" ∷ "+1" ∷ "-0" ∷ "00" ∷ "01" ∷ "-01" ∷ "2147483648" ∷ "-2147483649" ∷ " 1" ∷ "1 " ∷ "1\r" ∷ "1/" ∷ "1:" ∷ "x" ∷ []
 
-numbers-refused : map (λ text. number_in (bytes text)) no_numbers ≡ map (λ text. Field.Bad) no_numbers
+numbers-refused : map (λ text. number_in (bytes text)) no_numbers ≡ map (λ text. None) no_numbers
 unfolding bytes number_in signed_in negative positive sized leads valued value_of all_digits is_digit
 numbers-refused = refl
 
 -- the same at 64 bits
 totals-read : Said
-    ((total_in (bytes "9223372036854775807"), Field.Number (pos 9223372036854775807))
-    ∷ (total_in (bytes "-9223372036854775808"), Field.Number (less 9223372036854775808))
+    ((total_in (bytes "9223372036854775807"), Some (pos 9223372036854775807))
+    ∷ (total_in (bytes "-9223372036854775808"), Some (less 9223372036854775808))
     ∷ [])
 unfolding bytes total_in signed_in negative positive sized leads valued value_of all_digits is_digit
 totals-read = refl
@@ -87,12 +83,12 @@ totals-read = refl
 abbrev no_totals : List String
 no_totals = "" ∷ "+1" ∷ "-0" ∷ "01" ∷ "9223372036854775808" ∷ "-9223372036854775809" ∷ []
 
-totals-refused : map (λ text. total_in (bytes text)) no_totals ≡ map (λ text. Field.Bad) no_totals
+totals-refused : map (λ text. total_in (bytes text)) no_totals ≡ map (λ text. None) no_totals
 unfolding bytes total_in signed_in negative positive sized leads valued value_of all_digits is_digit
 totals-refused = refl
 
 -- digits up to a limit: at least one
-digits-sized : sized 9 (bytes "") ∷ sized 9 (bytes "9") ∷ sized 9 (bytes "10") ∷ [] ≡ Size.Bad ∷ Size.Of 9 ∷ Size.Bad ∷ []
+digits-sized : sized 9 (bytes "") ∷ sized 9 (bytes "9") ∷ sized 9 (bytes "10") ∷ [] ≡ None ∷ Some 9 ∷ None ∷ []
 unfolding bytes sized leads valued value_of all_digits is_digit
 digits-sized = refl
 
@@ -117,14 +113,14 @@ unfolding bytes behind_commas row printed decimal spelled end_line end_tag refus
 lines-printed = refl
 
 lines-read : Said
-    ((numbers_in (bytes "-7"), some (less 7 ∷ []))
-    ∷ (numbers_in (bytes "1,-20,0"), some (pos 1 ∷ less 20 ∷ pos 0 ∷ []))
-    ∷ (numbers_in (bytes ""), none)
-    ∷ (numbers_in (bytes "1,"), none)
-    ∷ (numbers_in (bytes ",1"), none)
-    ∷ (numbers_in (bytes "1,,2"), none)
-    ∷ (numbers_in (bytes "1;2"), none)
-    ∷ (numbers_in (bytes "1,x,2"), none)
+    ((numbers_in (bytes "-7"), Some (less 7 ∷ []))
+    ∷ (numbers_in (bytes "1,-20,0"), Some (pos 1 ∷ less 20 ∷ pos 0 ∷ []))
+    ∷ (numbers_in (bytes ""), None)
+    ∷ (numbers_in (bytes "1,"), None)
+    ∷ (numbers_in (bytes ",1"), None)
+    ∷ (numbers_in (bytes "1,,2"), None)
+    ∷ (numbers_in (bytes "1;2"), None)
+    ∷ (numbers_in (bytes "1,x,2"), None)
     ∷ [])
 unfolding bytes is_digit all_digits value_of valued leads sized negative positive signed_in number_in longer fields number_in_front all_numbers numbers_in
 lines-read = refl
@@ -143,8 +139,8 @@ lines-compared = refl
 
 -- the end line behind two lines between: its total
 ends_read : Said
-    ((end_total 2 (bytes "end,2,100"), Field.Number (pos 100))
-    ∷ (end_total 2 (bytes "end,2,-9223372036854775808"), Field.Number (less 9223372036854775808))
+    ((end_total 2 (bytes "end,2,100"), Some (pos 100))
+    ∷ (end_total 2 (bytes "end,2,-9223372036854775808"), Some (less 9223372036854775808))
     ∷ [])
 unfolding bytes end_tag same longer fields is_digit all_digits value_of valued leads sized negative positive signed_in number_in total_in is_count count_and_total end_total
 ends_read = refl
@@ -153,7 +149,7 @@ ends_read = refl
 abbrev no_ends : List String
 no_ends = "" ∷ "end" ∷ "fnd,2,100" ∷ "end2,100" ∷ "end,1,100" ∷ "end,02,100" ∷ "end,-2,100" ∷ "end,2" ∷ "end,2," ∷ "end,2,100," ∷ "end,2,100,1" ∷ "end,2,0100" ∷ "end,2,-0" ∷ "end,2,+1" ∷ "end,2,9223372036854775808" ∷ []
 
-ends-refused : map (λ text. end_total 2 (bytes text)) no_ends ≡ map (λ text. Field.Bad) no_ends
+ends-refused : map (λ text. end_total 2 (bytes text)) no_ends ≡ map (λ text. None) no_ends
 unfolding bytes end_tag same longer fields is_digit all_digits value_of valued leads sized negative positive signed_in number_in total_in is_count count_and_total end_total
 ends-refused = refl
 

@@ -6,14 +6,14 @@ use runs::record::Run;
 use runs::{limits, record};
 
 // The way a run goes: readings to frames, or frames to readings.
-#[derive(Clone, Copy)]
+#[derive(Clone, Copy, PartialEq, Eq)]
 pub enum Way {
     Forward,
     Back,
 }
 
 // What the next line is. Behind the end line the total that it states is kept until the input has ended.
-#[derive(Clone, Copy)]
+#[derive(Clone, Copy, PartialEq, Eq)]
 pub enum Phase {
     First,
     Between,
@@ -28,7 +28,8 @@ pub struct State {
     pub run: Run,
 }
 
-// The state after a line, and the bytes to print: the first `length` of `text`.
+// The state after a line, and the bytes to print: the first `length` of `text`. The length stands beside the buffer, since nothing is on the
+// heap and the paper prints into 2,048 bytes.
 #[derive(Clone, Copy)]
 pub struct Printed {
     pub state: State,
@@ -42,37 +43,33 @@ pub fn begin(way: Way) -> State
 {
     let held = record::nothing_held();
     State {
-        way: way,
+        way,
         phase: Phase::First,
         run: record::make(0, 0, held, false, 0),
     }
 }
 
 // The same way on, with another phase and record.
+#[tactic(auto, unfolding(crate::specs::State::with_run))]
 pub fn with_run(state: State, phase: Phase, run: Run) -> State
     ensures { result ≡ with_run phase run state }
 {
-    let way = state.way;
     State {
-        way: way,
-        phase: phase,
-        run: run,
+        phase,
+        run,
+        ..state
     }
 }
 
 // Whether anything is still to be printed.
+#[tactic(auto, unfolding(crate::specs::State::is_going_on))]
 pub fn goes_on(state: State) -> bool
     ensures { result ≡ is_going_on state.phase }
 {
-    let phase = state.phase;
-    match phase {
-        Phase::First => true,
-        Phase::Between => true,
-        Phase::Ended(_) => true,
-        Phase::Over => false,
-    }
+    !matches!(state.phase, Phase::Over)
 }
 
+#[tactic(auto, unfolding(crate::specs::State::line_between))]
 fn line_between(count: usize) -> usize
     ensures { result ≡ line_between count }
 {
@@ -83,15 +80,12 @@ fn line_between(count: usize) -> usize
 }
 
 // The line that a refusal names.
+#[tactic(auto, unfolding(crate::specs::State::line_number))]
 pub fn line_number(state: State) -> usize
     ensures { result ≡ line_number state.phase state.run }
 {
-    let phase = state.phase;
-    let run = state.run;
-    match phase {
+    match state.phase {
         Phase::First => 1,
-        Phase::Between => line_between(run.count),
-        Phase::Ended(_) => line_between(run.count),
-        Phase::Over => line_between(run.count),
+        Phase::Between | Phase::Ended(_) | Phase::Over => line_between(state.run.count),
     }
 }

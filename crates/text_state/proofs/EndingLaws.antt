@@ -1,8 +1,9 @@
 -- The ending that a last line tells.
-use mathlib.Core.Path.{◌≡◌, refl}
+use mathlib.Core.Path.{◌≡◌, refl, sym, ap, ◌∙◌}
+use mathlib.Core.Logic.{◌⊎◌, ⊎_elim}
 use mathlib.Core.Bool.{true, false, cond}
 use mathlib.Core.List.{List, [], ◌∷◌, ◌++◌}
-use mathlib.Core.Option.{Option, none, some}
+use Rattle.std.specs.Prelude.{Option, None, Some}
 use Prim.Native.Nat.{ℕ, ◌≤◌, ◌<◌}
 use native.Mathlib.Omega.{arith}
 use borrow.Author.Tests.{ne_eqb}
@@ -12,36 +13,34 @@ use lib.Seq.{take_all, get_or-take, length-take-le}
 use Rattle.text_runs.specs.Lines.{line_feed, refused_tag, numbers_in, up_to, same}
 use Rattle.text_runs.specs.declared.state.Phase.{Phase}
 use Rattle.text_runs.specs.State.{is_going_on}
-use Rattle.decimal.proofs.CompareLaws.{same_length}
+use Rattle.decimal.proofs.CompareLaws.{pointwise-same}
+use Rattle.std.specs.Cmp.Lexicographic.{pointwise}
+use lib.Dec.{eqb}
 use Rattle.feeding.specs.declared.session.Ending.{Ending}
 use Rattle.feeding.specs.declared.session.Ending.TheVariants.{Open, Whole, Refused}
-use Rattle.feeding.specs.Ending.{refused_by, last_said, ending_after}
+use Rattle.feeding.specs.Ending.{refused_by, last_said, ending_after, ending_line}
 
 pub refused_as : {a b c a' b' c' : ℤ} → a ≡ a' → b ≡ b' → c ≡ c' → Refused a b c ≡ Refused a' b' c'
 refused_as p q r = cc
 
 module _ (n : ℕ) (xs : List ℤ) (h : n ≤ length xs) where
-  pub by_three : n ≡ 3 → refused_by (some (take n xs)) ≡ Refused (get_or xs 0 (pos 0)) (get_or xs 1 (pos 0)) (get_or xs 2 (pos 0))
+  pub by_three : n ≡ 3 → refused_by (Some (take n xs)) ≡ Refused (get_or xs 0 (pos 0)) (get_or xs 1 (pos 0)) (get_or xs 2 (pos 0))
   unfolding refused_by
   by_three e =
       rw (e, length-take-le 3 xs (omega arith), get_or-take 3 xs 0 (pos 0) (omega arith), get_or-take 3 xs 1 (pos 0) (omega arith), get_or-take 3 xs 2 (pos 0) (omega arith))
 
-  pub by-others : (n ≡ 3 → ⊥) → refused_by (some (take n xs)) ≡ Whole
+  pub by-others : (n ≡ 3 → ⊥) → refused_by (Some (take n xs)) ≡ Whole
   unfolding refused_by
   by-others e = rw (length-take-le n xs h, ne_eqb n 3 e)
 
 module _ (bytes : List ℕ) where
-  pub said-short : length bytes < 8 → last_said bytes ≡ Whole
-  unfolding last_said refused_tag
-  said-short h = rw (take_all 8 bytes (omega arith), same_length bytes refused_tag (λ e. omega arith))
-
-  pub said-other : same (take 8 bytes) refused_tag ≡ false → last_said bytes ≡ Whole
+  pub said-other : pointwise eqb (take 8 bytes) refused_tag ≡ false → Whole ≡ last_said bytes
   unfolding last_said
-  said-other e = rw e
+  said-other e = rw (sym (pointwise-same (take 8 bytes) refused_tag) ∙ e)
 
-  pub said-refused : same (take 8 bytes) refused_tag ≡ true → last_said bytes ≡ refused_by (numbers_in (up_to line_feed (drop 8 bytes)))
+  pub said-refused : pointwise eqb (take 8 bytes) refused_tag ≡ true → refused_by (numbers_in (up_to line_feed (drop 8 bytes))) ≡ last_said bytes
   unfolding last_said
-  said-refused e = rw e
+  said-refused e = rw (sym (pointwise-same (take 8 bytes) refused_tag) ∙ e)
 
 pub told_none : (before : Ending) (phase : Phase) (bytes : List ℕ) → length bytes ≡ 0 → ending_after before phase bytes ≡ before
 unfolding ending_after
@@ -57,3 +56,7 @@ pub told-last : (before : Ending) (phase : Phase) (bytes : List ℕ) → (length
 unfolding ending_after
 told-last before phase [] h e = absurd (h refl)
 told-last before phase (b ∷ bs) h e = rw e
+
+pub line_none : {ending : Ending} → (ending ≡ Open) ⊎ (ending ≡ Whole) → [] ≡ ending_line ending
+unfolding ending_line
+line_none = ⊎_elim (λ e. sym (ap ending_line e)) (λ e. sym (ap ending_line e))

@@ -1,26 +1,23 @@
 -- What the code answers, as the definitions give it.
-use mathlib.Core.Path.{◌≡◌, refl, sym, ap, ap₂, ◌∙◌}
-use mathlib.Core.Logic.{⊎_elim}
-use mathlib.Core.Bool.{true, false, cond}
+use Rattle.std.specs.Prelude.{Ok, Err}
+use mathlib.Core.Path.{◌≡◌, refl, ap, ap₂}
+use mathlib.Core.Bool.{false}
 use mathlib.Core.List.{List, [], ◌∷◌, ◌++◌}
 use Prim.Native.Nat.{ℕ}
-use native.Mathlib.Omega.{arith}
-use borrow.Author.Tests.{eq-eqb, ne_eqb, eqb-true, eqb-false}
 use lib.Dec.{eqb}
 use lib.IntN.{ℤ}
 use lib.ListN.{take}
-use Rattle.integers.specs.Vectors.{alike}
-use Rattle.runs.specs.declared.answer.Answer.{Answer}
-use Rattle.runs.specs.declared.answer.Answer.TheVariants as Answer
-use Rattle.runs.specs.Answers.{told}
-use Rattle.runs.specs.Gate.{CallResult}
+use Rattle.integers.proofs.Sums.{alike_refl, alike-other}
+use Rattle.runs.specs.Answers.{Answer, told}
+use Rattle.runs.specs.declared.answer.Refusal.{Refusal}
+use Rattle.runs.specs.declared.answer.Refusal.TheVariants.{Width, Record, Closed, Full, Empty, InputLength, OutputLength, DeadMark, Range, Folded, Halves, Unfolded}
+use Rattle.runs.specs.declared.record.Run.{Run}
 use Rattle.text_runs.specs.Lines.{line_feed, refusal}
 use Rattle.text_runs.specs.declared.state.State.{State}
-use Rattle.text_runs.specs.declared.state.Phase.TheVariants.{Over}
-use Rattle.text_runs.specs.State.{LineResult, result_of, in_phase, with_run, line_number, refused}
-use Rattle.text_runs.specs.Way.{shown_last}
-use Rattle.text_runs.specs.Line.{total_asked, finish_given}
-use Rattle.text_runs.proofs.UpToLaws.{tested}
+use Rattle.text_runs.specs.declared.state.Phase.TheVariants.{Between, Over}
+use Rattle.text_runs.specs.State.{result_of, in_phase, with_run, line_number, refused}
+use Rattle.text_runs.specs.Way.{shown_row, shown_last}
+use Rattle.text_runs.specs.Line.{row_given, total_asked, finish_given}
 
 pub given-text : (s t : State) (n : ℕ) (text after : List ℕ) → s ≡ t → take n after ≡ text → result_of (record { state = s; text = after; length = n }) ≡ (t, text)
 unfolding result_of
@@ -31,62 +28,39 @@ pub refused-by : (s : State) (number line place : ℕ) → line ≡ line_number 
 unfolding refused in_phase with_run
 refused-by s number line place e = ap (λ n. (with_run Over s.run s, refusal number n place ++ (line_feed ∷ []))) e
 
--- ---- work done names no place
-pub done-placed : (answer : Answer) → (told answer).0 ≡ 0 → (told answer).1 ≡ 0
+-- ---- a refusal has a number
+pub told-not : (r : Refusal) → eqb (told (Err r)).0 0 ≡ false
 unfolding told
-done-placed Answer.Done e = refl
-done-placed Answer.Width e = absurd (omega (arith, e))
-done-placed Answer.Record e = absurd (omega (arith, e))
-done-placed Answer.Closed e = absurd (omega (arith, e))
-done-placed Answer.Full e = absurd (omega (arith, e))
-done-placed Answer.Empty e = absurd (omega (arith, e))
-done-placed Answer.InputLength e = absurd (omega (arith, e))
-done-placed Answer.OutputLength e = absurd (omega (arith, e))
-done-placed (Answer.DeadMark i) e = absurd (omega (arith, e))
-done-placed (Answer.Range i) e = absurd (omega (arith, e))
-done-placed (Answer.Folded i) e = absurd (omega (arith, e))
-done-placed (Answer.Halves i) e = absurd (omega (arith, e))
-done-placed (Answer.Unfolded i) e = absurd (omega (arith, e))
+told-not Width = refl
+told-not Record = refl
+told-not Closed = refl
+told-not Full = refl
+told-not Empty = refl
+told-not InputLength = refl
+told-not OutputLength = refl
+told-not (DeadMark i) = refl
+told-not (Range i) = refl
+told-not (Folded i) = refl
+told-not (Halves i) = refl
+told-not (Unfolded i) = refl
 
--- ---- a finish is refused by the gate, or behind it by the total
-module _ (s : State) (stated : ℤ) (given : CallResult) (number : ℕ) (e : number ≡ cond (eqb given.0.0 0) (cond (alike stated s.run.total) 0 16) given.0.0) where
-  by-gate : eqb given.0.0 0 ≡ false → number ≡ given.0.0
-  by-gate w = e ∙ rw w
+module _ (s : State) (run : Run) (out : List ℤ) where
+  pub row-refused : {answer : Answer} (r : Refusal) → answer ≡ Err r → refused s (told (Err r)) ≡ row_given s (told answer, run, out)
+  unfolding row_given
+  row-refused r e = rw (e, told-not r)
 
-  by_total : {n : ℕ} → eqb given.0.0 0 ≡ true → cond (alike stated s.run.total) 0 16 ≡ n → number ≡ n
-  by_total w a = e ∙ rw w a
+  pub row-done : {answer : Answer} → answer ≡ Ok tt → (with_run Between run s, shown_row s.way s.run out) ≡ row_given s (told answer, run, out)
+  unfolding row_given told
+  row-done e = rw e
 
-  refused-16 : eqb given.0.0 0 ≡ true → alike stated s.run.total ≡ false → refused s (16, 0) ≡ finish_given s stated given
-  unfolding finish_given total_asked
-  refused-16 w a = rw (w, a)
-
-  pub finish-refused : (given.0.0 ≡ 0 → given.0.1 ≡ 0) → (number ≡ 0 → ⊥) → refused s (number, given.0.1) ≡ finish_given s stated given
+  pub finish-refused : {answer : Answer} (stated : ℤ) (r : Refusal) → answer ≡ Err r → refused s (told (Err r)) ≡ finish_given s stated (told answer, run, out)
   unfolding finish_given
-  finish-refused none z =
-      ⊎_elim
-      (λ w.
-      ⊎_elim (λ a. absurd (z (by_total w (rw a))))
-      (λ a. ap₂ (λ (n p : ℕ). refused s (n, p)) (by_total w (rw a)) (none (eqb-true given.0.0 0 w)) ∙ refused-16 w a)
-      (tested (alike stated s.run.total)))
-      (λ w. rw (by-gate w, w))
-      (tested (eqb given.0.0 0))
+  finish-refused stated r e = rw (e, told-not r)
 
-  pub finish-works : number ≡ 0 → (given.0.0 ≡ 0) × (alike stated s.run.total ≡ true)
-  finish-works z =
-      ⊎_elim
-      (λ w.
-      ⊎_elim (λ a. (eqb-true given.0.0 0 w, a)) (λ a. let n : number ≡ 16 = by_total w (rw a) in absurd (omega (arith, n, z))) (tested (alike stated s.run.total)))
-      (λ w. absurd (eqb-false given.0.0 0 w (sym (by-gate w) ∙ z)))
-      (tested (eqb given.0.0 0))
+  pub finish-other : {answer : Answer} (stated : ℤ) → answer ≡ Ok tt → (stated ≡ s.run.total → ⊥) → refused s (16, 0) ≡ finish_given s stated (told answer, run, out)
+  unfolding finish_given told total_asked
+  finish-other stated e n = rw (e, alike-other stated s.run.total n)
 
-  pub finish-whole : number ≡ 0 → (with_run Over given.1 s, shown_last s.way s.run given.2) ≡ finish_given s stated given
-  unfolding finish_given total_asked
-  finish-whole z = let w = finish-works z in rw (eq-eqb given.0.0 0 w.0, w.1)
-
--- ---- an answer's number decides
-module _ (n : ℕ) (yes no : LineResult) where
-  pub works : n ≡ 0 → yes ≡ cond (eqb n 0) yes no
-  works e = rw (eq-eqb n 0 e)
-
-  pub works-not : (n ≡ 0 → ⊥) → no ≡ cond (eqb n 0) yes no
-  works-not e = rw (ne_eqb n 0 e)
+  pub finish-done : {answer : Answer} (stated : ℤ) → answer ≡ Ok tt → stated ≡ s.run.total → (with_run Over run s, shown_last s.way s.run out) ≡ finish_given s stated (told answer, run, out)
+  unfolding finish_given told total_asked
+  finish-done stated e n = rw (e, n, alike_refl s.run.total)

@@ -5,8 +5,7 @@ ghost use Rattle.text_runs.specs.Lines.{numbers_in};
 ghost use Rattle.feeding.specs.Ending.{refused_by, last_said, ending_after, ending_line};
 
 use crate::lines;
-use decimal::read::Fields;
-use decimal::{compare, print, read, search};
+use decimal::{print, read, search};
 use feeding::session::Ending;
 use text_runs::state;
 use text_runs::state::State;
@@ -17,28 +16,21 @@ fn refused_by(line: &[u8]) -> Ending
     ensures { result ≡ refused_by (numbers_in line.now) }
 {
     let mut numbers = [0i32; 1024];
-    let fields = read::numbers(line, &mut numbers);
-    let Fields::Numbers(n) = fields else {
-        return Ending::Whole;
-    };
-    if n != 3 {
-        return Ending::Whole;
+    match read::numbers(line, &mut numbers) {
+        Some(3) => Ending::Refused(numbers[0], numbers[1], numbers[2]),
+        _ => Ending::Whole,
     }
-    Ending::Refused(numbers[0], numbers[1], numbers[2])
 }
 
 fn last_said(text: &[u8]) -> Ending
     requires { length text.now ≤ 2048 }
     ensures { result ≡ last_said text.now }
 {
-    if text.len() < 8 {
+    let Some(rest) = text.strip_prefix(b"refused,") else {
         return Ending::Whole;
-    }
-    if !compare::same(&text[..8], b"refused,") {
-        return Ending::Whole;
-    }
-    let end = search::end_of(text, 8, b'\n');
-    refused_by(&text[8..end])
+    };
+    let end = search::end_of(rest, 0, b'\n');
+    refused_by(&rest[..end])
 }
 
 // The ending after a line that was printed, and the state that it left.
@@ -61,8 +53,7 @@ pub fn refusal_line(ending: Ending, text: &mut [u8]) -> usize
     ensures { Put 0 text.old (ending_line ending) result text.new × (result ≤ 64) }
 {
     match ending {
-        Ending::Open => 0,
-        Ending::Whole => 0,
+        Ending::Open | Ending::Whole => 0,
         Ending::Refused(number, line, place) => {
             let numbers = [number, line, place];
             let n = print::bytes(text, 0, b"refused,");

@@ -31,6 +31,7 @@ fn last_line(text: &mut [u8], at: usize, count: usize, total: i64) -> usize
 }
 
 // Back, the first frame only starts the run.
+#[tactic(auto, unfolding(text_runs::specs::Way::shown_row))]
 fn shown_block(run: Run, out: &[i32], text: &mut [u8]) -> usize
     requires { 12 * length out.now + 1 ≤ length text.old }
     ensures { (take result text.new ≡ shown_row Back run out.now) × (result ≤ length text.old) }
@@ -52,19 +53,18 @@ fn shown_row(way: Way, run: Run, out: &[i32], text: &mut [u8]) -> usize
     }
 }
 
-// For the finish, where the total is the run's.
-fn shown_last(way: Way, run: Run, total: i64, out: &[i32], text: &mut [u8]) -> usize
+// For the finish.
+fn shown_last(way: Way, run: Run, out: &[i32], text: &mut [u8]) -> usize
     requires out_in_bounds { 12 * length out.now + 47 ≤ length text.old }
     requires closing { Closing way run.count }
-    requires total_value { total ≡ run.total }
     ensures { (take result text.new ≡ shown_last way run out.now) × (result ≤ length text.old) }
 {
     match way {
         Way::Forward => {
             let n = row_line(text, 0, out);
-            last_line(text, n, run.count + 1, total)
+            last_line(text, n, run.count + 1, run.total)
         }
-        Way::Back => last_line(text, 0, run.count - 1, total),
+        Way::Back => last_line(text, 0, run.count - 1, run.total),
     }
 }
 
@@ -74,19 +74,15 @@ pub fn given_row(state: State, outcome: Outcome, out: &[i32]) -> Printed
     ensures result_value { result_of result ≡ row_given state (told outcome.answer, outcome.run, out.now) }
     ensures length_bound { result.length ≤ 2048 }
 {
-    let answer = outcome.answer;
-    if runs::answer::number(answer) != 0 {
-        return refuse::by_answer(state, answer);
+    if let Err(refusal) = outcome.answer {
+        return refuse::by_refusal(state, refusal);
     }
-    let way = state.way;
-    let before = state.run;
-    let run = outcome.run;
     let mut text = [0u8; 2048];
-    let length = shown_row(way, before, out, &mut text);
+    let length = shown_row(state.way, state.run, out, &mut text);
     Printed {
-        state: state::with_run(state, Phase::Between, run),
-        text: text,
-        length: length,
+        state: state::with_run(state, Phase::Between, outcome.run),
+        text,
+        length,
     }
 }
 
@@ -97,22 +93,18 @@ pub fn given_last(state: State, stated: i64, outcome: Outcome, out: &[i32]) -> P
     ensures result_value { result_of result ≡ finish_given state stated (told outcome.answer, outcome.run, out.now) }
     ensures length_bound { result.length ≤ 2048 }
 {
-    let way = state.way;
-    let before = state.run;
-    let total = before.total;
-    let answer = outcome.answer;
-    let by_gate = runs::answer::number(answer);
-    let by_total = refuse::total_number(stated, total);
-    let number = refuse::first(by_gate, by_total);
-    if number != 0 {
-        return refuse::by(state, number, runs::answer::place(answer));
+    let total = state.run.total;
+    if let Err(refusal) = outcome.answer {
+        return refuse::by_refusal(state, refusal);
     }
-    let run = outcome.run;
+    if stated != total {
+        return refuse::by(state, 16, 0);
+    }
     let mut text = [0u8; 2048];
-    let length = shown_last(way, before, total, out, &mut text);
+    let length = shown_last(state.way, state.run, out, &mut text);
     Printed {
-        state: state::with_run(state, Phase::Over, run),
-        text: text,
-        length: length,
+        state: state::with_run(state, Phase::Over, outcome.run),
+        text,
+        length,
     }
 }

@@ -1,35 +1,22 @@
 // What is printed for a refused line, and where nothing is printed.
-ghost use Rattle.std.specs.Prelude.{◌≡◌, cond, [], ◌≤◌, eqb};
-ghost use Rattle.integers.specs.Vectors.{alike};
+ghost use Rattle.std.specs.Prelude.{◌≡◌, [], ◌≤◌, Err};
 ghost use Rattle.runs.specs.Answers.{told};
 ghost use Rattle.text_runs.specs.State.{result_of, refused};
 ghost use Rattle.text_runs.specs.Line.{bad_form};
 
 use decimal::print;
-use runs::answer::Answer;
+use runs::answer;
+use runs::answer::Refusal;
 use text_runs::state;
 use text_runs::state::{Phase, Printed, State};
 
-// 16 where the total that an end line states is not the run's, and 0 where it is.
-pub fn total_number(stated: i64, total: i64) -> usize
-    ensures { result ≡ cond (alike stated total) 0 16 }
-{
-    if stated == total { 0 } else { 16 }
-}
-
-// The number of the question asked first, or else of the later one.
-pub fn first(number: usize, later: usize) -> usize
-    ensures { result ≡ cond (eqb number 0) later number }
-{
-    if number == 0 { later } else { number }
-}
-
+#[tactic(auto, unfolding(text_runs::specs::State::result_of))]
 pub fn silent(state: State) -> Printed
     ensures result_value { result_of result ≡ (state, []) }
     ensures length_bound { result.length ≤ 2048 }
 {
     Printed {
-        state: state,
+        state,
         text: [0u8; 2048],
         length: 0,
     }
@@ -46,23 +33,21 @@ pub fn by(state: State, number: usize, place: usize) -> Printed
     let length = print::bytes(&mut text, n, b"\n");
     Printed {
         state: state::with_run(state, Phase::Over, run),
-        text: text,
-        length: length,
+        text,
+        length,
     }
 }
 
-// By the number and the place of an answer.
-pub fn by_answer(state: State, answer: Answer) -> Printed
-    ensures result_value { result_of result ≡ refused state (told answer) }
+// By the number and the place of a call's refusal.
+pub fn by_refusal(state: State, refusal: Refusal) -> Printed
+    ensures result_value { result_of result ≡ refused state (told (Err refusal)) }
     ensures length_bound { result.length ≤ 2048 }
 {
-    by(
-        state,
-        runs::answer::number(answer),
-        runs::answer::place(answer),
-    )
+    let answer = Err(refusal);
+    by(state, answer::number(answer), answer::place(answer))
 }
 
+#[tactic(auto, unfolding(text_runs::specs::Line::bad_form))]
 pub fn bad_form(state: State) -> Printed
     ensures result_value { result_of result ≡ bad_form state }
     ensures length_bound { result.length ≤ 2048 }

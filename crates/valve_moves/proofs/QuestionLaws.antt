@@ -1,4 +1,6 @@
 -- The valve's questions, one after the other as the code asks them.
+use Rattle.std.specs.Prelude.{Ok, Err, Option, Some, None}
+use Rattle.std.specs.Result.{is_err}
 use mathlib.Core.Path.{◌≡◌, refl}
 use mathlib.Core.Bool.{Bool, true, false, cond, ◌&&◌, and-eq-true_iff}
 use mathlib.Core.List.{List}
@@ -14,32 +16,19 @@ use Rattle.integers.specs.Vectors.{alike}
 use Rattle.integers.proofs.Differences.{dif, zb}
 use Rattle.integers.proofs.Order.{lt-taken, lt-left, le-tested, gt-tested}
 use Rattle.tables.specs.Widths.{half_width}
-use Rattle.runs.specs.declared.answer.Found.{Found}
-use Rattle.runs.specs.declared.answer.Found.TheVariants.{At, Nothing}
 use Rattle.runs.specs.Gate.{first_dead, first_out}
-use Rattle.gate.specs.declared.questions.Fault.{Fault}
-use Rattle.gate.specs.declared.questions.Fault.TheVariants.{Dead, Beyond, Clear}
-use Rattle.gate.specs.Own.Faults.{fault_by, fault_of}
+use Rattle.gate.specs.declared.questions.Fault.TheVariants.{Dead, Beyond}
+use Rattle.gate.specs.Own.Faults.{Checked, fault_by, fault_of}
 use Rattle.valves.specs.declared.record.Valve.{Valve}
 use Rattle.valves.specs.declared.record.Ticket.{Ticket}
-use Rattle.valves.specs.declared.answer.Answer.{Answer}
-use Rattle.valves.specs.declared.answer.Answer.TheVariants.{Done, Width, InputLength, DeadMark, Range, Limits, AllMade, OtherCount}
-use Rattle.valves.specs.declared.answer.Asked.TheVariants.{Given, Refused}
+use Rattle.valves.specs.Answers.{Answer}
+use Rattle.valves.specs.declared.answer.Refusal.{Refusal}
+use Rattle.valves.specs.declared.answer.Refusal.TheVariants.{Width, InputLength, DeadMark, Range, Limits, AllMade, OtherCount}
 use Rattle.valves.specs.Record.{travel, greatest_move, count_limit, ticket_of, between, in_travel, in_limits}
 use Rattle.valves.specs.Answers.{told}
 use Rattle.valves.specs.Moves.{move}
-use Rattle.valves.specs.Calls.{ask, ask_each, passes, ask_answer, asked, move_allowed, make_answer, moved, made_of, made}
-use Rattle.valves.proofs.CallLaws.{between_ends, travel-ends, AskPassed, ask-answered, MakePassed, make-answered}
-
--- ---- a number between two
-module _ (low high x : ℤ) where
-  pub not-between : lt_z x low ≡ true → false ≡ between low high x
-  unfolding between
-  not-between h = rw (gt-tested {a = low} {b = x} (lt-taken h)) refl
-
-  pub between-low : lt_z x low ≡ false → le_z x high ≡ between low high x
-  unfolding between
-  between-low h = rw (le-tested {a = low} {b = x} (lt-left h)) refl
+use Rattle.valves.specs.Calls.{ask, ask_each, passes, ask_answer, answered_with, asked, move_allowed, make_answer, moved, made_of, made}
+use Rattle.valves.proofs.CallLaws.{refusal-stops, between_ends, travel-ends, AskPassed, ask-answered, MakePassed, make-answered}
 
 -- ---- the record's limits
 pub limits-travel : (valve : Valve) → in_limits valve ≡ true → in_travel valve.position ≡ true
@@ -59,96 +48,83 @@ moved-fits position steps p m =
 
 -- ---- an ask
 -- questions 8 and 9 by the first fault
-by_fault : Fault → Answer → Answer
-by_fault (Dead place) next = DeadMark place
-by_fault (Beyond place) next = Range place
-by_fault Clear next = next
+by_fault : Checked → Answer → Answer
+by_fault (Err (Dead place)) next = Err (DeadMark place)
+by_fault (Err (Beyond place)) next = Err (Range place)
+by_fault (Ok x) next = next
 
-faults-asked : (dead out : Found) (next : Answer) → by_fault (fault_by dead out) next ≡ ask_each DeadMark dead (ask_each Range out next)
+faults-asked : (dead out : Option ℕ) (next : Answer) → by_fault (fault_by dead out) next ≡ ask_each DeadMark dead (ask_each Range out next)
 unfolding fault_by by_fault ask_each
-faults-asked (At place) out next = refl
-faults-asked Nothing (At place) next = refl
-faults-asked Nothing Nothing next = refl
+faults-asked (Some place) out next = refl
+faults-asked None (Some place) next = refl
+faults-asked None None next = refl
 
 module _ (N : ℕ) (valve : Valve) (block : List ℤ) where
-  pub width-refused : half_width N ≡ 0 → Width ≡ ask_answer N valve block
+  pub width-refused : half_width N ≡ 0 → (Err Width) ≡ ask_answer N valve block
   unfolding ask_answer ask
   width-refused e = rw e refl
 
   module _ (w : half_width N ≡ 0 → ⊥) where
-    pub length-refused : (length block ≡ N → ⊥) → InputLength ≡ ask_answer N valve block
+    pub length-refused : (length block ≡ N → ⊥) → (Err InputLength) ≡ ask_answer N valve block
     unfolding ask_answer ask
     length-refused l = rw (lt-ltb 0 (half_width N) (omega (arith, w)), ne_eqb _ _ l) refl
 
     module _ (l : length block ≡ N) where
-      faulted : (fault : Fault) → fault_of block ≡ fault → by_fault fault (ask Limits (in_limits valve) Done) ≡ ask_answer N valve block
+      faulted : (fault : Checked) → fault_of block ≡ fault → by_fault fault (ask Limits (in_limits valve) (Ok tt)) ≡ ask_answer N valve block
       unfolding ask_answer ask fault_of
       faulted fault e =
-          rw (lt-ltb 0 (half_width N) (omega (arith, w)), eq-eqb _ _ l, ← e) (faults-asked (first_dead block 0) (first_out block 0) (ask Limits (in_limits valve) Done))
+          rw (lt-ltb 0 (half_width N) (omega (arith, w)), eq-eqb _ _ l, ← e) (faults-asked (first_dead block 0) (first_out block 0) (ask Limits (in_limits valve) (Ok tt)))
 
-      pub dead-refused : (place : ℕ) → fault_of block ≡ Dead place → DeadMark place ≡ ask_answer N valve block
+      pub dead-refused : (place : ℕ) → fault_of block ≡ Err (Dead place) → Err (DeadMark place) ≡ ask_answer N valve block
       unfolding by_fault
-      dead-refused place e = faulted (Dead place) e
+      dead-refused place e = faulted (Err (Dead place)) e
 
-      pub range-refused : (place : ℕ) → fault_of block ≡ Beyond place → Range place ≡ ask_answer N valve block
+      pub range-refused : (place : ℕ) → fault_of block ≡ Err (Beyond place) → Err (Range place) ≡ ask_answer N valve block
       unfolding by_fault
-      range-refused place e = faulted (Beyond place) e
+      range-refused place e = faulted (Err (Beyond place)) e
 
-      module _ (clear : fault_of block ≡ Clear) where
-        pub limits-refused : in_limits valve ≡ false → Limits ≡ ask_answer N valve block
+      module _ (clear : fault_of block ≡ Ok tt) where
+        pub limits-refused : in_limits valve ≡ false → (Err Limits) ≡ ask_answer N valve block
         unfolding by_fault ask
-        limits-refused e = rw (← faulted Clear clear, e) refl
+        limits-refused e = rw (← faulted (Ok tt) clear, e) refl
 
-        pub ask-passed : in_limits valve ≡ true → Done ≡ ask_answer N valve block
+        pub ask-passed : in_limits valve ≡ true → (Ok tt) ≡ ask_answer N valve block
         unfolding by_fault ask
-        ask-passed e = rw (← faulted Clear clear, e) refl
+        ask-passed e = rw (← faulted (Ok tt) clear, e) refl
 
 -- ---- a make
 abbrev pub move_fits : ℤ → ℤ → Bool
 move_fits position steps = between (neg_ℤ (pos greatest_move)) (pos greatest_move) steps && in_travel (position +ℤ steps)
 
--- the first that says no of two answers, where the first is a question's
-pub first-asked : (refusal : Answer) (answer : Bool) (next : Answer) → passes refusal ≡ false
-    → cond (passes (ask refusal answer Done)) next (ask refusal answer Done) ≡ ask refusal answer next
-unfolding ask passes told
-first-asked refusal true next e = refl
-first-asked refusal false next e = rw e
-
-pub make-asked : (valve : Valve) (ticket : Ticket) (limits more same : Answer)
-    → limits ≡ ask Limits (move_allowed valve ticket.steps) Done
-    → more ≡ ask AllMade (lt_z valve.count (pos count_limit)) Done
-    → same ≡ ask OtherCount (alike valve.count ticket.count) Done
-    → cond (passes limits) (cond (passes more) same more) limits ≡ make_answer valve ticket
-unfolding make_answer passes told
-make-asked valve ticket _ more same l m s =
-    rw (l, m, s) (rw (first-asked AllMade (lt_z valve.count (pos count_limit)) (ask OtherCount (alike valve.count ticket.count) Done) refl) (first-asked Limits _ _ refl))
-
 -- ---- what an ask gives by its answer, and a make
-module _ (N : ℕ) (valve : Valve) (block : List ℤ) (answer : Answer) (is : answer ≡ ask_answer N valve block) where
-  pub ask-refused : ((told answer).0 ≡ 0 → ⊥) → Refused answer ≡ asked N valve block
-  unfolding asked passes
-  ask-refused n = rw (← is, ne_eqb _ _ n) refl
+module _ (N : ℕ) (valve : Valve) (block : List ℤ) where
+  pub ask-refused : (refusal : Refusal) → Err refusal ≡ ask_answer N valve block → Err refusal ≡ asked N valve block
+  unfolding asked answered_with
+  ask-refused refusal is = rw (← is)
 
-  pub ask-given : (told answer).0 ≡ 0 → Given (ticket_of (move N valve block) valve.count) ≡ asked N valve block
-  unfolding asked passes
-  ask-given z = rw (← is, eq-eqb _ _ z) refl
+  pub ask-given : Ok tt ≡ ask_answer N valve block → Ok (ticket_of (move N valve block) valve.count) ≡ asked N valve block
+  unfolding asked answered_with
+  ask-given is = rw (← is)
 
-  pub ask-ready : (told answer).0 ≡ 0 → AskPassed N valve block
-  unfolding passes
-  ask-ready z = ask-answered N valve block (rw (← is) (eq-eqb _ _ z))
+  pub ask-ready : Ok tt ≡ ask_answer N valve block → AskPassed N valve block
+  unfolding passes told
+  ask-ready is = ask-answered N valve block (rw (← is))
 
-module _ (valve : Valve) (ticket : Ticket) (answer : Answer) (is : answer ≡ make_answer valve ticket) where
-  pub make-refused : ((told answer).0 ≡ 0 → ⊥) → made_of valve answer ≡ made valve ticket
-  unfolding made passes
-  make-refused n = rw (← is, ne_eqb _ _ n) refl
+module _ (valve : Valve) (ticket : Ticket) where
+  pub make-refused : (answer : Answer) → answer ≡ make_answer valve ticket → true ≡ is_err answer → made_of valve answer ≡ made valve ticket
+  unfolding made
+  make-refused (Ok tt) is e = cc
+  make-refused (Err refusal) is e = rw (← is, refusal-stops refusal)
 
-  pub make-done : (told answer).0 ≡ 0 → made_of (moved valve ticket) Done ≡ made valve ticket
-  unfolding made passes
-  make-done z = rw (← is, eq-eqb _ _ z) refl
+  pub make-done : (answer : Answer) → answer ≡ make_answer valve ticket → false ≡ is_err answer → made_of (moved valve ticket) answer ≡ made valve ticket
+  unfolding made passes told
+  make-done (Ok tt) is e = rw (← is)
+  make-done (Err refusal) is e = cc
 
-  pub make-ready : (told answer).0 ≡ 0 → MakePassed valve ticket
-  unfolding passes
-  make-ready z = make-answered valve ticket (rw (← is) (eq-eqb _ _ z))
+  pub make-ready : (answer : Answer) → answer ≡ make_answer valve ticket → false ≡ is_err answer → MakePassed valve ticket
+  unfolding passes told
+  make-ready (Ok tt) is e = make-answered valve ticket (rw (← is))
+  make-ready (Err refusal) is e = cc
 
 -- ---- a make that passes has sums of 32 bits
 in-travel-fits : (x : ℤ) → pos 0 ≤ℤ x → x ≤ℤ pos travel → mag x < 2 ^ 31

@@ -1,29 +1,18 @@
--- The number of an answer is small, and 0 for one alone.
-use mathlib.Core.Path.{◌≡◌, refl}
+-- The number of an answer is small.
+use Rattle.std.specs.Prelude.{Ok, Err}
 use Prim.Native.Nat.{◌≤◌}
 use native.Mathlib.Omega.{arith}
-use Rattle.valves.specs.declared.answer.Answer.{Answer}
-use Rattle.valves.specs.declared.answer.Answer.TheVariants.{Done, Width, InputLength, DeadMark, Range, Limits, AllMade, OtherCount}
+use Rattle.valves.specs.Answers.{Answer}
+use Rattle.valves.specs.declared.answer.Refusal.TheVariants.{Width, InputLength, DeadMark, Range, Limits, AllMade, OtherCount}
 use Rattle.valves.specs.Answers.{told}
 
 pub told-small : (answer : Answer) → (told answer).0 ≤ 19
 unfolding told
-told-small Done = omega arith
-told-small Width = omega arith
-told-small InputLength = omega arith
-told-small (DeadMark place) = omega arith
-told-small (Range place) = omega arith
-told-small Limits = omega arith
-told-small AllMade = omega arith
-told-small OtherCount = omega arith
-
-pub done-told : (answer : Answer) → (told answer).0 ≡ 0 → answer ≡ Done
-unfolding told
-done-told Done e = refl
-done-told Width e = absurd (omega arith)
-done-told InputLength e = absurd (omega arith)
-done-told (DeadMark place) e = absurd (omega arith)
-done-told (Range place) e = absurd (omega arith)
-done-told Limits e = absurd (omega arith)
-done-told AllMade e = absurd (omega arith)
-done-told OtherCount e = absurd (omega arith)
+told-small (Ok tt) = omega arith
+told-small (Err Width) = omega arith
+told-small (Err InputLength) = omega arith
+told-small (Err (DeadMark place)) = omega arith
+told-small (Err (Range place)) = omega arith
+told-small (Err Limits) = omega arith
+told-small (Err AllMade) = omega arith
+told-small (Err OtherCount) = omega arith

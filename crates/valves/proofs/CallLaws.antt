@@ -1,11 +1,13 @@
 -- One ask and one make: what a ticket given tells of its record and block, what a make that works tells of its record and ticket, and what the
 -- record is then.
+use Rattle.std.specs.Prelude.{Ok, Err, Option, Some, None}
+use Rattle.std.specs.Result.{is_ok}
 use mathlib.Core.Path.{◌≡◌, refl, sym, subst, ◌∙◌}
 use mathlib.Core.Bool.{Bool, true, false, cond, true≢false, and-eq-true_iff}
 use mathlib.Core.List.{List, [], ◌∷◌}
 use Prim.Native.Nat.{ℕ, ◌<◌}
 use native.Mathlib.Omega.{arith}
-use borrow.Author.Tests.{ne_eqb, ltb-true, eqb-true}
+use borrow.Author.Tests.{ltb-true, eqb-true}
 use lib.Dec.{T, eqb, ltb}
 use lib.IntN.{ℤ, pos, neg_ℤ, ◌+ℤ◌}
 use lib.ListN.{length}
@@ -15,33 +17,39 @@ use Rattle.integers.proofs.Differences.{dif, zs}
 use Rattle.integers.proofs.Order.{le-taken, le-tested, lt-tested}
 use Rattle.integers.proofs.Sums.{alike_same, alike_refl}
 use Rattle.tables.specs.Widths.{half_width}
-use Rattle.runs.specs.declared.answer.Found.{Found}
-use Rattle.runs.specs.declared.answer.Found.TheVariants.{At, Nothing}
 use Rattle.runs.specs.Gate.{first_dead, first_out}
 use Rattle.valves.specs.declared.record.Valve.{Valve}
 use Rattle.valves.specs.declared.record.Ticket.{Ticket}
-use Rattle.valves.specs.declared.answer.Answer.{Answer}
-use Rattle.valves.specs.declared.answer.Answer.TheVariants.{Done, Width, InputLength, DeadMark, Range, Limits, AllMade, OtherCount}
-use Rattle.valves.specs.declared.answer.Asked.TheVariants.{Given, Refused}
+use Rattle.valves.specs.declared.answer.Refusal.{Refusal}
+use Rattle.valves.specs.declared.answer.Refusal.TheVariants.{Width, InputLength, DeadMark, Range, Limits, AllMade, OtherCount}
 use Rattle.valves.specs.Record.{travel, greatest_move, count_limit, ticket_of, between, in_travel, in_limits}
-use Rattle.valves.specs.Answers.{told}
+use Rattle.valves.specs.Answers.{Answer, told}
 use Rattle.valves.specs.Moves.{move}
-use Rattle.valves.specs.Calls.{ask as question, ask_each, passes, ask_answer, asked, move_allowed, make_answer, moved, made_of, made}
+use Rattle.valves.specs.Calls.{ask as question, ask_each, passes, ask_answer, answered_with, asked, move_allowed, make_answer, moved, made_of, made}
 use Rattle.valves.specs.Lists.{Call, ask, make, after, works, move_made}
 
--- ---- one question, and those after it
-module _ (next : Answer) where
-  ask-passed : (refusal : Answer) (answer : Bool) → passes refusal ≡ false → passes (question refusal answer next) ≡ true
-      → (answer ≡ true) × (passes next ≡ true)
-  unfolding question
-  ask-passed refusal true r e = (refl, e)
-  ask-passed refusal false r e = absurd (true≢false (sym e ∙ r))
+-- ---- a refusal is no pass
+pub refusal-stops : (refusal : Refusal) → passes (Err refusal) ≡ false
+unfolding passes told
+refusal-stops Width = refl
+refusal-stops InputLength = refl
+refusal-stops (DeadMark place) = refl
+refusal-stops (Range place) = refl
+refusal-stops Limits = refl
+refusal-stops AllMade = refl
+refusal-stops OtherCount = refl
 
-  each-passed : (refusal : ℕ → Answer) (found : Found) → ((i : ℕ) → passes (refusal i) ≡ false) → passes (ask_each refusal found next) ≡ true
-      → (found ≡ Nothing) × (passes next ≡ true)
+-- one question, and those after it
+module _ (next : Answer) where
+  ask-passed : (refusal : Refusal) (answer : Bool) → passes (question refusal answer next) ≡ true → (answer ≡ true) × (passes next ≡ true)
+  unfolding question
+  ask-passed refusal true e = (refl, e)
+  ask-passed refusal false e = absurd (true≢false (sym e ∙ refusal-stops refusal))
+
+  each-passed : (refusal : ℕ → Refusal) (found : Option ℕ) → passes (ask_each refusal found next) ≡ true → (found ≡ None) × (passes next ≡ true)
   unfolding ask_each
-  each-passed refusal (At place) r e = absurd (true≢false (sym e ∙ r place))
-  each-passed refusal Nothing r e = (refl, e)
+  each-passed refusal (Some place) e = absurd (true≢false (sym e ∙ refusal-stops (refusal place)))
+  each-passed refusal None e = (refl, e)
 
 -- ---- the limits of a record
 pub between_ends : (low high x : ℤ) → between low high x ≡ true → (low ≤ℤ x) × (x ≤ℤ high)
@@ -80,18 +88,18 @@ within-tested valve w =
 pub record AskPassed (N : ℕ) (valve : Valve) (block : List ℤ) : Type 0 where
   pub wide : 0 < half_width N
   pub long : length block ≡ N
-  pub none-dead : first_dead block 0 ≡ Nothing
-  pub none_out : first_out block 0 ≡ Nothing
+  pub none-dead : first_dead block 0 ≡ None
+  pub none_out : first_out block 0 ≡ None
   pub limits : WithinLimits valve
 
 pub ask-answered : (N : ℕ) (valve : Valve) (block : List ℤ) → passes (ask_answer N valve block) ≡ true → AskPassed N valve block
-unfolding ask_answer passes told
+unfolding ask_answer
 ask-answered N valve block e =
-    let q1 = ask-passed _ Width (ltb 0 (half_width N)) refl e in
-    let q6 = ask-passed _ InputLength (eqb (length block) N) refl q1.1 in
-    let q8 = each-passed _ DeadMark (first_dead block 0) (λ i. refl) q6.1 in
-    let q9 = each-passed _ Range (first_out block 0) (λ i. refl) q8.1 in
-    let q17 = ask-passed _ Limits (in_limits valve) refl q9.1 in
+    let q1 = ask-passed _ Width (ltb 0 (half_width N)) e in
+    let q6 = ask-passed _ InputLength (eqb (length block) N) q1.1 in
+    let q8 = each-passed _ DeadMark (first_dead block 0) q6.1 in
+    let q9 = each-passed _ Range (first_out block 0) q8.1 in
+    let q17 = ask-passed _ Limits (in_limits valve) q9.1 in
     record { wide = ltb-true _ _ q1.0; long = eqb-true _ _ q6.0; none-dead = q8.0; none_out = q9.0; limits = within-limits valve q17.0 }
 
 -- and its ticket carries the move and the count
@@ -100,14 +108,14 @@ pub record TicketGiven (N : ℕ) (valve : Valve) (block : List ℤ) (ticket : Ti
   pub steps-is : ticket.steps ≡ move N valve block
   pub count-is : ticket.count ≡ valve.count
 
-pub asked-given : (N : ℕ) (valve : Valve) (block : List ℤ) (ticket : Ticket) → asked N valve block ≡ Given ticket → TicketGiven N valve block ticket
-unfolding asked
-asked-given N valve block ticket = by (passes (ask_answer N valve block)) refl
+pub asked-given : (N : ℕ) (valve : Valve) (block : List ℤ) (ticket : Ticket) → asked N valve block ≡ Ok ticket → TicketGiven N valve block ticket
+unfolding asked answered_with passes told
+asked-given N valve block ticket = by (ask_answer N valve block) refl
   where
-    by : (t : Bool) → passes (ask_answer N valve block) ≡ t
-        → cond t (Given (ticket_of (move N valve block) valve.count)) (Refused (ask_answer N valve block)) ≡ Given ticket → TicketGiven N valve block ticket
-    by true e g = record { passed = ask-answered N valve block e; steps-is = cc; count-is = cc }
-    by false e g = let z : ◌≡◌ {A = ℕ} 0 1 = cc in absurd (omega arith)
+    by : (answer : Answer) → ask_answer N valve block ≡ answer → answered_with answer (ticket_of (move N valve block) valve.count) ≡ Ok ticket
+        → TicketGiven N valve block ticket
+    by (Ok tt) e g = record { passed = ask-answered N valve block (rw e refl); steps-is = cc; count-is = cc }
+    by (Err refusal) e g = cc
 
 -- ---- a make that works has passed its questions
 pub record MakePassed (valve : Valve) (ticket : Ticket) : Type 0 where
@@ -120,11 +128,11 @@ pub record MakePassed (valve : Valve) (ticket : Ticket) : Type 0 where
   pub same_count : valve.count ≡ ticket.count
 
 pub make-answered : (valve : Valve) (ticket : Ticket) → passes (make_answer valve ticket) ≡ true → MakePassed valve ticket
-unfolding make_answer move_allowed passes told
+unfolding make_answer move_allowed
 make-answered valve ticket e =
-    let q17 = ask-passed _ Limits _ refl e in
-    let q18 = ask-passed _ AllMade (lt_z valve.count (pos count_limit)) refl q17.1 in
-    let q19 = ask-passed _ OtherCount (alike valve.count ticket.count) refl q18.1 in
+    let q17 = ask-passed _ Limits _ e in
+    let q18 = ask-passed _ AllMade (lt_z valve.count (pos count_limit)) q17.1 in
+    let q19 = ask-passed _ OtherCount (alike valve.count ticket.count) q18.1 in
     let each = (and-eq-true_iff _ (in_travel (valve.position +ℤ ticket.steps))).0 q17.0 in
     let both = (and-eq-true_iff (in_limits valve) (between (neg_ℤ (pos greatest_move)) (pos greatest_move) ticket.steps)).0 each.0 in
     let steps = between_ends (neg_ℤ (pos greatest_move)) (pos greatest_move) ticket.steps both.1 in
@@ -159,7 +167,7 @@ module _ (valve : Valve) (ticket : Ticket) where
   works-told = by (passes (make_answer valve ticket)) refl
     where
       by : (t : Bool) → passes (make_answer valve ticket) ≡ t
-          → passes (cond t (made_of (moved valve ticket) Done) (made_of valve (make_answer valve ticket))).answer ≡ t
+          → passes (cond t (made_of (moved valve ticket) (Ok tt)) (made_of valve (make_answer valve ticket))).answer ≡ t
       by true e = refl
       by false e = e
 
@@ -174,9 +182,14 @@ module _ (valve : Valve) (ticket : Ticket) where
   unfolding made
   refused-same e = rw (sym works-told ∙ e)
 
-  pub refused-made : ((told (made valve ticket).answer).0 ≡ 0 → ⊥) → (made valve ticket).valve ≡ valve
-  unfolding works passes
-  refused-made n = refused-same (ne_eqb _ _ n)
+  pub refused-made : false ≡ is_ok (made valve ticket).answer → (made valve ticket).valve ≡ valve
+  unfolding made passes told
+  refused-made = by (make_answer valve ticket)
+    where
+      by : (answer : Answer)
+          → let m = cond (passes answer) (made_of (moved valve ticket) (Ok tt)) (made_of valve answer) in false ≡ is_ok m.answer → m.valve ≡ valve
+      by (Ok x) e = cc
+      by (Err refusal) e = rw (refusal-stops refusal)
 
 next-within : (count : ℤ) (limit : ℕ) → pos 0 ≤ℤ count → count <ℤ pos limit → (pos 0 ≤ℤ (count +ℤ pos 1)) × ((count +ℤ pos 1) ≤ℤ pos limit)
 next-within count limit = rw (dif count) (simp zs (omega arith))

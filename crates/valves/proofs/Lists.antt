@@ -1,4 +1,5 @@
 -- Every list of asks and makes: the record behind it, its count, and that a ticket works at most once.
+use Rattle.std.specs.Prelude.{Ok, Err}
 use mathlib.Core.Path.{◌≡◌, refl, sym, ap, ◌∙◌}
 use mathlib.Core.Bool.{Bool, true, false}
 use mathlib.Core.Logic.{◌⊎◌, inl, inr}
@@ -13,10 +14,9 @@ use Rattle.integers.proofs.Order.{≤ℤ-trans}
 use Rattle.integers.proofs.Sums.{sum-append, sum-none}
 use Rattle.valves.specs.declared.record.Valve.{Valve}
 use Rattle.valves.specs.declared.record.Ticket.{Ticket}
-use Rattle.valves.specs.declared.answer.Asked.{Asked}
-use Rattle.valves.specs.declared.answer.Asked.TheVariants.{Given, Refused}
 use Rattle.valves.specs.Record.{greatest_move, count_limit, in_limits}
 use Rattle.valves.specs.Moves.{wanted, move}
+use Rattle.valves.specs.Answers.{Asked}
 use Rattle.valves.specs.Calls.{asked, made, moved}
 use Rattle.valves.specs.Lists.{Call, ask, make, after, after_all, works, move_made, moves_made, ticket_on, ticket_given, tickets_given, Among, KeptWithin, EveryListOfMoves, FreshTicketWorks}
 use Rattle.valves.proofs.Moves.{MoveKept, move-kept}
@@ -88,11 +88,11 @@ among-either x (y ∷ xs) ys (inl e) = inl (inl e)
 among-either x (y ∷ xs) ys (inr m) = elim (among-either x xs ys m) [ inl h ↦ inl (inr h) | inr h ↦ inr h ]
 
 -- ---- a ticket carries a count that is not past the record's
-pub on-given : (a : Asked) (ticket : Ticket) → Among ticket (ticket_on a) → a ≡ Given ticket
+pub on-given : (a : Asked) (ticket : Ticket) → Among ticket (ticket_on a) → a ≡ Ok ticket
 unfolding ticket_on
-on-given (Given other) ticket (inl e) = ap Given (sym e)
-on-given (Given other) ticket (inr m) = absurd m
-on-given (Refused answer) ticket m = absurd m
+on-given (Ok other) ticket (inl e) = ap Ok (sym e)
+on-given (Ok other) ticket (inr m) = absurd m
+on-given (Err refusal) ticket m = absurd m
 
 given-count : (valve : Valve) (c : Call) (ticket : Ticket) → Among ticket (ticket_given valve c) → ticket.count ≡ valve.count
 unfolding ticket_given

@@ -1,4 +1,5 @@
 -- A dead reading never steers anything: a block that gives a ticket is fit, and every move made by an honest list was asked for.
+use Rattle.std.specs.Prelude.{Ok, Err}
 use mathlib.Core.Path.{◌≡◌, refl, sym, ap, subst, ◌∙◌}
 use mathlib.Core.Bool.{Bool, true, false, cond}
 use mathlib.Core.Logic.{inl, inr}
@@ -11,9 +12,8 @@ use Rattle.steps.specs.Limits.{reading_limit}
 use Rattle.runs.proofs.Searches.{none_within}
 use Rattle.valves.specs.declared.record.Valve.{Valve}
 use Rattle.valves.specs.declared.record.Ticket.{Ticket}
-use Rattle.valves.specs.declared.answer.Asked.{Asked}
-use Rattle.valves.specs.declared.answer.Asked.TheVariants.{Given, Refused}
 use Rattle.valves.specs.Moves.{wanted, move}
+use Rattle.valves.specs.Answers.{Asked}
 use Rattle.valves.specs.Calls.{asked}
 use Rattle.valves.specs.Lists.{Call, ask, make, after, works, move_made, moves_made, ticket_on, ticket_given, tickets_given, Among}
 use Rattle.valves.specs.Steered.{Unfit, wrong-length, dead-mark, out_of_range, UnfitYieldsNone, Fit, EachTicketFit, Honest, Asking, asking, askings, EveryMoveAsked}
@@ -50,8 +50,8 @@ unfolding ticket_on
 unfit-yields-none N valve block u = by (asked N valve block) refl
   where
     by : (a : Asked) → asked N valve block ≡ a → ticket_on a ≡ []
-    by (Given ticket) e = absurd (fit-not-unfit N block ticket.steps (each-ticket-fit N valve block ticket e) u)
-    by (Refused answer) e = refl
+    by (Ok ticket) e = absurd (fit-not-unfit N block ticket.steps (each-ticket-fit N valve block ticket e) u)
+    by (Err refusal) e = refl
 
 -- ---- a list: the move of a make that worked is that of a ticket handed in,
 record HandedIn (given : List Ticket) (steps : ℤ) : Type 0 where
@@ -84,7 +84,7 @@ handed-in given valve (make ticket ∷ calls) steps h m =
 record GivenBy (asks : List Asking) (ticket : Ticket) : Type 0 where
   by : Asking
   in_list : Among by asks
-  gave : asked by.width by.valve by.block ≡ Given ticket
+  gave : asked by.width by.valve by.block ≡ Ok ticket
 
 given_by : (valve : Valve) (calls : List Call) (ticket : Ticket) → Among ticket (tickets_given valve calls) → GivenBy (askings valve calls) ticket
 unfolding tickets_given ticket_given askings asking

@@ -1,10 +1,8 @@
 -- What an ask and a make give to a program in C: the answer's number and place, and the two lent numbers afterwards.
-use Rattle.std.specs.Prelude.{ℕ, List, ℤ}
-use Rattle.valves.specs.declared.answer.Asked.{Asked}
-use Rattle.valves.specs.declared.answer.Asked.TheVariants.{Given, Refused}
+use Rattle.std.specs.Prelude.{ℕ, List, ℤ, Ok, Err}
 use Rattle.valves.specs.declared.answer.Made.{Made}
 use Rattle.valves.specs.Record.{valve_of, ticket_of}
-use Rattle.valves.specs.Answers.{told}
+use Rattle.valves.specs.Answers.{Asked, told}
 use Rattle.valves.specs.Calls.{asked, made}
 
 abbrev pub ValveResult : Type 0
@@ -12,8 +10,8 @@ ValveResult = (ℕ × ℕ) × ℤ × ℤ
 
 -- a ticket is written to the two lent numbers; a refused ask leaves them as they were
 unfoldable pub ticket_written : Asked → ℤ → ℤ → ValveResult
-ticket_written (Given ticket) steps count = ((0, 0), ticket.steps, ticket.count)
-ticket_written (Refused answer) steps count = (told answer, steps, count)
+ticket_written (Ok ticket) steps count = ((0, 0), ticket.steps, ticket.count)
+ticket_written (Err refusal) steps count = (told (Err refusal), steps, count)
 
 unfoldable pub lapped_valve_ask : ℕ → ℤ → ℤ → List ℤ → ℤ → ℤ → ValveResult
 lapped_valve_ask N position count block steps ticketCount = ticket_written (asked N (valve_of position count) block) steps ticketCount

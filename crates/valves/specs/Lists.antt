@@ -1,11 +1,10 @@
 -- Every list of asks and makes, refused ones included: document 02, request 3. `proofs/Lists` proves it.
-use Rattle.std.specs.Prelude.{◌≡◌, Bool, true, false, cond, ◌⊎◌, List, [], ◌∷◌, ◌++◌, ℕ, ℤ, pos, ◌+ℤ◌, ◌≤ℤ◌, ◌<ℤ◌}
+use Rattle.std.specs.Prelude.{Ok, Err, ◌≡◌, Bool, true, false, cond, ◌⊎◌, List, [], ◌∷◌, ◌++◌, ℕ, ℤ, pos, ◌+ℤ◌, ◌≤ℤ◌, ◌<ℤ◌}
 use Rattle.integers.specs.Vectors.{sum_of}
 use Rattle.valves.specs.declared.record.Valve.{Valve}
 use Rattle.valves.specs.declared.record.Ticket.{Ticket}
-use Rattle.valves.specs.declared.answer.Asked.{Asked}
-use Rattle.valves.specs.declared.answer.Asked.TheVariants.{Given, Refused}
 use Rattle.valves.specs.Record.{travel, count_limit, in_limits}
+use Rattle.valves.specs.Answers.{Asked}
 use Rattle.valves.specs.Calls.{passes, asked, made}
 
 -- an ask with any block, or a make with any ticket
@@ -37,8 +36,8 @@ moves_made valve (c ∷ calls) = move_made valve c ++ moves_made (after valve c)
 
 -- the tickets that the asks gave
 unfoldable pub ticket_on : Asked → List Ticket
-ticket_on (Given ticket) = ticket ∷ []
-ticket_on (Refused answer) = []
+ticket_on (Ok ticket) = ticket ∷ []
+ticket_on (Err refusal) = []
 
 unfoldable pub ticket_given : Valve → Call → List Ticket
 ticket_given valve (ask N block) = ticket_on (asked N valve block)
@@ -81,4 +80,4 @@ EveryListOfMoves = (valve : Valve) (calls : List Call) → EveryList valve calls
 abbrev pub FreshTicketWorks : Type 0
 FreshTicketWorks =
     (N : ℕ) (valve : Valve) (block : List ℤ) (ticket : Ticket)
-    → asked N valve block ≡ Given ticket → valve.count <ℤ pos count_limit → works valve ticket ≡ true
+    → asked N valve block ≡ Ok ticket → valve.count <ℤ pos count_limit → works valve ticket ≡ true

@@ -1,18 +1,16 @@
 -- Asks, makes and a list of both, computed on the definitions: the cut toward zero, both holds, each refusal with its number and place, and
 -- which comes first. The numbers are those of the paper's cases for request 3.
-use Rattle.std.specs.Prelude.{◌≡◌, refl, List, [], ◌∷◌, ◌++◌, map, ℕ, ℤ, pos, neg_ℤ, replicate}
+use Rattle.std.specs.Prelude.{Ok, ◌≡◌, refl, List, [], ◌∷◌, ◌++◌, map, ℕ, ℤ, pos, neg_ℤ, replicate}
 use Rattle.integers.specs.Vectors.{sum_of, alike}
 use Rattle.tables.specs.Widths.{by_width, half_width}
 use Rattle.runs.specs.Answers.{first_where, beyond}
 use Rattle.runs.specs.Gate.{dead}
 use Rattle.valves.specs.declared.record.Valve.{Valve}
 use Rattle.valves.specs.declared.record.Ticket.{Ticket}
-use Rattle.valves.specs.declared.answer.Asked.{Asked}
-use Rattle.valves.specs.declared.answer.Asked.TheVariants.{Given}
 use Rattle.valves.specs.Record.{valve_of, ticket_of, between, in_travel, in_limits}
-use Rattle.valves.specs.Answers.{told}
+use Rattle.valves.specs.Answers.{Asked, told}
 use Rattle.valves.specs.Moves.{cut, wanted, held_between, held_move, move, greater, lesser, lowest, highest}
-use Rattle.valves.specs.Calls.{ask as question, ask_each, passes, ask_answer, asked, move_allowed, make_answer, moved, made}
+use Rattle.valves.specs.Calls.{ask as question, ask_each, passes, ask_answer, answered_with, asked, move_allowed, make_answer, moved, made}
 use Rattle.valves.specs.Lists.{Call, ask, make, after, after_all, works, move_made, moves_made, ticket_on, ticket_given, tickets_given}
 use Rattle.valves.specs.Steered.{asking, askings}
 use Rattle.valves.specs.ForC.{ValveResult, ticket_written, lapped_valve_ask, valve_written, lapped_valve_make}
@@ -35,7 +33,7 @@ abbrev asks : ℤ → ℤ → List ℤ → Asked
 asks position count block = asked 8 (valve_of position count) block
 
 abbrev gives : ℤ → ℤ → Asked
-gives steps count = Given (ticket_of steps count)
+gives steps count = Ok (ticket_of steps count)
 
 -- cut toward zero, and against the total
 cuts-given : Said {A = Asked}
@@ -49,7 +47,7 @@ cuts-given : Said {A = Asked}
     ∷ (asked 128 (valve_of (pos 5000) (pos 0)) (replicate 127 (pos 1) ++ pos 0 ∷ []), gives (pos 0) (pos 0))
     ∷ (asks (pos 5000) (pos 1000000) (pos 100 ∷ zeros 7), gives (less 12) (pos 1000000))
     ∷ [])
-unfolding asked ask_answer question ask_each passes told in_limits in_travel between move held_move held_between wanted cut sum_of half_width by_width first_where beyond dead
+unfolding asked answered_with ask_answer question ask_each passes told in_limits in_travel between move held_move held_between wanted cut sum_of half_width by_width first_where beyond dead
 cuts-given = refl
 
 -- held within ±500, then in the travel
@@ -64,7 +62,7 @@ holds-given : Said {A = Asked}
     ∷ (asks (pos 9501) (pos 12) (replicate 8 (less 600)), gives (pos 499) (pos 12))
     ∷ (asked 128 (valve_of (pos 10000) (pos 1)) (replicate 128 (pos 32766)), gives (less 500) (pos 1))
     ∷ [])
-unfolding asked ask_answer question ask_each passes told in_limits in_travel between move held_move held_between wanted cut sum_of half_width by_width first_where beyond dead
+unfolding asked answered_with ask_answer question ask_each passes told in_limits in_travel between move held_move held_between wanted cut sum_of half_width by_width first_where beyond dead
 holds-given = refl
 
 -- the ends of the one hold
@@ -94,7 +92,7 @@ asks-refused : Said {A = ValveResult}
     ∷ (ask_c 8 (pos 5000) (pos 1000001) (zeros 8), kept 17 0)
     ∷ (ask_c 8 (pos 300) (pos 12) (replicate 8 (pos 300)), ((0, 0), less 300, pos 12))
     ∷ [])
-unfolding lapped_valve_ask ticket_written asked ask_answer question ask_each passes told in_limits in_travel between move held_move held_between wanted cut sum_of half_width by_width first_where beyond dead
+unfolding lapped_valve_ask ticket_written asked answered_with ask_answer question ask_each passes told in_limits in_travel between move held_move held_between wanted cut sum_of half_width by_width first_where beyond dead
 asks-refused = refl
 
 -- a make: 17, then 18, then 19; one that works
@@ -135,5 +133,5 @@ list-given : Said {A = Valve × List ℤ × List Ticket × List Valve}
       (valve_of (pos 5200) (pos 2), less 300 ∷ pos 500 ∷ [], ticket_of (less 300) (pos 0) ∷ ticket_of (pos 500) (pos 1) ∷ [], start ∷ start ∷ valve_of (pos 4700) (pos 1) ∷ []),
     )
     ∷ [])
-unfolding after_all after works move_made moves_made ticket_on ticket_given tickets_given asking askings made move_allowed make_answer moved asked ask_answer question ask_each passes told in_limits in_travel between alike move held_move held_between wanted cut sum_of half_width by_width first_where beyond dead
+unfolding after_all after works move_made moves_made ticket_on ticket_given tickets_given asking askings made move_allowed make_answer moved asked answered_with ask_answer question ask_each passes told in_limits in_travel between alike move held_move held_between wanted cut sum_of half_width by_width first_where beyond dead
 list-given = refl

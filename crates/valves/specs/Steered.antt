@@ -1,12 +1,11 @@
 -- A dead reading never steers anything: document 02, request 3. `proofs/Steered` proves it.
-use Rattle.std.specs.Prelude.{◌≡◌, List, [], ◌∷◌, ◌++◌, ℕ, ◌≤◌, ◌<◌, ℤ, negsuc, nat_abs, length}
+use Rattle.std.specs.Prelude.{Ok, ◌≡◌, List, [], ◌∷◌, ◌++◌, ℕ, ◌≤◌, ◌<◌, ℤ, negsuc, nat_abs, length}
 use Rattle.integers.specs.Places.{at}
 use Rattle.integers.specs.Vectors.{sum_of}
 use Rattle.tables.specs.Widths.{RunWidth}
 use Rattle.steps.specs.Limits.{reading_limit}
 use Rattle.valves.specs.declared.record.Valve.{Valve}
 use Rattle.valves.specs.declared.record.Ticket.{Ticket}
-use Rattle.valves.specs.declared.answer.Asked.TheVariants.{Given}
 use Rattle.valves.specs.Record.{greatest_move}
 use Rattle.valves.specs.Moves.{move, Against}
 use Rattle.valves.specs.Calls.{asked}
@@ -30,7 +29,7 @@ pub record Fit (N : ℕ) (block : List ℤ) (steps : ℤ) : Type 0 where
   pub against : Against (sum_of block) steps
 
 abbrev pub EachTicketFit : Type 0
-EachTicketFit = (N : ℕ) (valve : Valve) (block : List ℤ) (ticket : Ticket) → asked N valve block ≡ Given ticket → Fit N block ticket.steps
+EachTicketFit = (N : ℕ) (valve : Valve) (block : List ℤ) (ticket : Ticket) → asked N valve block ≡ Ok ticket → Fit N block ticket.steps
 
 -- 2. Where every ticket handed in is one that an ask of the list gave,
 unfoldable pub Honest : List Ticket → List Call → Type 0

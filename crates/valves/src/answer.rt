@@ -4,10 +4,9 @@ ghost use Rattle.valves.specs.Answers.{told};
 
 use crate::record::{Ticket, Valve};
 
-// The number of each refusal, and its place, are in the definition `told`.
-#[derive(Clone, Copy)]
-pub enum Answer {
-    Done,
+// Why an ask or a make is refused. The number of each refusal, and its place, are in the definition `told`.
+#[derive(Clone, Copy, PartialEq, Eq)]
+pub enum Refusal {
     Width,
     InputLength,
     DeadMark(usize),
@@ -17,12 +16,10 @@ pub enum Answer {
     OtherCount,
 }
 
+pub type Answer = Result<(), Refusal>;
+
 // An ask's ticket, which a refused ask has none of.
-#[derive(Clone, Copy)]
-pub enum Asked {
-    Given(Ticket),
-    Refused(Answer),
-}
+pub type Asked = Result<Ticket, Refusal>;
 
 // What a make hands back.
 #[derive(Clone, Copy)]
@@ -31,21 +28,20 @@ pub struct Made {
     pub answer: Answer,
 }
 
-#[derive(Clone, Copy)]
-struct Told(usize, usize);
-
-fn told_of(answer: Answer) -> Told
-    ensures { (result.0, result.1) ≡ told answer }
+// An answer's number and its place.
+#[tactic(auto, unfolding(crate::specs::Answers::told))]
+fn told_of(answer: Answer) -> (usize, usize)
+    ensures { result ≡ told answer }
 {
     match answer {
-        Answer::Done => Told(0, 0),
-        Answer::Width => Told(1, 0),
-        Answer::InputLength => Told(6, 0),
-        Answer::DeadMark(i) => Told(8, i),
-        Answer::Range(i) => Told(9, i),
-        Answer::Limits => Told(17, 0),
-        Answer::AllMade => Told(18, 0),
-        Answer::OtherCount => Told(19, 0),
+        Ok(()) => (0, 0),
+        Err(Refusal::Width) => (1, 0),
+        Err(Refusal::InputLength) => (6, 0),
+        Err(Refusal::DeadMark(i)) => (8, i),
+        Err(Refusal::Range(i)) => (9, i),
+        Err(Refusal::Limits) => (17, 0),
+        Err(Refusal::AllMade) => (18, 0),
+        Err(Refusal::OtherCount) => (19, 0),
     }
 }
 

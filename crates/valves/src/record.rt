@@ -20,17 +20,11 @@ pub struct Ticket {
 pub fn valve_of(position: i32, count: i32) -> Valve
     ensures { result ≡ valve_of position count }
 {
-    Valve {
-        position: position,
-        count: count,
-    }
+    Valve { position, count }
 }
 
 pub fn ticket_of(steps: i32, count: i32) -> Ticket
     ensures { result ≡ ticket_of steps count }
 {
-    Ticket {
-        steps: steps,
-        count: count,
-    }
+    Ticket { steps, count }
 }

@@ -101,3 +101,6 @@ module _ {all : List ℤ} {N place left : ℕ} {frames readings low : List ℤ} 
   pub giving-end : left ≡ 0 → length readings ≤ place → readings ≡ all
   unfolding outputs_from
   giving-end z h = sym (g.so_far ∙ rw (z, append-nil) (take_all place readings h))
+
+pub giving-at : {all : List ℤ} {N place left place₂ left₂ : ℕ} {frames readings low : List ℤ} → place ≡ place₂ → left ≡ left₂ → Giving all N place left frames readings low → Giving all N place₂ left₂ frames readings low
+giving-at {all} {N} {frames = frames} {readings} {low} e d g = subst₂ (λ (p l : ℕ). Giving all N p l frames readings low) e d g

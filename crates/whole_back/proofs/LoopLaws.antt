@@ -11,7 +11,7 @@ use lib.Dec.{eqb, ltb, leb}
 use lib.IntN.{ℤ}
 use lib.ListN.{length, take, drop, length-drop}
 use Rattle.runs.specs.Answers.{told}
-use Rattle.runs.specs.declared.answer.Answer.{Answer}
+use Rattle.runs.specs.Answers.{Answer}
 use Rattle.runs.specs.declared.record.Run.{Run}
 use Rattle.runs.specs.Record.{frame_limit, zeros}
 use Rattle.runs.specs.Forward.{started}

@@ -14,19 +14,18 @@ use Rattle.tables.specs.Widths.{half_width}
 use Rattle.steps.specs.Steps.{held}
 use Rattle.distance.specs.Statement.{IsWidth}
 use Rattle.runs.specs.Answers.{told, placed}
-use Rattle.runs.specs.declared.answer.Answer.{Answer}
-use Rattle.runs.specs.declared.answer.Found.{Found}
-use Rattle.runs.specs.declared.answer.Found.TheVariants.{At, Nothing}
+use Rattle.runs.specs.Answers.{Answer}
+use Rattle.std.specs.Prelude.{Option, Some, None, Ok, Err}
 use Rattle.runs.specs.declared.record.Run.{Run}
-use Rattle.gate.specs.declared.questions.Fault.{Fault}
-use Rattle.gate.specs.declared.questions.Fault.TheVariants.{Clear}
 use Rattle.runs.specs.Record.{block_limit, zeros, opened}
 use Rattle.runs.specs.Gate.{ask_each, nothing, all_yes, first_dead, first_out}
 use Rattle.runs.specs.Forward.{taken_in}
 use Rattle.runs.specs.Calls.{Call, block, finish, give, made, works, accepted}
 use Rattle.runs.specs.Whole.{calls_of, first_refusal, outputs, whole_forward, WholeRun}
 use Rattle.gate.specs.Own.Asked.{whole_parts, in_parts}
-use Rattle.gate.specs.Own.Faults.{told_fault, fault_by, fault_of, fault_from, first_fault}
+use Rattle.gate.specs.declared.questions.Fault.{Fault}
+use Rattle.gate.specs.declared.questions.Fault.TheVariants.{Dead, Beyond}
+use Rattle.gate.specs.Own.Faults.{Checked, told_fault, refusal_of, fault_by, fault_of, fault_from, first_fault}
 use Rattle.runs.proofs.RecordLaws.{Reached, reached-first, reached-next}
 use Rattle.runs.proofs.CallLaws.{accepted-block, taken-decided, ended-decided, taken_in_lem}
 use Rattle.runs.proofs.EveryList.{started-open}
@@ -58,23 +57,23 @@ module _ (N b : ℕ) (t : ℤ) (previous : List ℤ) (r : Reached N b t previous
   abbrev run : Run
   run = opened N b t (held N previous)
 
-  clear : first_dead xs 0 ≡ Nothing → first_out xs 0 ≡ Nothing → accepted N b false (block xs out) ≡ true
+  clear : first_dead xs 0 ≡ None → first_out xs 0 ≡ None → accepted N b false (block xs out) ≡ true
   unfolding accepted all_yes nothing
   clear d e = rw (lt-ltb b block_limit h, eq-eqb (length xs) N l, eq-eqb (length out) N m, d, e)
 
-  pub clear-accepted : fault_of xs ≡ Clear → accepted N b false (block xs out) ≡ true
+  pub clear-accepted : fault_of xs ≡ Ok tt → accepted N b false (block xs out) ≡ true
   clear-accepted e = clear (clear_both xs e).0 (clear_both xs e).1
 
-  block-refusal : (before : ℕ) (calls : List Call) (rest : Fault)
+  block-refusal : (before : ℕ) (calls : List Call) (rest : Checked)
       → (Reached N (suc b) (t +ℤ sum_of xs) xs → first_refusal N (before + N) (made (opened N (suc b) (t +ℤ sum_of xs) (held N xs)) calls) ≡ told_fault rest)
       → first_refusal N before (made run (block xs out ∷ calls)) ≡ told_fault (fault_from before (fault_of xs) rest)
   unfolding told_fault fault_from fault_of fault_by give taken_in ask_each placed
   block-refusal before calls rest later = by (first_dead xs 0) (first_out xs 0) refl refl
     where
-      by : (f g : Found) → first_dead xs 0 ≡ f → first_out xs 0 ≡ g → first_refusal N before (made run (block xs out ∷ calls)) ≡ told_fault (fault_from before (fault_by f g) rest)
-      by (At place) g d e = refusal-here N before run (block xs out) calls 7 place run out (taken_in_lem N b t previous r xs out l m h ∙ rw d)
-      by Nothing (At place) d e = refusal-here N before run (block xs out) calls 8 place run out (taken_in_lem N b t previous r xs out l m h ∙ rw (d, e))
-      by Nothing Nothing d e =
+      by : (f g : Option ℕ) → first_dead xs 0 ≡ f → first_out xs 0 ≡ g → first_refusal N before (made run (block xs out ∷ calls)) ≡ told_fault (fault_from before (fault_by f g) rest)
+      by (Some place) g d e = refusal-here N before run (block xs out) calls 7 place run out (taken_in_lem N b t previous r xs out l m h ∙ rw d)
+      by None (Some place) d e = refusal-here N before run (block xs out) calls 8 place run out (taken_in_lem N b t previous r xs out l m h ∙ rw (d, e))
+      by None None d e =
           let a = clear d e in
           refusal-later N before run (block xs out) calls _ _ ((taken-decided N b t previous r xs out).when-yes a)
           ∙ later (reached-next N b t previous xs r h (accepted-block N b false xs out a))
@@ -98,14 +97,19 @@ module _ (N : ℕ) (w : IsWidth N) (readings out : List ℤ) (whole : length rea
   refusal_is : first_refusal N 0 (Whole.calls_made N readings out) ≡ told_fault (first_fault N 0 (length readings / N) readings)
   refusal_is = rw (started-open N w) (first-refusal N (length readings / N) 0 0 (pos 0) (zeros N) readings out (reached-first N w) (omega arith) whole (omega arith))
 
-  pub whole_run : first_fault N 0 (length readings / N) readings ≡ Clear → WholeRun N readings (outputs (Whole.calls_made N readings out))
+  pub whole_run : first_fault N 0 (length readings / N) readings ≡ Ok tt → WholeRun N readings (outputs (Whole.calls_made N readings out))
   unfolding told_fault
   whole_run c = Whole.whole_run N w readings out (refusal_is ∙ ap told_fault c)
 
 module _ (N : ℕ) (readings out : List ℤ) (w : half_width N ≡ 0 → ⊥) (e : length readings % N ≡ 0) (few : length readings / N ≤ block_limit) (room : length out ≡ length readings + N) where
-  pub by-fault : (f : Fault) → first_fault N 0 (length readings / N) readings ≡ f → (told_fault f, cond (eqb (told_fault f).0 0) (outputs (Whole.calls_made N readings out)) out) ≡ whole_forward N readings out
+  pub by-fault : (f : Checked) → first_fault N 0 (length readings / N) readings ≡ f → (told_fault f, cond (eqb (told_fault f).0 0) (outputs (Whole.calls_made N readings out)) out) ≡ whole_forward N readings out
   by-fault f d = Whole.by-refusal N readings out w e few room (told_fault f) (refusal_is N (omega (arith, w)) readings out (Whole.whole-blocks N readings e) few room ∙ ap told_fault d)
 
-  pub whole-done : first_fault N 0 (length readings / N) readings ≡ Clear → ((0, 0), outputs (Whole.calls_made N readings out)) ≡ whole_forward N readings out
+  pub whole-done : first_fault N 0 (length readings / N) readings ≡ Ok tt → ((0, 0), outputs (Whole.calls_made N readings out)) ≡ whole_forward N readings out
   unfolding told_fault
-  whole-done d = by-fault Clear d
+  whole-done d = by-fault (Ok tt) d
+
+  pub fault-told : (f : Fault) → first_fault N 0 (length readings / N) readings ≡ Err f → (told (Err (refusal_of f)), out) ≡ whole_forward N readings out
+  unfolding told told_fault
+  fault-told (Dead place) d = by-fault (Err (Dead place)) d
+  fault-told (Beyond place) d = by-fault (Err (Beyond place)) d

@@ -1,5 +1,5 @@
 -- A whole run forward whose blocks are stepped one by one: what holds between two of them, from one to the next, and at the end.
-use mathlib.Core.Path.{◌≡◌, sym, ap, subst, ◌∙◌}
+use mathlib.Core.Path.{◌≡◌, sym, ap, subst, subst₂, ◌∙◌}
 use mathlib.Core.Bool.{true, false}
 use mathlib.Core.List.{List, ◌++◌}
 use Prim.Native.Nat.{ℕ, suc, ◌+◌, ◌-◌, ◌*◌, ◌/◌, ◌≤◌, ◌<◌}
@@ -17,7 +17,7 @@ use Rattle.steps.specs.Steps.{held, frame}
 use Rattle.steps.proofs.Rotation.{held-gate}
 use Rattle.steps.proofs.ZeroBlock.{held-zeros}
 use Rattle.runs.specs.declared.record.Run.{Run}
-use Rattle.gate.specs.declared.questions.Fault.TheVariants.{Clear}
+use Rattle.std.specs.Prelude.{Ok}
 use Rattle.runs.specs.Record.{block_limit, zeros, opened, closed}
 use Rattle.runs.specs.Gate.{CallResult, all_yes}
 use Rattle.gate.specs.Own.Faults.{fault_of, first_fault}
@@ -42,10 +42,10 @@ pub record Stepping (N half place left : ℕ) (readings out frames kept : List �
   pub reached : Reached N count total previous
   pub kept-is : take half kept ≡ held N previous
   pub few : count + left ≤ block_limit
-  pub clear : first_fault N place left (drop place readings) ≡ Clear
+  pub clear : first_fault N place left (drop place readings) ≡ Ok tt
   pub so_far : outputs (made (started N).1 (calls_of N (length readings / N) readings out)) ≡ take place frames ++ outputs (made (opened N count total (held N previous)) (calls_of N left (drop place readings) (drop place frames)))
 
-pub stepping-first : (N half : ℕ) (readings out kept : List ℤ) → half ≡ half_width N → WholeBlocks N readings → first_fault N 0 (length readings / N) readings ≡ Clear → kept ≡ zeros 64
+pub stepping-first : (N half : ℕ) (readings out kept : List ℤ) → half ≡ half_width N → WholeBlocks N readings → first_fault N 0 (length readings / N) readings ≡ Ok tt → kept ≡ zeros 64
     → Stepping N half 0 (length readings / N) readings out out kept
 stepping-first N half readings out kept h b c k = record {
   count = 0;
@@ -73,7 +73,7 @@ module _ (N half place left : ℕ) (readings out frames kept : List ℤ) (g : St
     abbrev next : List ℤ
     next = take N (drop place readings)
 
-    next-clear : fault_of next ≡ Clear
+    next-clear : fault_of next ≡ Ok tt
     next-clear = (both-clear N place left readings h g.clear).0
 
     pub next-within : Within reading_limit next
@@ -123,3 +123,7 @@ module _ (N half place left : ℕ) (readings out frames kept : List ℤ) (g : St
         frames-end N place left run _ (0, 0) readings frames ys z (omega (arith, no_block place left N (length readings) whole z, room))
         (ap (λ (f : List ℤ). ((0, 0), closed run, f)) (frame_same (zeros N) ys e) ∙ sym ((ended-decided N g.count g.total g.previous g.reached (drop place frames)).when-yes end-accepted))
         ∙ sym g.so_far
+
+pub stepping-at : {N half place left place₂ left₂ : ℕ} {readings out frames kept : List ℤ} → place ≡ place₂ → left ≡ left₂ → Stepping N half place left readings out frames kept
+    → Stepping N half place₂ left₂ readings out frames kept
+stepping-at {N} {half} {readings = readings} {out} {frames} {kept} e d g = subst₂ (λ (p l : ℕ). Stepping N half p l readings out frames kept) e d g

@@ -1,9 +1,7 @@
 // A whole run over lent slices, for any caller.
-ghost use Rattle.std.specs.Prelude.{◌≡◌, length, ◌+◌, ◌/◌};
+ghost use Rattle.std.specs.Prelude.{◌≡◌, length, ◌+◌, ◌/◌, Ok};
 ghost use Rattle.runs.specs.Answers.{told};
-ghost use Rattle.width_tables.specs.Filled.{Filled};
 ghost use Rattle.gate.specs.Own.Faults.{first_fault};
-ghost use Rattle.gate.specs.declared.questions.Fault.TheVariants.{Clear};
 ghost use Rattle.runs.specs.Forward.{started};
 ghost use Rattle.runs.specs.Calls.{made};
 ghost use Rattle.runs.specs.Whole.{calls_of, outputs, whole_forward, WholeRun};
@@ -12,86 +10,72 @@ ghost use Rattle.gate.specs.Own.Ready.{WholeBlocks};
 use frames::step;
 use gate::questions;
 use gate::questions::Fault;
-use runs::answer::Answer;
+use runs::answer::{Answer, Refusal};
 use runs::{limits, record};
 use slices::room;
 use width_tables::fill;
+use width_tables::parts::Tables;
 
 // The search through the blocks of a run that has a fault.
-fn searched(width: usize, readings: &[i32]) -> Fault
+fn searched(width: usize, readings: &[i32]) -> Result<(), Fault>
     requires { WholeBlocks width readings.now }
     ensures { result ≡ first_fault width 0 (length readings.now / width) readings.now }
 {
-    let mut at = 0;
-    let mut left = readings.len() / width;
-    while 0 < left {
-        let end = at + width;
-        let fault = questions::fault_of(&readings[at..end]);
-        match fault {
-            Fault::Dead(place) => {
-                return Fault::Dead(at + place);
-            }
-            Fault::Beyond(place) => {
-                return Fault::Beyond(at + place);
-            }
-            Fault::Clear => {}
+    for i in 0..readings.len() / width {
+        let at = i * width;
+        match questions::fault_of(&readings[at..at + width]) {
+            Err(Fault::Dead(place)) => return Err(Fault::Dead(at + place)),
+            Err(Fault::Beyond(place)) => return Err(Fault::Beyond(at + place)),
+            Ok(()) => {}
         }
-        at = end;
-        left -= 1;
     }
-    Fault::Clear
+    Ok(())
 }
 
 // The first reading that a block refuses, its place counted through the run.
-fn first_fault(width: usize, readings: &[i32]) -> Fault
+fn first_fault(width: usize, readings: &[i32]) -> Result<(), Fault>
     requires { WholeBlocks width readings.now }
     ensures { result ≡ first_fault width 0 (length readings.now / width) readings.now }
 {
     if questions::in_range(readings, limits::READING_LIMIT) {
-        return Fault::Clear;
+        return Ok(());
     }
     searched(width, readings)
 }
 
 // Each block is lent to the block step as it lies; t, the held values and the room are made once.
-fn frames_with(width: usize, t: &[i64], readings: &[i32], frames: &mut [i32])
-    requires filled { Filled width t.now }
-    requires whole_blocks { WholeBlocks width readings.now }
-    requires frames_len { length frames.old ≡ length readings.now + width }
-    requires readings_value { first_fault width 0 (length readings.now / width) readings.now ≡ Clear }
-    ensures { frames.new ≡ outputs (made (started width).1 (calls_of width (length readings.now / width) readings.now frames.old)) }
+fn frames_with(t: &Tables, readings: &[i32], frames: &mut [i32])
+    requires whole_blocks { WholeBlocks t.now.width readings.now }
+    requires frames_len { length frames.old ≡ length readings.now + t.now.width }
+    requires readings_value { first_fault t.now.width 0 (length readings.now / t.now.width) readings.now ≡ Ok tt }
+    ensures { frames.new ≡ outputs (made (started t.now.width).1 (calls_of t.now.width (length readings.now / t.now.width) readings.now frames.old)) }
 {
-    let half = width / 2;
+    let width = t.width;
+    let half = t.half();
     let mut held = record::nothing_held();
-    let mut top = room::of_64();
-    let mut bottom = room::of_64();
-    let mut y = room::of_648();
-    let mut z = room::of_648();
-    let mut at = 0;
-    let mut left = readings.len() / width;
-    while 0 < left {
-        let end = at + width;
+    let mut top = room::zeros::<64>();
+    let mut bottom = room::zeros::<64>();
+    let mut y = room::zeros::<648>();
+    let mut z = room::zeros::<648>();
+    for i in 0..readings.len() / width {
+        let at = i * width;
         step::step(
-            width,
             t,
-            &readings[at..end],
+            &readings[at..at + width],
             &mut held[..half],
-            &mut frames[at..end],
+            &mut frames[at..at + width],
             &mut top[..half],
             &mut bottom[..half],
             &mut y,
             &mut z,
         );
-        at = end;
-        left -= 1;
     }
     let zeros = step::zero_block();
     step::step(
-        width,
         t,
         &zeros[..width],
         &mut held[..half],
-        &mut frames[at..],
+        &mut frames[readings.len()..],
         &mut top[..half],
         &mut bottom[..half],
         &mut y,
@@ -102,14 +86,18 @@ fn frames_with(width: usize, t: &[i64], readings: &[i32], frames: &mut [i32])
 fn frames_of(width: usize, readings: &[i32], frames: &mut [i32])
     requires whole_blocks { WholeBlocks width readings.now }
     requires frames_len { length frames.old ≡ length readings.now + width }
-    requires readings_value { first_fault width 0 (length readings.now / width) readings.now ≡ Clear }
+    requires readings_value { first_fault width 0 (length readings.now / width) readings.now ≡ Ok tt }
     ensures { frames.new ≡ outputs (made (started width).1 (calls_of width (length readings.now / width) readings.now frames.old)) }
 {
     let long = fill::tables_long(width);
-    let mut t = room::of_1906();
-    let mut room = room::of_648();
+    let mut t = room::zeros::<1906>();
+    let mut room = room::zeros::<648>();
     fill::fill(width, &mut t[..long], &mut room);
-    frames_with(width, &t[..long], readings, frames);
+    let tables = Tables {
+        width,
+        numbers: &t[..long],
+    };
+    frames_with(&tables, readings, frames);
 }
 
 // The whole run forward: every block's frame, and the finish's.
@@ -117,20 +105,11 @@ pub fn forward(width: usize, readings: &[i32], frames: &mut [i32]) -> Answer
     ensures frames_after { (told result, frames.new) ≡ whole_forward width readings.now frames.old }
     ensures whole_run { told result ≡ (0, 0) → WholeRun width readings.now frames.new }
 {
-    let asked = questions::in_parts(width, readings.len(), 0, limits::BLOCK_LIMIT);
-    if runs::answer::number(asked) != 0 {
-        return asked;
-    }
+    questions::in_parts(width, readings.len(), 0, limits::BLOCK_LIMIT)?;
     if frames.len() != readings.len() + width {
-        return Answer::OutputLength;
+        return Err(Refusal::OutputLength);
     }
-    let fault = first_fault(width, readings);
-    match fault {
-        Fault::Dead(place) => Answer::DeadMark(place),
-        Fault::Beyond(place) => Answer::Range(place),
-        Fault::Clear => {
-            frames_of(width, readings, frames);
-            Answer::Done
-        }
-    }
+    first_fault(width, readings)?;
+    frames_of(width, readings, frames);
+    Ok(())
 }

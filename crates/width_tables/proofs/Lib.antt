@@ -3,3 +3,4 @@ pub mod PartLaws
 pub mod ListLaws
 pub mod FillLaws
 pub mod TableSizes
+pub mod CutLaws

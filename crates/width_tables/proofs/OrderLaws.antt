@@ -19,6 +19,7 @@ use Rattle.integers.specs.Tests.{every_below}
 use Rattle.integers.proofs.Permutations.{back, back_at}
 use Rattle.integers.proofs.Words.{small}
 use Rattle.integers.proofs.Held.{held, held-ok}
+use Rattle.integers.proofs.Num.{Num, num-call}
 use Rattle.tables.specs.Widths.{by_width, half_width, scale}
 use Rattle.tables.specs.Angles.{half_turn, reflected, below_zero, signed}
 use Rattle.tables.proofs.ByWidth.{at_each, half-width-le}
@@ -120,6 +121,9 @@ nat-is n h = (held w64 (pos n) (small w64 (pos n) (omega arith))).is
 -- a sign fits
 pub sign_fits : (b : Bool) (r : ℤ) → mag r < 2 ^ 63 → r ≡ signed b (pos 1) → nat_abs (to_z w64 (of_z w64 r)) < 2 ^ 63
 sign_fits b r ok e = rw ((held-ok w64 r ok).is, e, signed-size b (pos 1)) (omega arith)
+
+pub sign-num : (b : Bool) {r : ℤ} → mag r < 2 ^ 63 → r ≡ signed b (pos 1) → Num w64 1 (of_z w64 r) (signed b (pos 1))
+sign-num b {r} ok e = num-call w64 r ok e (rw (signed-size b (pos 1)) (omega arith))
 
 pub put_is : (M : ℕ) (by : ℤ) (e p : ℕ) (b : Bool) (t : List ℤ) {x s a y v : ℤ} → x ≡ pos p → s ≡ signed b (pos 1) → a ≡ alternate p (signed b (pos 1)) → y ≡ pos e → v ≡ by *ℤ signed b (pos 1)
     → set (set (set (set (set t (2 * M + e) x) (3 * M + e) s) (4 * M + e) a) (5 * M + p) y) (6 * M + p) v ≡ order_stored M by e p b t

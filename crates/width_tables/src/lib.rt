@@ -4,3 +4,4 @@
 pub mod fill;
 mod matrices;
 mod order;
+pub mod parts;

@@ -28,11 +28,9 @@ fn half_turn_on(room: &mut [i64], half: usize)
     requires { (half % 4 ≡ 0) × (half + half ≤ length room.old) × Small 0 half room.old }
     ensures { Written (λ j. neg_ℤ (at room.old j)) half half room.old room.new }
 {
-    let mut i = 0;
-    while i < half {
+    for i in (0..half).step_by(4) {
         let x = fours::four_at(room, i);
         fours::put(room, half + i, negated(x));
-        i += 4;
     }
 }
 
@@ -42,10 +40,8 @@ fn scaled(by: i64, list: &mut [i64])
     requires within { Within 11000000000 list.old }
     ensures { list.new ≡ places (length list.old) (λ k. by *ℤ at list.old k) }
 {
-    let mut k = 0;
-    while k < list.len() {
-        list[k] = by * list[k];
-        k += 1;
+    for x in list.iter_mut() {
+        *x *= by;
     }
 }
 

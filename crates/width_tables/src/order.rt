@@ -25,12 +25,10 @@ pub fn by_threes(width: usize, scale: i64, t: &mut [i64])
 {
     let half = width / 2;
     let mut j = (128 / half) as u16;
-    let mut e = 0;
-    while e < half {
+    for e in 0..half {
         let folded = angles::first_quadrant(j, 256);
-        let place = folded.angle as usize * half / 256;
+        let place = usize::from(folded.angle) * half / 256;
         put(t, half, scale, e, place, folded.minus);
         j = angles::within_turn(3 * j, 1024);
-        e += 1;
     }
 }

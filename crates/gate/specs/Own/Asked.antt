@@ -2,7 +2,7 @@
 use Rattle.std.specs.Prelude.{◌≡◌, Bool, cond, not, ◌&&◌, List, ℕ, ◌/◌, ◌%◌, eqb, leb, ℤ, length}
 use Rattle.tables.specs.Widths.{half_width}
 use Rattle.runs.specs.Answers.{told}
-use Rattle.runs.specs.declared.answer.Answer.{Answer}
+use Rattle.runs.specs.Answers.{Answer}
 use Rattle.runs.specs.declared.record.Run.{Run}
 use Rattle.runs.specs.Gate.{CallResult, ask, sound, admitted}
 

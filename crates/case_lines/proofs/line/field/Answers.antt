@@ -6,5 +6,5 @@ use Rattle.case_lines.proofs.line.field.Goals as goal
 
 pub overflow_cast-x : goal.overflow_cast-x
 overflow_cast-x c =
-    let e = sym c.number-found.ensures ∙ c.in-Number.is in
+    let e = sym c.number.ensures ∙ c.in-Some.is in
     asks-narrow _ _ (omega (arith, number_fits _ _ e)) e

@@ -2,7 +2,7 @@
 use Rattle.std.proofs.Common.{◌∙◌, arith}
 use Rattle.decimal.proofs.ReadLaws.{no-digits, zero-led, led}
 use Rattle.decimal.proofs.read.size_of.Goals as goal
-use Rattle.decimal.proofs.read.size_of.Goals.{then-digits-gt1+else-digits-eq48, else-digits-gt1}
+use Rattle.decimal.proofs.read.size_of.Goals.{else-digits-gt1-via-then-digits-gt1+else-digits-eq48, else-digits-gt1-via-else-digits-gt1}
 
 pub returns-then-digits-eq0 : goal.returns-then-digits-eq0
 returns-then-digits-eq0 c = no-digits _ _ c.if-digits-eq0.true
@@ -13,4 +13,4 @@ returns-then-digits-eq48 c = zero-led _ _ c.if-digits-gt1.true c.if-digits-eq48.
 pub returns : goal.returns
 returns c =
     c.value_of.ensures ∙ led _ _ c.if-digits-eq0.false (λ h e.
-    elim c.if-digits-gt1.branch [ then-digits-gt1+else-digits-eq48 w ↦ w.if-digits-eq48.false e | else-digits-gt1 w ↦ omega arith ])
+    elim c.else-digits-gt1.branch [ else-digits-gt1-via-then-digits-gt1+else-digits-eq48 w ↦ w.if-digits-eq48.false e | else-digits-gt1-via-else-digits-gt1 w ↦ omega arith ])

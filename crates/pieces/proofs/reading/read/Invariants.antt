@@ -1,6 +1,9 @@
--- Each turn is a try.
-use Rattle.std.proofs.Common.{◌-◌}
+use Rattle.std.specs.Io.{ReadsAtMost}
+use Rattle.std.specs.Io.KnownBytes.{ReadConsumes}
 use Rattle.pieces.proofs.reading.read.Given as goal
 
-abbrev pub decreases-loop-tries : goal.decreases-loop-tries
-decreases-loop-tries g l = 1000 - l.tries
+abbrev pub invariant-loop : goal.invariant-loop
+invariant-loop g l = record {
+  bound : ReadsAtMost l.got l.buffer;
+  bytes : ReadConsumes (g.R.Read.remaining l.fn.input) (g.R.Read.remaining l.input) l.got l.buffer;
+}

@@ -1,44 +1,30 @@
-use borrow.Author.Rules.{rules}
-use mathlib.Core.Path.{refl, sym, subst, ◌∙◌}
-use mathlib.Core.Bool.{false≢true}
-use mathlib.Core.Logic.{◌⊎◌, inl, inr}
+use mathlib.Core.Path.{◌≡◌, sym, ap, subst}
+use mathlib.Core.Logic.{inr}
+use mathlib.Core.List.{List}
+use Prim.Native.Nat.{ℕ}
+use native.Mathlib.Omega.{arith}
+use Rattle.std.specs.Prelude.{Option}
+use Rattle.reels.specs.declared.reel.Reel.{Reel}
 use Rattle.reels.specs.Limits.{WithinLimits}
+use Rattle.reels.specs.Reel.{reel_begun}
 use Rattle.reels.specs.Program.{reel_program}
 use Rattle.reels.proofs.LimitsKept.{limits-kept}
-use Rattle.reels.proofs.LinesLeft.{reel-bounded}
-use Rattle.pieces.proofs.TurnLaws.{turns-first, turn-again, turn-less}
+use Rattle.pieces.specs.Run.{RanToTheEnd}
+use Rattle.reel_stream.specs.Run.{phase_of, Finished}
 use Rattle.reel_stream.proofs.run.run.Goals as goal
 
--- the last of three reasons, said in other words
-last_by : {A B X Y : Type 0} → (X → Y) → A ⊎ B ⊎ X → A ⊎ B ⊎ Y
-last_by f (inl a) = inl a
-last_by f (inr (inl b)) = inr (inl b)
-last_by f (inr (inr x)) = inr (inr (f x))
+finished : {begun last : Reel} {left left' written written' : Option (List ℕ)} {room : ℕ} → begun ≡ reel_begun
+    → RanToTheEnd reel_program begun left left' written written' room last → Finished left left' written written' room last.phase
+unfolding phase_of
+finished {last = last} {left} {left'} {written} {written'} {room} e r =
+    let w = subst (λ (s : Reel). RanToTheEnd reel_program s left left' written written' room last) e r in
+    record { last = last; whole = w; phase = ap (λ (s : Reel). s.phase) w.ends }
 
-pub loop-on-init : goal.loop-on-init
-loop-on-init g c = record {
-  turns = turns-first reel_program _ _ _ c.begin-fresh.ensures (subst WithinLimits (sym c.begin-fresh.ensures) limits-kept.begun) refl (search rules);
-  same_buffer = refl;
-  same_out = search rules;
-  stopped = λ e. absurd (false≢true (sym e));
-}
+pub run-requires : goal.run-requires
+run-requires g c = (subst WithinLimits (sym c.begin.ensures) limits-kept.begun, omega arith)
 
-pub loop-on-smaller : goal.loop-on-smaller
-loop-on-smaller g c =
-    turn-less reel_program c.loop-on.invariant.turns c.refill-filled.ensures c.refill-filled.auto.buffer c.loop-on-test.true c.take_piece-progress.ensures reel-bounded
-    (λ e. let h = c.reads_on-on.ensures.count_nonzero e in (h.0, sym c.is_over.ensures ∙ h.2))
+pub returns-in-Ok-clause-ended : goal.returns-in-Ok-clause-ended
+returns-in-Ok-clause-ended g c = let f = finished c.begin.ensures c.in-Ok.ensures in inr (f.whole.read, f.phase)
 
-pub loop-on-preserved : goal.loop-on-preserved
-loop-on-preserved g c =
-    let k = c.loop-on.invariant in
-    record {
-      turns =
-          turn-again reel_program k.turns c.refill-filled.ensures c.refill-filled.auto.buffer c.loop-on-test.true c.take_piece-progress.ensures c.take_piece-progress.auto.line c.take_piece-progress.auto.out
-          (λ e. (c.reads_on-on.ensures.count_nonzero e).1);
-      same_buffer = c.refill-filled.auto.buffer ∙ k.same_buffer;
-      same_out = c.take_piece-progress.auto.out ∙ k.same_out;
-      stopped = λ e. record {
-        why = last_by (λ o. sym c.is_over.ensures ∙ o) (c.reads_on-on.ensures.fact e);
-        whole = λ l. c.lost-lost.ensures.failed_value l;
-      };
-    }
+pub returns-in-Ok-clause-finished : goal.returns-in-Ok-clause-finished
+returns-in-Ok-clause-finished g c = inr (finished c.begin.ensures c.in-Ok.ensures)

@@ -1,42 +1,24 @@
-use borrow.Author.Rules.{rules}
-use mathlib.Core.Path.{refl, sym, ◌∙◌}
-use mathlib.Core.Bool.{false≢true}
-use mathlib.Core.Logic.{◌⊎◌, inl, inr}
-use Rattle.feeding.specs.Text.{text_program}
-use Rattle.feeding.proofs.LinesLeft.{text-bounded}
-use Rattle.pieces.proofs.TurnLaws.{turns-first, turn-again, turn-less}
+use mathlib.Core.Path.{◌≡◌, ap, subst}
+use mathlib.Core.Logic.{inr}
+use mathlib.Core.List.{List}
+use Prim.Native.Nat.{ℕ}
+use Rattle.std.specs.Prelude.{Option}
+use Rattle.feeding.specs.declared.session.Session.{Session}
+use Rattle.feeding.specs.Text.{session_begun, text_program}
+use Rattle.text_runs.specs.declared.state.Way.{Way}
+use Rattle.pieces.specs.Run.{RanToTheEnd}
+use Rattle.stream.specs.Run.{ending_of, Finished}
 use Rattle.stream.proofs.run.run.Goals as goal
 
--- the last of three reasons, said in other words
-last_by : {A B X Y : Type 0} → (X → Y) → A ⊎ B ⊎ X → A ⊎ B ⊎ Y
-last_by f (inl a) = inl a
-last_by f (inr (inl b)) = inr (inl b)
-last_by f (inr (inr x)) = inr (inr (f x))
+finished : {way : Way} {begun last : Session} {left left' written written' : Option (List ℕ)} {room : ℕ} → begun ≡ session_begun way
+    → RanToTheEnd text_program begun left left' written written' room last → Finished way left left' written written' room last.ending
+unfolding ending_of
+finished {last = last} {left} {left'} {written} {written'} {room} e r =
+    let w = subst (λ (s : Session). RanToTheEnd text_program s left left' written written' room last) e r in
+    record { last = last; whole = w; ending = ap (λ (s : Session). s.ending) w.ends }
 
-pub loop-on-init : goal.loop-on-init
-loop-on-init g c = record {
-  turns = turns-first text_program _ _ _ c.begin-fresh.ensures tt refl (search rules);
-  same_buffer = refl;
-  same_out = search rules;
-  stopped = λ e. absurd (false≢true (sym e));
-}
+pub returns-in-Ok-clause-ended : goal.returns-in-Ok-clause-ended
+returns-in-Ok-clause-ended g c = let f = finished c.begin.ensures c.in-Ok.ensures in inr (f.whole.read, f.ending)
 
-pub loop-on-smaller : goal.loop-on-smaller
-loop-on-smaller g c =
-    turn-less text_program c.loop-on.invariant.turns c.refill-filled.ensures c.refill-filled.auto.buffer c.loop-on-test.true c.take_piece-progress.ensures text-bounded
-    (λ e. let h = c.reads_on-on.ensures.count_nonzero e in (h.0, sym c.is_over.ensures ∙ h.2))
-
-pub loop-on-preserved : goal.loop-on-preserved
-loop-on-preserved g c =
-    let k = c.loop-on.invariant in
-    record {
-      turns =
-          turn-again text_program k.turns c.refill-filled.ensures c.refill-filled.auto.buffer c.loop-on-test.true c.take_piece-progress.ensures c.take_piece-progress.auto.line c.take_piece-progress.auto.out
-          (λ e. (c.reads_on-on.ensures.count_nonzero e).1);
-      same_buffer = c.refill-filled.auto.buffer ∙ k.same_buffer;
-      same_out = c.take_piece-progress.auto.out ∙ k.same_out;
-      stopped = λ e. record {
-        why = last_by (λ o. sym c.is_over.ensures ∙ o) (c.reads_on-on.ensures.fact e);
-        whole = λ l. c.lost-lost.ensures.failed_value l;
-      };
-    }
+pub returns-in-Ok-clause-finished : goal.returns-in-Ok-clause-finished
+returns-in-Ok-clause-finished g c = inr (finished c.begin.ensures c.in-Ok.ensures)

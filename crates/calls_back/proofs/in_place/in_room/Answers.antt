@@ -1,0 +1,23 @@
+-- What the steps of a width take is filled into the front of the room, whose sizes suffice for the width.
+use Rattle.std.proofs.Common.{arith}
+use Rattle.tables.proofs.Reading.{half_is}
+use Rattle.frames.proofs.RoomLaws.{filled-lent, halves-lent}
+use Rattle.calls_back.proofs.in_place.in_room.Goals as goal
+
+pub whole_as_front-undo : goal.whole_as_front-undo
+whole_as_front-undo g c =
+    let e = half_is c.args.width c.requires.width_nonzero in
+    (omega arith, omega arith)
+
+pub invariant_of-tables : goal.invariant_of-tables
+invariant_of-tables g c = record { known = c.requires.width_nonzero; filled = filled-lent _ c.tables_long-long.ensures c.fill.new.t _ c.fill.ensures }
+
+pub undo-requires-clause-wide_room : goal.undo-requires-clause-wide_room
+undo-requires-clause-wide_room g c =
+    let e = half_is c.args.width c.requires.width_nonzero in
+    record {
+      halves = halves-lent c.args.width c.requires.width_nonzero _ _ (omega arith) (omega arith);
+      products = record { y-long = omega arith; z-long = omega arith };
+      y-wide = omega arith;
+      z-wide = omega arith;
+    }

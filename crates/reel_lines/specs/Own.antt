@@ -1,2 +1,0 @@
--- Serves the code; no promise cites it.
-pub mod Totals
