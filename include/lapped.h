@@ -3,8 +3,8 @@
  *
  * A run of blocks of N readings (N is 8, 32 or 128) becomes frames of N coefficients, and goes back to exactly
  * the readings that it came from. A block can also ask for a move of the valve, which is then made. Link with
- * liblapped.a (`tests/archive` builds it), which needs memcpy, memmove and memset and nothing else. docs/C-API.md
- * is the guide; docs/PROMISES.md says what is proved.
+ * liblapped.a (`tests/archive` builds it), which needs memcpy and memset and nothing else. docs/C-API.md is the guide;
+ * docs/PROMISES.md says what is proved.
  *
  * Every function
  *   - returns an answer, LAPPED_DONE or the number of the question that said no, and writes to *place the first

@@ -86,4 +86,4 @@ module _ (answer : Answer) (run : Run) (numbers : List ℤ) where
   pub numbers_kept : false ≡ is_ok answer → numbers ≡ numbers_after (told answer).0 run numbers
   numbers_kept e = kept-refused numbers _ run (refused_told answer e)
 
-pub ruleset hand_back = (done_told, numbers_packed, numbers_kept)
+pub ruleset hand_back = (done_told, numbers_packed, numbers_kept, kept-refused, kept-worked)

@@ -6,7 +6,11 @@ use crate::{call, case};
 use calls_forward::forward;
 use case_lines::line;
 use runs::answer;
+use runs::answer::Refusal;
 use runs::record::{Outcome, Run};
+
+// A place that no refusal of the library names.
+const NOWHERE: usize = 4294967296;
 
 // The record after a line, and whether the call gave what is told.
 #[derive(Clone, Copy)]
@@ -65,12 +69,15 @@ fn as_told(given: Outcome, told: &[u8]) -> bool {
         && line::whole(told, 4, b' ') == Some(run.total)
 }
 
-// A line that names no call leaves the record as it is.
+// A line that names no call leaves the record as it is, and answers 12 at no place.
 pub fn next(run: Run, text: &[u8]) -> Given {
-    let Some(call) = named(text) else {
-        return Given { run, same: false };
+    let given = match named(text) {
+        Some(call) => called(call, run, text),
+        None => Outcome {
+            run,
+            answer: Err(Refusal::Unfolded(NOWHERE)),
+        },
     };
-    let given = called(call, run, text);
     let from = line::begin(text, 1, b'>');
     Given {
         run: given.run,

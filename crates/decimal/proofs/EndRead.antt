@@ -7,11 +7,10 @@ use native.Mathlib.Omega.{arith}
 use lib.Dec.{eqb}
 use lib.IntN.{ℤ, pos, negsuc, nat_abs}
 use lib.ListN.{length, take, drop, length-drop}
-use lib.Seq.{take_all}
 use lib.Signed.{mag}
 use Rattle.std.specs.Int.{FitsUnsignedBits}
 use Rattle.text_runs.specs.Decimal.{least32, number_in, total_in}
-use Rattle.text_runs.specs.Lines.{comma, end_tag, fields, up_to, same, is_count, count_and_total, end_total}
+use Rattle.text_runs.specs.Lines.{comma, end_tag, fields, up_to, is_count, count_and_total, end_total}
 use Rattle.std.specs.Prelude.{Some, None}
 use Rattle.std.specs.Cmp.Lexicographic.{pointwise}
 use Rattle.text_runs.proofs.UpToLaws.{part_length}

@@ -97,7 +97,9 @@ pub fn numbers(line: &[u8], out: &mut [i32]) -> Option<usize>
     let mut at = 0;
     while at <= line.len() {
         let end = search::end_of(line, at, b',');
-        let x = number(&line[at..end])?;
+        let Some(x) = number(&line[at..end]) else {
+            return None;
+        };
         out[n] = x as i32;
         n += 1;
         at = end + 1;

@@ -6,9 +6,8 @@ use mathlib.Core.List.{List, [], ◌++◌}
 use Prim.Native.Nat.{ℕ, ◌+◌, ◌≤◌, ◌<◌}
 use native.Mathlib.Omega.{arith}
 use borrow.Author.Tests.{ne_eqb}
-use lib.ListN.{length, take, drop}
+use lib.ListN.{length, take}
 use lib.Seq.{slice, slice_empty, length-take-le}
-use Rattle.text_runs.specs.Line.{line_limit}
 use Rattle.feeding.specs.Program.{Program, handed}
 use Rattle.feeding.specs.Feed.{Reader, handed_on, fed, rest_fed, reader_ended}
 use Rattle.feeding.proofs.FeedLaws.{fed-over, fed-twice}

@@ -1,12 +1,12 @@
 -- A whole run, turn after turn, for every program.
 use mathlib.Core.Path.{◌≡◌, refl, sym, ap, subst, ◌∙◌}
 use mathlib.Core.Logic.{◌⊎◌, inl, inr, ⊎_elim}
-use mathlib.Core.Bool.{Bool, true, false, cond, false≢true}
+use mathlib.Core.Bool.{true, false, false≢true}
 use mathlib.Core.List.{List, [], ◌++◌, append_assoc, append-nil}
-use Prim.Native.Nat.{ℕ, suc, ◌-◌, ◌≤◌, ◌<◌}
+use Prim.Native.Nat.{ℕ, ◌-◌, ◌≤◌, ◌<◌}
 use native.Mathlib.Omega.{arith}
 use lib.ListN.{length, take, drop, length-take, take-append-drop}
-use lib.Seq.{slice, length-slice, take-take, take_all}
+use lib.Seq.{slice, length-slice, take_all}
 use Rattle.std.specs.Prelude.{Option}
 use Rattle.std.specs.Io.KnownBytes.{Appends, Consumes, IsAtEnd}
 use Rattle.std.proofs.KnownBytes.{Appends-nil, Appends-trans, Consumes-nil, Consumes-trans, Consumes-kept}
@@ -14,7 +14,6 @@ use Rattle.text_runs.specs.Line.{line_limit}
 use Rattle.feeding.specs.Program.{Program}
 use Rattle.feeding.specs.Feed.{Reader, reader_begun, fed, reader_ended}
 use Rattle.feeding.specs.Budget.{Bounded, accepts}
-use Rattle.feeding.specs.Lines.{printed_of}
 use Rattle.feeding.specs.Own.Behind.{behind}
 use Rattle.feeding.proofs.FeedLaws.{fed-over, fed-twice, fed-fits}
 use Rattle.feeding.proofs.BudgetLaws.{counted, over-at-none}

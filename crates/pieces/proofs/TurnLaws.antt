@@ -1,5 +1,5 @@
 -- A turn of a program's loop: the piece goes on or the next one is read, the step is made, its output is written.
-use mathlib.Core.Path.{◌≡◌, refl, sym, ap, ◌∙◌}
+use mathlib.Core.Path.{◌≡◌, refl, sym, ◌∙◌}
 use mathlib.Core.Logic.{◌⊎◌, ⊎_elim, inl, inr}
 use mathlib.Core.Bool.{true, false}
 use mathlib.Core.List.{List, []}
@@ -79,3 +79,21 @@ pub turns-end : (P : Program) {L : Limits P} {s : P.State} {left left' held held
 turns-end P {buffer = buffer} {count = count} k why ended same e w =
     let long : length (take count buffer) ≡ count = length-take-le count buffer k.within in
     ran_to_the_end P k.passed (omega (arith, long, k.place)) (⊎_elim (λ n. inl (long ∙ n)) (λ o. inr o) why) (λ n some. ended (sym long ∙ n) (omega (arith, same, some))) k.none e w
+
+-- the same, with what the step gave first, which says what the piece is
+module _ (P : Program) {L : Limits P} {s : P.State} {left left' held held' : Option (List ℕ)} {buffer line out : List ℕ} {p : Place P} {count : ℕ}
+    (k : Turns P L s left left' held held' buffer line out p count) {f : PieceRead} {buffer' : List ℕ} {r : Place P} {line' out' : List ℕ}
+    (t : Took P L (take f.count buffer') line out (on_at P p f.at) r line' out') {left″ : Option (List ℕ)} (h : Refills left' left″ buffer count p.at f buffer')
+    (same : length buffer' ≡ length buffer) where
+  pub stepped : {held″ : Option (List ℕ)} → Appends held' held″ (take r.waiting out') → length line' ≡ length line
+      → length out' ≡ length out → Turns P L s left left″ held held″ buffer' line' out' (all_written P r) f.count
+  stepped w sl so = turn-again P k h same t w sl so
+
+  pub stepped-less : (B : Bounded P) → 0 < f.count → P.over r.state ≡ false → turns_left P B line' (all_written P r) < turns_left P B line p
+  stepped-less B some on = turn-less P k h same t B some on
+
+  -- no turn more behind that step
+  pub stepped-last : (held″ : Option (List ℕ)) {held‴ : Option (List ℕ)} {out″ : List ℕ} {q : Place P} {room : ℕ} → Appends held' held″ (take r.waiting out') → length line' ≡ length line
+      → length out' ≡ length out → (f.count ≡ 0) ⊎ (P.over r.state ≡ true) → length buffer' ≡ room
+      → Ends P line' out' (all_written P r) q out″ → Appends held″ held‴ (take q.waiting out″) → RanToTheEnd P s left left″ held held‴ room q.state
+  stepped-last held″ w sl so why long e last = turns-end P (turn-again P k h same t w sl so) why h.ended long e last

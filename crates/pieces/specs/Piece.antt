@@ -1,5 +1,5 @@
 -- The step on a piece of the input, for every program: what its functions promise.
-use Rattle.std.specs.Prelude.{◌≡◌, Bool, List, [], ℕ, ◌+◌, ◌≤◌, ◌<◌, length, take, drop}
+use Rattle.std.specs.Prelude.{◌≡◌, Bool, List, [], ℕ, ◌+◌, ◌≤◌, ◌<◌, length, take}
 use Rattle.std.proofs.Math.Seq.{slice}
 use Rattle.text_runs.specs.Line.{line_limit}
 use Rattle.decimal.specs.Own.Put.{Put}

@@ -1,8 +1,8 @@
 // The input, piece by piece.
-ghost use Rattle.std.specs.Prelude.{◌≡◌, true, false, ◌⊎◌, ◌≤◌, ◌<◌, length, IfOk, IsOk};
+ghost use Rattle.std.specs.Prelude.{◌≡◌, true, false, ◌⊎◌, ◌≤◌, ◌<◌, length, Ok, IfOk, IsOk, OnErr, IsErr};
 ghost use Rattle.std.specs.Io.{ReadsAtMost};
-ghost use Rattle.std.specs.Io.KnownBytes.{ReadConsumes};
-ghost use Rattle.pieces.specs.Own.Refills.{Refills};
+ghost use Rattle.std.specs.Io.KnownBytes.{Keeps, ReadConsumes};
+ghost use Rattle.pieces.specs.Own.Refills.{piece_given, Refills};
 
 use crate::writing;
 use std::io;
@@ -73,8 +73,22 @@ pub fn read_full<R: Read>(input: &mut R, buffer: &mut [u8]) -> usize
     done
 }
 
-// Goes on in a piece, or reads the next one where it is used up. A read that fails is no end of the input; it is told on standard error, with
-// its reason.
+// The piece that a read gave, from its first byte. One that failed is no end of the input.
+fn piece_of(got: &io::Result<usize>) -> Result<PieceRead, Lost>
+    ensures ok { IfOk got.now (λ n. result ≡ Ok (piece_given n)) }
+    ensures err { OnErr got.now (IsErr result) }
+{
+    match got {
+        Ok(count) => {
+            let count = *count;
+            Ok(PieceRead { count, at: 0 })
+        }
+        Err(_) => Err(Lost),
+    }
+}
+
+// Goes on in a piece, or reads the next one where it is used up. A read that fails takes nothing from the input; it is told on standard error,
+// with its reason.
 pub fn refill<R: Read, E: Write>(
     input: &mut Source<R, E>,
     buffer: &mut [u8],
@@ -84,17 +98,17 @@ pub fn refill<R: Read, E: Write>(
     requires { (at ≤ count) × (count ≤ length buffer.old) }
     ensures ok { IfOk result (λ r. Refills (R.remaining input.old.input) (R.remaining input.new.input) buffer.old count at r buffer.new) }
     ensures goes_on { at < count → IsOk result }
+    ensures failed { OnErr result (Keeps (R.remaining input.old.input) (R.remaining input.new.input)) }
 {
     if at < count {
         return Ok(PieceRead { count, at });
     }
-    match read(&mut input.input, buffer) {
-        Ok(count) => Ok(PieceRead { count, at: 0 }),
-        Err(why) => {
-            writing::fail(&mut input.errors, b"the input cannot be read", &why);
-            Err(Lost)
-        }
+    let got = read(&mut input.input, buffer);
+    let piece = piece_of(&got);
+    if let Err(why) = got {
+        writing::fail(&mut input.errors, b"the input cannot be read", &why);
     }
+    piece
 }
 
 // Whether a program reads no further: there was no byte, or it is over.

@@ -4,7 +4,7 @@ use denote.Struct.Props.{props}
 use Prim.Native.Nat.{ℕ, ◌*◌, ◌^◌}
 use mathlib.Core.List.{List}
 use lib.IntN.{ℤ}
-use Rattle.products.specs.Own.Products.{Power, Laid}
+use Rattle.products.specs.Own.Products.{Power}
 use Rattle.products.specs.Own.Whole.{LeafLists}
 use Rattle.products.proofs.LevelRooms.{power-same}
 

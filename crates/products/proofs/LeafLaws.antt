@@ -1,17 +1,16 @@
 -- A leaf's nine products come to the product of four numbers with its list, and everything on the way fits.
 use mathlib.Core.Path.{◌≡◌, refl, sym, ap, ap₂, subst, ◌∙◌}
-use mathlib.Core.List.{List, []}
+use mathlib.Core.List.{List}
 use Prim.Native.Nat.{ℕ, ◌+◌, ◌*◌, ◌^◌, ◌≤◌, ◌<◌}
 use native.Mathlib.Nat.{mul-le-mul_right}
 use native.Mathlib.Omega.{arith}
-use lib.IntN.{ℤ, nat_abs, ◌+ℤ◌, ◌-ℤ◌, ◌*ℤ◌, +ℤ_idl, +ℤ_assoc}
+use lib.IntN.{ℤ, nat_abs, ◌+ℤ◌, ◌-ℤ◌, ◌*ℤ◌}
 use lib.ListN.{length}
 use mir.Syntax.{w64}
 use mir.Val.{SFits, to_z, of_z}
 use mir.ValLaws.{to_z-of_z}
-use Rattle.integers.specs.Places.{tab, places, at, sum, Within}
+use Rattle.integers.specs.Places.{tab, places, at, Within}
 use Rattle.integers.proofs.Order.{nat_abs-*ℤ-le}
-use Rattle.integers.proofs.Ring.{+ℤ-swap}
 use Rattle.integers.proofs.Words.{small}
 use Rattle.integers.proofs.PlaceLaws.{within-places, at_places, places-ext, places_is, sum-ext}
 use Rattle.slices.specs.declared.fours.Four.{Four}
@@ -21,26 +20,10 @@ use Rattle.products.specs.Own.Products.{Lists, Laid, product, products, BothWith
 use Rattle.products.specs.Own.Leaf.{listed_nine, Fit, Leaf, Leaves, Leafed}
 use Rattle.slices.proofs.FourLaws.{four-places, length-stored, stored-out, stored_is}
 use Rattle.products.proofs.RoomLaws.{next_one}
+use Rattle.products.proofs.FourTerms.{upper, lower, four-terms}
 use Rattle.products.proofs.LevelLaws.{first-term, second-term, doubled-size, differing-size, product-size}
 
 -- ---- the four places
-shuffled : (a b c d : ℤ) → (a +ℤ b) +ℤ (c +ℤ d) ≡ a +ℤ c +ℤ b +ℤ d
-shuffled a b c d = +ℤ-swap a b c d ∙ sym (+ℤ_assoc (a +ℤ c) b d)
-
-upper : (p q r s x y z w : ℤ) → ((p -ℤ r) *ℤ x +ℤ (q -ℤ s) *ℤ y) +ℤ (r *ℤ (x +ℤ z) +ℤ s *ℤ (y +ℤ w)) ≡ p *ℤ x +ℤ q *ℤ y +ℤ r *ℤ z +ℤ s *ℤ w
-upper p q r s x y z w =
-    +ℤ-swap ((p -ℤ r) *ℤ x) ((q -ℤ s) *ℤ y) (r *ℤ (x +ℤ z)) (s *ℤ (y +ℤ w)) ∙ ap₂ ◌+ℤ◌ (first-term p r x z) (first-term q s y w)
-    ∙ shuffled (p *ℤ x) (r *ℤ z) (q *ℤ y) (s *ℤ w)
-
-lower : (p q r s x y z w : ℤ) → ((r -ℤ p) *ℤ z +ℤ (s -ℤ q) *ℤ w) +ℤ (p *ℤ (x +ℤ z) +ℤ q *ℤ (y +ℤ w)) ≡ p *ℤ x +ℤ q *ℤ y +ℤ r *ℤ z +ℤ s *ℤ w
-lower p q r s x y z w =
-    +ℤ-swap ((r -ℤ p) *ℤ z) ((s -ℤ q) *ℤ w) (p *ℤ (x +ℤ z)) (q *ℤ (y +ℤ w)) ∙ ap₂ ◌+ℤ◌ (second-term p r x z) (second-term q s y w)
-    ∙ shuffled (p *ℤ x) (r *ℤ z) (q *ℤ y) (s *ℤ w)
-
-four-terms : (f : ℕ → ℤ) → f 0 +ℤ f 1 +ℤ f 2 +ℤ f 3 ≡ sum 4 f
-unfolding sum
-four-terms f = ap (λ z. z +ℤ f 1 +ℤ f 2 +ℤ f 3) (sym (+ℤ_idl (f 0)))
-
 module _ (g a : ℕ → ℤ) where
   abbrev e : ℕ → ℤ
   e = at (nine g)

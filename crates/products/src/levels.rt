@@ -24,7 +24,8 @@ fn append_list(room: &mut [i64], from: usize, to: usize, h: usize)
     requires small { Small from (from + (h + h)) room.old }
     ensures { Written (λ j. at room.old (from + j) +ℤ at room.old (from + h + j)) to h room.old room.new }
 {
-    for i in (0..h).step_by(4) {
+    for u in 0..h / 4 {
+        let i = 4 * u;
         let y = fours::four_at(room, from + h + i);
         move_four(false, room, from + i, y, to + i);
     }
@@ -48,7 +49,8 @@ fn spread_list(less: bool, room: &mut [i64], to: usize, from: usize, h: usize)
     requires small { Small to (from + h) room.old }
     ensures { Spread (moved less) to h from h room.old room.new }
 {
-    for i in (0..h).step_by(4) {
+    for u in 0..h / 4 {
+        let i = 4 * u;
         let z = fours::four_at(room, from + i);
         let p = to + i;
         let q = to + h + i;

@@ -11,6 +11,18 @@ use crate::levels;
 use slices::fours;
 use slices::fours::Four;
 
+// The h numbers from `from` on, to `to`, which lies behind them.
+fn copy_list(room: &mut [i64], from: usize, to: usize, h: usize)
+    requires { (h % 4 ≡ 0) × (from + h ≤ to) × (to + h ≤ length room.old) }
+    ensures { Written (λ j. at room.old (from + j)) to h room.old room.new }
+{
+    for u in 0..h / 4 {
+        let i = 4 * u;
+        let x = fours::four_at(room, from + i);
+        fours::put(room, to + i, x);
+    }
+}
+
 // The middles of k lists of 4q numbers, to the end.
 fn copy_middles(room: &mut [i64], k: usize, q: usize)
     requires { (q % 4 ≡ 0) × (1 ≤ k) × (k * (q + q + (q + q)) + k * (q + q) ≤ length room.old) }
@@ -20,7 +32,7 @@ fn copy_middles(room: &mut [i64], k: usize, q: usize)
     let n = h + h;
     for v in 0..k {
         let from = v * n + q;
-        room.copy_within(from..from + h, k * n + v * h);
+        copy_list(room, from, k * n + v * h, h);
     }
 }
 

@@ -1,7 +1,7 @@
 -- A verdict on a line, and what it leads to.
 use Rattle.std.specs.Prelude.{Ok, Err, Option, Some, None}
 use mathlib.Core.Path.{◌≡◌, refl, sym, ap, ◌∙◌}
-use mathlib.Core.Bool.{Bool, true, false, cond, not, false≢true}
+use mathlib.Core.Bool.{true, false, cond}
 use mathlib.Core.List.{List}
 use Prim.Native.Nat.{ℕ, ◌≤◌, ◌<◌}
 use borrow.Author.Tests.{eq-eqb, ne_eqb, lt-ltb, le-ltb}
@@ -15,11 +15,10 @@ use Rattle.text_runs.specs.Lines.{numbers_in, end_total}
 use Rattle.reels.specs.declared.verdict.Refusal.{Refusal}
 use native.Mathlib.Omega.{arith}
 use Rattle.reels.specs.declared.verdict.Refusal.TheVariants.{Width, Full, Empty, Length, Range, Form, OtherWidth, RunTooMany}
-use Rattle.reels.specs.declared.reel.ReelPhase.{ReelPhase}
-use Rattle.reels.specs.declared.reel.ReelPhase.TheVariants.{FirstRun, Frames, NextRun, Whole, Refused}
+use Rattle.reels.specs.declared.reel.ReelPhase.TheVariants.{NextRun}
 use Rattle.reels.specs.declared.reel.Reel.{Reel}
 use Rattle.reels.specs.Verdicts.{Verdict, verdict_told}
-use Rattle.reels.specs.Reel.{run_limit, reel_over, to_phase, reel_refused, taken_or, width_asked, range_asked, frame_asked, frame_line, end_asked, run_line_by, run_line, reel_broken}
+use Rattle.reels.specs.Reel.{run_limit, to_phase, reel_refused, taken_or, width_asked, range_asked, frame_asked, frame_line, end_asked, run_line_by, run_line}
 use Rattle.std.specs.Option.{is_some}
 
 refusal-numbered : (refusal : Refusal) → (verdict_told (Err refusal)).0 ≡ 0 → ⊥
@@ -117,3 +116,11 @@ module _ (s : Reel) (bytes : List ℕ) where
   pub frame-read : is_some (end_total s.count bytes) ≡ false → run_line s bytes ≡ frame_line s (numbers_in bytes)
   unfolding run_line
   frame-read e = run-line (end_total s.count bytes) ∙ rw e
+
+  -- as the code has it: the total asked for, and what the reel is then
+  module _ {next : Reel} {end : Option ℤ} (asked : end ≡ end_total s.count bytes) where
+    pub run_ended : {total : ℤ} → end ≡ Some total → next ≡ taken_or s (verdict_told (end_asked s.count)) (to_phase NextRun s) → next ≡ run_line s bytes
+    run_ended is by = by ∙ sym (end_read (ap is_some (sym asked ∙ is)))
+
+    pub frame_taken : end ≡ None → next ≡ frame_line s (numbers_in bytes) → next ≡ run_line s bytes
+    frame_taken is by = by ∙ sym (frame-read (ap is_some (sym asked ∙ is)))

@@ -98,12 +98,13 @@ fn end_run(reel: Reel) -> Reel
 }
 
 // An end line or a frame. Frames that do not go back have no total, so its value is not asked.
+#[tactic(auto, using(crate::proofs::LineLaws::run_ended, crate::proofs::LineLaws::frame_taken))]
 pub fn take_between(reel: Reel, line: &[u8]) -> Reel
     requires { WithinLimits reel × (length line.now ≤ 2048) }
     ensures { result ≡ run_line reel line.now }
 {
-    if read::end_total(line, reel.count).is_some() {
-        return end_run(reel);
+    match read::end_total(line, reel.count) {
+        Some(_total) => end_run(reel),
+        None => take_row(reel, line),
     }
-    take_row(reel, line)
 }

@@ -4,12 +4,14 @@ ghost use Rattle.integers.specs.Places.{places, at, Within};
 ghost use Rattle.integers.specs.Vectors.{sum_of};
 ghost use Rattle.slices.specs.Own.Moves.{moved, woven_at};
 
-// Each number to its own place.
+// Each number to its own place; `copy_from_slice` makes a `memmove` of it, which the archive is not to need.
 pub fn copy(x: &[i64], out: &mut [i64])
     requires { length x.now ≡ length out.old }
     ensures { out.new ≡ x.now }
 {
-    out.copy_from_slice(x);
+    for i in 0..out.len() {
+        out[i] = x[i];
+    }
 }
 
 #[tactic(auto, unfolding(crate::specs::Own::Moves::moved))]
@@ -66,8 +68,8 @@ pub fn sum(x: &[i32]) -> i64
     ensures { result ≡ sum_of x.now }
 {
     let mut total: i64 = 0;
-    for v in x {
-        total += i64::from(*v);
+    for n in 0..x.len() {
+        total += i64::from(x[n]);
     }
     total
 }

@@ -1,16 +1,16 @@
 -- The ending that a last line tells.
 use mathlib.Core.Path.{◌≡◌, refl, sym, ap, ◌∙◌}
 use mathlib.Core.Logic.{◌⊎◌, ⊎_elim}
-use mathlib.Core.Bool.{true, false, cond}
-use mathlib.Core.List.{List, [], ◌∷◌, ◌++◌}
-use Rattle.std.specs.Prelude.{Option, None, Some}
-use Prim.Native.Nat.{ℕ, ◌≤◌, ◌<◌}
+use mathlib.Core.Bool.{true, false}
+use mathlib.Core.List.{List, [], ◌∷◌}
+use Rattle.std.specs.Prelude.{Some}
+use Prim.Native.Nat.{ℕ, ◌≤◌}
 use native.Mathlib.Omega.{arith}
 use borrow.Author.Tests.{ne_eqb}
 use lib.IntN.{ℤ, pos}
 use lib.ListN.{length, take, drop, get_or}
-use lib.Seq.{take_all, get_or-take, length-take-le}
-use Rattle.text_runs.specs.Lines.{line_feed, refused_tag, numbers_in, up_to, same}
+use lib.Seq.{get_or-take, length-take-le}
+use Rattle.text_runs.specs.Lines.{line_feed, refused_tag, numbers_in, up_to}
 use Rattle.text_runs.specs.declared.state.Phase.{Phase}
 use Rattle.text_runs.specs.State.{is_going_on}
 use Rattle.decimal.proofs.CompareLaws.{pointwise-same}

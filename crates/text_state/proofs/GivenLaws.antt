@@ -1,12 +1,14 @@
 -- What the code answers, as the definitions give it.
 use Rattle.std.specs.Prelude.{Ok, Err}
-use mathlib.Core.Path.{◌≡◌, refl, ap, ap₂}
+use mathlib.Core.Path.{◌≡◌, refl, ap, ap₂, ◌∙◌}
 use mathlib.Core.Bool.{false}
 use mathlib.Core.List.{List, [], ◌∷◌, ◌++◌}
 use Prim.Native.Nat.{ℕ}
 use lib.Dec.{eqb}
 use lib.IntN.{ℤ}
 use lib.ListN.{take}
+use mir.Syntax.{w64}
+use mir.Val.{of_z}
 use Rattle.integers.proofs.Sums.{alike_refl, alike-other}
 use Rattle.runs.specs.Answers.{Answer, told}
 use Rattle.runs.specs.declared.answer.Refusal.{Refusal}
@@ -15,7 +17,7 @@ use Rattle.runs.specs.declared.record.Run.{Run}
 use Rattle.text_runs.specs.Lines.{line_feed, refusal}
 use Rattle.text_runs.specs.declared.state.State.{State}
 use Rattle.text_runs.specs.declared.state.Phase.TheVariants.{Between, Over}
-use Rattle.text_runs.specs.State.{result_of, in_phase, with_run, line_number, refused}
+use Rattle.text_runs.specs.State.{LineResult, result_of, in_phase, with_run, line_number, refused}
 use Rattle.text_runs.specs.Way.{shown_row, shown_last}
 use Rattle.text_runs.specs.Line.{row_given, total_asked, finish_given}
 
@@ -64,3 +66,11 @@ module _ (s : State) (run : Run) (out : List ℤ) where
   pub finish-done : {answer : Answer} (stated : ℤ) → answer ≡ Ok tt → stated ≡ s.run.total → (with_run Over run s, shown_last s.way s.run out) ≡ finish_given s stated (told answer, run, out)
   unfolding finish_given told total_asked
   finish-done stated e n = rw (e, n, alike_refl s.run.total)
+
+-- the same, as the code has it: what is told by the gate, what is asked behind it, and what is printed
+module _ (s : State) (run : Run) (out : List ℤ) (stated : ℤ) {answer : Answer} {given : LineResult} where
+  pub gate_refused : {r : Refusal} → answer ≡ Err r → given ≡ refused s (told (Err r)) → given ≡ finish_given s stated (told answer, run, out)
+  gate_refused {r} e by = by ∙ finish-refused s run out stated r e
+
+  pub total_refused : answer ≡ Ok tt → (of_z w64 stated ≡ of_z w64 s.run.total → ⊥) → given ≡ refused s (16, 0) → given ≡ finish_given s stated (told answer, run, out)
+  total_refused e n by = by ∙ finish-other s run out stated e (λ same. n (ap (of_z w64) same))

@@ -87,6 +87,7 @@ pub fn given_row(state: State, outcome: Outcome, out: &[i32]) -> Printed
 }
 
 // What is printed for a finish that worked, or for its refusal: by the gate, or behind it by the total that the end line states.
+#[tactic(auto, using(crate::proofs::GivenLaws::gate_refused, crate::proofs::GivenLaws::total_refused))]
 pub fn given_last(state: State, stated: i64, outcome: Outcome, out: &[i32]) -> Printed
     requires out_len_bound { length out.now ≤ 128 }
     requires closing { (told outcome.answer).0 ≡ 0 → Closing state.way state.run.count }

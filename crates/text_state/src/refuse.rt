@@ -6,7 +6,7 @@ ghost use Rattle.text_runs.specs.Line.{bad_form};
 
 use decimal::print;
 use runs::answer;
-use runs::answer::Refusal;
+use runs::answer::{Answer, Refusal};
 use text_runs::state;
 use text_runs::state::{Phase, Printed, State};
 
@@ -38,13 +38,20 @@ pub fn by(state: State, number: usize, place: usize) -> Printed
     }
 }
 
-// By the number and the place of a call's refusal.
+// By the number and the place of an answer.
+pub fn by_answer(state: State, answer: Answer) -> Printed
+    ensures result_value { result_of result ≡ refused state (told answer) }
+    ensures length_bound { result.length ≤ 2048 }
+{
+    by(state, answer::number(answer), answer::place(answer))
+}
+
+// By those of a call's refusal.
 pub fn by_refusal(state: State, refusal: Refusal) -> Printed
     ensures result_value { result_of result ≡ refused state (told (Err refusal)) }
     ensures length_bound { result.length ≤ 2048 }
 {
-    let answer = Err(refusal);
-    by(state, answer::number(answer), answer::place(answer))
+    by_answer(state, Err(refusal))
 }
 
 #[tactic(auto, unfolding(text_runs::specs::Line::bad_form))]

@@ -1,17 +1,15 @@
 -- The cut quotient by the total's sign, as the code works it.
 use mathlib.Core.Path.{◌≡◌, refl}
-use mathlib.Core.Bool.{true, false}
 use Prim.Native.Nat.{ℕ, suc, ◌/◌, ◌≤◌}
 use native.Mathlib.Nat.{div-le_self}
 use native.Mathlib.Omega.{arith}
-use lib.IntN.{ℤ, pos, negsuc, neg_ℤ, nat_abs}
+use lib.IntN.{ℤ, pos, negsuc, nat_abs}
 use Rattle.std.specs.Int.{int_max, int_min}
 use Rattle.std.specs.Int.{int_max, int_min}
 use Rattle.std.proofs.lemmas.Int.{ints}
-use lib.Signed.{quot_z, lt_z, ◌≤ℤ◌}
+use lib.Signed.{quot_z, ◌≤ℤ◌}
 use Rattle.integers.proofs.Differences.{dif, zs}
 use Rattle.integers.proofs.Order.{nat_abs-negℤ}
-use Rattle.integers.proofs.Signs.{if-below, if-from}
 use Rattle.valves.specs.Record.{travel}
 use Rattle.valves.specs.Moves.{cut, held_between}
 
@@ -36,3 +34,7 @@ held-clamp low high x h = grind (arith, ints)
 
 pub clamped : {low high x : ℤ} (low' high' x' : ℤ) → low ≡ low' → high ≡ high' → x ≡ x' → low' ≤ℤ high' → int_max low (int_min x high) ≡ held_between low' high' x'
 clamped low' high' x' l h e c = rw (l, h, e) (held-clamp low' high' x' c)
+
+-- the same hold of the same numbers
+pub held_same : {low low' high high' x x' : ℤ} → low ≡ low' → high ≡ high' → x ≡ x' → held_between low high x ≡ held_between low' high' x'
+held_same l h e = rw (l, h, e) refl

@@ -2,19 +2,17 @@
 use Rattle.std.specs.Prelude.{Ok, Err, Option, Some, None}
 use Rattle.std.specs.Result.{is_err}
 use mathlib.Core.Path.{◌≡◌, refl}
-use mathlib.Core.Bool.{Bool, true, false, cond, ◌&&◌, and-eq-true_iff}
+use mathlib.Core.Bool.{Bool, true, false, ◌&&◌, and-eq-true_iff}
 use mathlib.Core.List.{List}
 use Prim.Native.Nat.{ℕ, ◌^◌, ◌<◌}
 use native.Mathlib.Omega.{arith}
 use borrow.Author.Tests.{lt-ltb, eq-eqb, ne_eqb}
 use lib.IntN.{ℤ, pos, neg_ℤ, ◌+ℤ◌}
 use lib.ListN.{length}
-use lib.Signed.{mag, le_z, lt_z, ◌≤ℤ◌, ◌<ℤ◌}
+use lib.Signed.{mag, ◌≤ℤ◌, ◌<ℤ◌}
 use mir.Syntax.{w32}
 use mir.Val.{SFits}
-use Rattle.integers.specs.Vectors.{alike}
 use Rattle.integers.proofs.Differences.{dif, zb}
-use Rattle.integers.proofs.Order.{lt-taken, lt-left, le-tested, gt-tested}
 use Rattle.tables.specs.Widths.{half_width}
 use Rattle.runs.specs.Gate.{first_dead, first_out}
 use Rattle.gate.specs.declared.questions.Fault.TheVariants.{Dead, Beyond}
@@ -23,11 +21,11 @@ use Rattle.valves.specs.declared.record.Valve.{Valve}
 use Rattle.valves.specs.declared.record.Ticket.{Ticket}
 use Rattle.valves.specs.Answers.{Answer}
 use Rattle.valves.specs.declared.answer.Refusal.{Refusal}
-use Rattle.valves.specs.declared.answer.Refusal.TheVariants.{Width, InputLength, DeadMark, Range, Limits, AllMade, OtherCount}
+use Rattle.valves.specs.declared.answer.Refusal.TheVariants.{Width, InputLength, DeadMark, Range, Limits}
 use Rattle.valves.specs.Record.{travel, greatest_move, count_limit, ticket_of, between, in_travel, in_limits}
 use Rattle.valves.specs.Answers.{told}
 use Rattle.valves.specs.Moves.{move}
-use Rattle.valves.specs.Calls.{ask, ask_each, passes, ask_answer, answered_with, asked, move_allowed, make_answer, moved, made_of, made}
+use Rattle.valves.specs.Calls.{ask, ask_each, passes, ask_answer, answered_with, asked, make_answer, moved, made_of, made}
 use Rattle.valves.proofs.CallLaws.{refusal-stops, between_ends, travel-ends, AskPassed, ask-answered, MakePassed, make-answered}
 
 -- ---- the record's limits

@@ -10,6 +10,7 @@ use slices::vectors;
 use valves::limits;
 
 // The move before it is held: the block's total divided by the width, cut toward zero, and against it.
+#[tactic(auto, using(crate::proofs::WantedLaws::asking))]
 fn wanted(width: usize, block: &[i32]) -> i64
     requires width_nonzero { 0 < half_width width }
     requires block_len { length block.now ≡ width }
@@ -19,6 +20,20 @@ fn wanted(width: usize, block: &[i32]) -> i64
     -(vectors::sum(block) / width as i64)
 }
 
+// By tests, and not by `clamp`: an edit of one end is then refused for its value.
+#[tactic(auto, unfolding(valves::specs::Moves::held_between))]
+fn held_between(low: i64, high: i64, x: i64) -> i64
+    ensures { result ≡ held_between low high x }
+{
+    if x < low {
+        low
+    } else if high < x {
+        high
+    } else {
+        x
+    }
+}
+
 // Held within ±500, then so that the position stays in its travel.
 fn held_move(position: i32, x: i64) -> i64
     requires { (pos 0 ≤ℤ position) × (position ≤ℤ pos travel) }
@@ -26,8 +41,8 @@ fn held_move(position: i32, x: i64) -> i64
 {
     let most = i64::from(limits::GREATEST_MOVE);
     let from = i64::from(position);
-    x.clamp(-most, most)
-        .clamp(-from, i64::from(limits::TRAVEL) - from)
+    let above = i64::from(limits::TRAVEL) - from;
+    held_between(-from, above, held_between(-most, most, x))
 }
 
 // The asked move of a block that has passed its questions.

@@ -102,8 +102,10 @@ fn in_two_passes(width: usize, frames: &[i32], readings: &mut [i32]) -> Answer
         width,
         numbers: &t[..long],
     };
-    asking::first_answer(&tables, frames)?;
-    readings_of(&tables, frames, readings);
+    match asking::first_answer(&tables, frames) {
+        Ok(()) => readings_of(&tables, frames, readings),
+        Err(refusal) => return Err(refusal),
+    }
     Ok(())
 }
 

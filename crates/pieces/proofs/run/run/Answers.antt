@@ -1,8 +1,10 @@
+-- A turn keeps what holds between turns, and the last one ends the run. That a piece was read and that its output was written is searched for,
+-- in whatever form the code asks it.
+use Rattle.std.proofs.Common.{rules}
 use native.Mathlib.Omega.{arith}
 use mathlib.Core.Path.{refl, sym, ◌∙◌}
-use mathlib.Core.Logic.{inl, inr}
 use Rattle.pieces.specs.Step.{program_of}
-use Rattle.pieces.proofs.TurnLaws.{turns-first, turn-begins, turn-again, turn-less, turns-end}
+use Rattle.pieces.proofs.TurnLaws.{turns-first, turn-begins, stepped, stepped-less, stepped-last}
 use Rattle.pieces.proofs.run.run.Goals as goal
 
 pub loop-piece-init : goal.loop-piece-init
@@ -12,27 +14,22 @@ pub refill-requires : goal.refill-requires
 refill-requires g c = let k = c.loop-piece.invariant.turns in (k.place, k.within)
 
 pub take_piece-progress-requires : goal.take_piece-progress-requires
-take_piece-progress-requires g c = turn-begins (program_of g.P.Program.letters) c.loop-piece.invariant.turns c.in_ok-piece.ensures.ok c.refill.auto.buffer
+take_piece-progress-requires g c = turn-begins (program_of g.P.Program.letters) c.loop-piece.invariant.turns {left″ = g.R.Read.remaining c.refill.new.input.input} (search rules) c.refill.auto.buffer
 
 pub loop-piece-smaller : goal.loop-piece-smaller
 loop-piece-smaller g c =
     let on = c.stops.ensures.goes_on c.if-stops.false in
-    turn-less (program_of g.P.Program.letters) c.loop-piece.invariant.turns c.in_ok-piece.ensures.ok c.refill.auto.buffer c.take_piece-progress.ensures g.P.Program.bounded
-    on.0 (sym c.is_over.ensures ∙ on.1)
+    stepped-less (program_of g.P.Program.letters) c.loop-piece.invariant.turns c.take_piece-progress.ensures {left″ = g.R.Read.remaining c.refill.new.input.input} (search rules) c.refill.auto.buffer
+    g.P.Program.bounded on.0 (sym c.is_over.ensures ∙ on.1)
 
 pub loop-piece-preserved : goal.loop-piece-preserved
 loop-piece-preserved g c = record {
-  turns = turn-again (program_of g.P.Program.letters) c.loop-piece.invariant.turns c.in_ok-piece.ensures.ok c.refill.auto.buffer c.take_piece-progress.ensures
-      c.in_ok-write.ensures c.take_piece-progress.auto.line c.take_piece-progress.auto.out;
+  turns = stepped (program_of g.P.Program.letters) c.loop-piece.invariant.turns c.take_piece-progress.ensures (search rules) c.refill.auto.buffer (search rules) c.take_piece-progress.auto.line c.take_piece-progress.auto.out;
   same_buffer = c.refill.auto.buffer ∙ c.loop-piece.invariant.same_buffer;
 }
 
 pub returns : goal.returns
 returns g c =
-    let P = program_of g.P.Program.letters in
-    let last = turn-again P c.loop-piece.invariant.turns c.in_ok-piece.ensures.ok c.refill.auto.buffer c.take_piece-progress.ensures
-    c.in_ok-write.ensures c.take_piece-progress.auto.line c.take_piece-progress.auto.out
-    in
-    turns-end P last
-    (rw (sym c.is_over.ensures) (c.stops.ensures.stops c.if-stops.true))
-    (λ n some. c.in_ok-piece.ensures.ok.ended n some) (c.refill.auto.buffer ∙ c.loop-piece.invariant.same_buffer) c.end-ended.ensures c.in_ok-write-2.ensures
+    stepped-last (program_of g.P.Program.letters) c.loop-piece.invariant.turns c.take_piece-progress.ensures (search rules) c.refill.auto.buffer
+    (g.W.Write.contents c.write.new.output.output) (search rules) c.take_piece-progress.auto.line c.take_piece-progress.auto.out
+    (rw (sym c.is_over.ensures) (c.stops.ensures.stops c.if-stops.true)) (c.refill.auto.buffer ∙ c.loop-piece.invariant.same_buffer) c.end-ended.ensures (search rules)

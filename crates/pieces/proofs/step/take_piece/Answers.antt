@@ -1,7 +1,7 @@
 use native.Mathlib.Omega.{arith}
 use mathlib.Core.Path.{sym, ◌∙◌}
 use Rattle.pieces.specs.Step.{program_of}
-use Rattle.pieces.proofs.PieceLaws.{kept-first, kept_more, took-all, took-full, took-over}
+use Rattle.pieces.proofs.PieceLaws.{kept-first, kept_more, took-all, took-over}
 use Rattle.pieces.proofs.step.take_piece.Goals as goal
 
 pub loop-progress-init : goal.loop-progress-init

@@ -1,4 +1,4 @@
-use Rattle.std.proofs.Common.{arith, ◌-◌}
+use Rattle.std.proofs.Common.{arith}
 use Rattle.text_runs.proofs.UpToLaws.{part_length}
 use Rattle.pieces.proofs.writing.words_end.Goals as goal
 

@@ -1,7 +1,6 @@
 -- The next list is read where no sum stands yet.
 use Rattle.std.proofs.Common.{◌≡◌, ◌+◌, ◌*◌, ◌≤◌, ◌+ℤ◌, ap₂, arith}
 use Rattle.std.proofs.Math.Nat.{mul-le-mul_right}
-use Rattle.integers.specs.Places.{at}
 use Rattle.products.proofs.RoomLaws.{all-written-next, summed-laid}
 use Rattle.products.proofs.levels.append.Goals as goal
 

@@ -1,5 +1,5 @@
 -- What a turn reads is as it was: the sums stand behind it.
-use Rattle.std.proofs.Common.{◌≡◌, ◌∙◌, ℕ, ◌+◌, ◌-◌, ◌^◌, ◌≤◌, ◌<◌, ℤ, ◌+ℤ◌, nat_abs, false, List, refl, ap, ap₂, subst, arith}
+use Rattle.std.proofs.Common.{◌≡◌, ◌∙◌, ℕ, ◌+◌, ◌-◌, ◌*◌, ◌^◌, ◌≤◌, ◌<◌, ℤ, ◌+ℤ◌, nat_abs, false, List, ap, ap₂, subst, arith}
 use Rattle.integers.specs.Places.{places, at}
 use Rattle.integers.proofs.PlaceLaws.{at_places}
 use Rattle.slices.specs.declared.fours.Four.{Four}
@@ -21,13 +21,15 @@ sums-four r₀ from h {to} {i} {n} {r} {r'} w apart l e ey t =
 
 pub move_four-requires : goal.move_four-requires
 move_four-requires c =
-    let w = c.loop-i.invariant.written in
-    let small : (p : ℕ) → c.args.from ≤ p → p < c.args.from + (c.args.h + c.args.h) → nat_abs (at c.loop-i.room p) ≤ 2 ^ 62 - 1 =
+    let w = c.loop-u.invariant in
+    let small : (p : ℕ) → c.args.from ≤ p → p < c.args.from + (c.args.h + c.args.h) → nat_abs (at c.loop-u.room p) ≤ 2 ^ 62 - 1 =
     λ p b l. rw (written-before w p (omega arith)) (c.requires.small.small p b l) in
     (omega arith, omega arith, record { small = λ p b l. small p (omega arith) (omega arith) }, listed-within c.four_at-y.result _ (2 ^ 62 - 1) c.four_at-y.ensures (λ j l. small _ (omega arith) (omega arith)))
 
-pub loop-i-preserved : goal.loop-i-preserved
-loop-i-preserved c = record { upto = omega arith; fours = omega arith; written = sums-four c.args.room.now c.args.from c.args.h c.loop-i.invariant.written (omega arith) (omega arith) refl c.four_at-y.ensures c.move_four.ensures }
+pub loop-u-preserved : goal.loop-u-preserved
+loop-u-preserved c = sums-four c.args.room.now c.args.from c.args.h c.loop-u.invariant (omega arith) (omega arith) (omega arith) c.four_at-y.ensures c.move_four.ensures
 
-pub returns-2 : goal.returns-2
-returns-2 c = sums-four c.args.room.now c.args.from c.args.h c.loop-i.invariant.written (omega arith) (omega arith) (omega arith) c.four_at-y.ensures c.move_four.ensures
+pub returns : goal.returns
+returns c =
+    let e : 4 * c.loop-u.u ≡ c.args.h = omega arith in
+    rw e at c.loop-u.invariant

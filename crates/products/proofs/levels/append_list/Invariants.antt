@@ -1,12 +1,8 @@
--- Up to i the sums stand from `to` on.
-use Rattle.std.proofs.Common.{◌≡◌, ◌+◌, ◌%◌, ◌≤◌, ◌+ℤ◌}
+-- Up to the four numbers of a turn the sums stand from `to` on.
+use Rattle.std.proofs.Common.{◌+◌, ◌*◌, ◌+ℤ◌}
 use Rattle.integers.specs.Places.{at}
 use Rattle.products.specs.Own.Rooms.{Written}
 use Rattle.products.proofs.levels.append_list.Given as goal
 
-abbrev pub invariant-loop-i : goal.invariant-loop-i
-invariant-loop-i l = record {
-  upto : l.i ≤ l.h;
-  fours : l.i % 4 ≡ 0;
-  written : Written (λ j. at l.fn.room (l.from + j) +ℤ at l.fn.room (l.from + l.h + j)) l.to l.i l.fn.room l.room;
-}
+abbrev pub invariant-loop-u : goal.invariant-loop-u
+invariant-loop-u l = Written (λ j. at l.fn.room (l.from + j) +ℤ at l.fn.room (l.from + l.h + j)) l.to (4 * l.u) l.fn.room l.room

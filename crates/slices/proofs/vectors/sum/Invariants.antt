@@ -2,6 +2,6 @@ use Rattle.std.proofs.Common.{◌≡◌, ◌*◌, ◌^◌, take, pos, neg_ℤ, �
 use Rattle.integers.specs.Vectors.{sum_of}
 use Rattle.slices.proofs.vectors.sum.Given as goal
 
-abbrev pub invariant-loop-v : goal.invariant-loop-v
-invariant-loop-v l =
-    (l.total ≡ sum_of (take l.v-index l.x)) × (neg_ℤ (pos (2 ^ 31 * l.v-index)) ≤ℤ l.total) × (l.total ≤ℤ pos (2 ^ 31 * l.v-index))
+abbrev pub invariant-loop-n : goal.invariant-loop-n
+invariant-loop-n l =
+    (l.total ≡ sum_of (take l.n l.x)) × (neg_ℤ (pos (2 ^ 31 * l.n)) ≤ℤ l.total) × (l.total ≤ℤ pos (2 ^ 31 * l.n))

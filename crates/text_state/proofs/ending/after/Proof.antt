@@ -1,6 +1,6 @@
 -- `text_state::ending::after` meets its contract.
 use borrow.Author.Rules.{rules}
-use mathlib.Core.Path.{◌≡◌, sym, ◌∙◌}
+use mathlib.Core.Path.{sym, ◌∙◌}
 use Rattle.text_state.proofs.EndingLaws.{told_none, told-on, told-last}
 use Rattle.text_state.proofs.ending.after.Statement.{statement}
 use Rattle.text_state.proofs.ending.after.Tie as tie

@@ -1,5 +1,5 @@
 -- A refusal's three numbers behind its tag.
-use Rattle.std.proofs.Common.{◌≡◌, ◌∙◌, sym, ap, arith, w32}
+use Rattle.std.proofs.Common.{◌∙◌, sym, ap, arith, w32}
 use Rattle.integers.proofs.Held.{held-ok}
 use Rattle.text_runs.specs.Lines.{refused_tag}
 use Rattle.text_runs.specs.Way.{row_line}

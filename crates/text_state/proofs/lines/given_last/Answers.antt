@@ -1,16 +1,9 @@
 -- A refusal by the gate, one by the total, and work done.
-use Rattle.std.proofs.Common.{◌∙◌, of_z, w64, ap, arith}
+use Rattle.std.proofs.Common.{◌∙◌, w64, ap, arith}
 use Rattle.integers.proofs.Held.{held, held-ok, same_bits}
 use Rattle.runs.specs.Answers.{told}
-use Rattle.text_state.proofs.GivenLaws.{given-text, finish-refused, finish-other, finish-done}
+use Rattle.text_state.proofs.GivenLaws.{given-text, finish-done}
 use Rattle.text_state.proofs.lines.given_last.Goals as goal
-
-pub returns-in-Err-clause-result_value : goal.returns-in-Err-clause-result_value
-returns-in-Err-clause-result_value c = c.by_refusal.ensures.result_value ∙ finish-refused _ _ _ _ _ c.in-Err.is
-
-pub returns-then-stated-total-clause-result_value : goal.returns-then-stated-total-clause-result_value
-returns-then-stated-total-clause-result_value c =
-    c.by.ensures.result_value ∙ finish-other _ _ _ _ c.in_default.is (λ e. c.if-stated-total.true (ap (of_z w64) e))
 
 pub shown_last-length-requires-clause-closing : goal.shown_last-length-requires-clause-closing
 unfolding told

@@ -1,5 +1,5 @@
 -- An ask whose questions are passed gives the move; the record's numbers are lent by their bits.
-use Rattle.std.proofs.Common.{rules, ◌≡◌, Ok, FitsSigned, w32, refl, ap, ◌∙◌}
+use Rattle.std.proofs.Common.{rules, Ok, FitsSigned, w32, refl, ap, ◌∙◌}
 use Rattle.std.proofs.lemmas.Int.{to_z-of_z}
 use Rattle.std.proofs.lemmas.Result.{err_from_is_err_and}
 use Rattle.steps.specs.Limits.{reading_limit}

@@ -1,7 +1,6 @@
 -- The first pass gives the answer, and the second the readings where no call is refused.
 use Rattle.std.proofs.Common.{◌≡◌, ℕ, ◌+◌, ◌-◌, List, ℤ, pos, length, arith, sym, ap, ◌∙◌}
 use Rattle.std.specs.Prelude.{Ok, Err}
-use Rattle.std.proofs.lemmas.Result.{err_from_is_err_and}
 use lib.ListN.{length-replicate}
 use Rattle.slices.proofs.Parts.{part-long}
 use Rattle.runs.specs.Answers.{told}
@@ -29,15 +28,15 @@ fill-requires c = fill-asks (large-room c.args.width c.requires.whole_frames.wid
 pub invariant_of-tables : goal.invariant_of-tables
 invariant_of-tables c = record { known = c.requires.whole_frames.wide; filled = filled-lent _ c.tables_long-long.ensures _ _ c.fill.ensures }
 
-pub returns-in_err-first_answer : goal.returns-in_err-first_answer
-returns-in_err-first_answer c =
-    let p = err_from_is_err_and c.from_residual.result c.from_residual.ensures.1 in
-    let r = c.in_err-first_answer.field-0.0 in
-    rw (p.1, p.2) (ones-refused c.args.width c.args.frames.now c.args.readings.now (answer-is c.args.width c.args.frames.now c.args.readings.now (told (Err r)) c.requires.width_len c.in_err-first_answer.ensures) (refusal-number r))
+pub returns-in-Err : goal.returns-in-Err
+returns-in-Err c =
+    let r = c.in-Err.refusal in
+    ones-refused c.args.width c.args.frames.now c.args.readings.now
+    (answer-is c.args.width c.args.frames.now c.args.readings.now (told (Err r)) c.requires.width_len (ap told (sym c.in-Err.is) ∙ c.first_answer.ensures)) (refusal-number r)
 
 pub readings_of-requires : goal.readings_of-requires
 readings_of-requires c =
-    let a = answer-is c.args.width c.args.frames.now c.args.readings.now (told (Ok tt)) c.requires.width_len c.in_ok-first_answer.ensures in
+    let a = answer-is c.args.width c.args.frames.now c.args.readings.now (told (Ok tt)) c.requires.width_len (ap told (sym c.in-Ok.is) ∙ c.first_answer.ensures) in
     record {
       whole_frames = c.requires.whole_frames;
       width_len = c.requires.width_len;
@@ -46,5 +45,5 @@ readings_of-requires c =
 
 pub returns : goal.returns
 returns c =
-    let a = answer-is c.args.width c.args.frames.now c.args.readings.now (told (Ok tt)) c.requires.width_len c.in_ok-first_answer.ensures in
+    let a = answer-is c.args.width c.args.frames.now c.args.readings.now (told (Ok tt)) c.requires.width_len (ap told (sym c.in-Ok.is) ∙ c.first_answer.ensures) in
     ones-done c.args.width c.args.frames.now c.args.readings.now a _ done-number c.readings_of.ensures

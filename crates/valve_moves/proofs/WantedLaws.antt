@@ -12,10 +12,6 @@ use Rattle.runs.proofs.RecordLaws.{width-le, width-pos}
 use Rattle.runs.proofs.Searches.{all-within}
 use Rattle.valves.specs.Moves.{cut, wanted}
 use Rattle.valve_moves.proofs.MoveLaws.{cut-is, cut-size}
-use Rattle.valve_moves.proofs.moves.wanted.Goals as goal
-
-pub sum-requires : goal.sum-requires
-sum-requires c = omega (arith, c.requires.block_len, width-le c.args.width c.requires.width_nonzero)
 
 module _ (N : ℕ) (block : List ℤ) (wide : 0 < half_width N) (long : length block ≡ N) (within : Within reading_limit block) (t : ℤ) (is : t ≡ sum_of block) where
   total-size : nat_abs t ≤ 128 * reading_limit
@@ -39,21 +35,21 @@ module _ (N : ℕ) (block : List ℤ) (wide : 0 < half_width N) (long : length b
   turned : FitsSigned w64 (pos 0 -ℤ cut (sum_of block) N)
   turned = minus-small w64 (cut (sum_of block) N) (omega (arith, few))
 
-  asks-division : (0 < N) × FitsSigned w64 (quot_z (to_z w64 (of_z w64 t)) (to_z w64 N))
-  asks-division = (width-pos N wide, rw is-quotient fits)
+  pub asks_division : FitsSigned w64 (quot_z (to_z w64 (of_z w64 t)) (to_z w64 N))
+  asks_division = rw is-quotient fits
 
-  asks-turn : FitsSigned w64 (pos 0 -ℤ to_z w64 (of_z w64 (quot_z (to_z w64 (of_z w64 t)) (to_z w64 N))))
-  asks-turn = rw (is-quotient, to_z-of_z w64 _ fits) turned
+  pub asks_turn : FitsSigned w64 (pos 0 -ℤ to_z w64 (of_z w64 (quot_z (to_z w64 (of_z w64 t)) (to_z w64 N))))
+  asks_turn = rw (is-quotient, to_z-of_z w64 _ fits) turned
 
-  turned-is : to_z w64 (of_z w64 (pos 0 -ℤ to_z w64 (of_z w64 (quot_z (to_z w64 (of_z w64 t)) (to_z w64 N))))) ≡ wanted N block
+  pub turned_is : to_z w64 (of_z w64 (pos 0 -ℤ to_z w64 (of_z w64 (quot_z (to_z w64 (of_z w64 t)) (to_z w64 N))))) ≡ wanted N block
   unfolding wanted
-  turned-is = rw (is-quotient, to_z-of_z w64 _ fits, to_z-of_z w64 _ turned) (minus (cut (sum_of block) N))
+  turned_is = rw (is-quotient, to_z-of_z w64 _ fits, to_z-of_z w64 _ turned) (minus (cut (sum_of block) N))
 
-pub nonzero_div-result : goal.nonzero_div-result
-nonzero_div-result c = let r = c.requires in asks-division c.args.width c.args.block.now r.width_nonzero r.block_len r.within c.sum.result c.sum.ensures
+pub wide_enough : (N : ℕ) → 0 < half_width N → 0 < N
+wide_enough N h = width-pos N h
 
-pub overflow_sub-result : goal.overflow_sub-result
-overflow_sub-result c = let r = c.requires in asks-turn c.args.width c.args.block.now r.width_nonzero r.block_len r.within c.sum.result c.sum.ensures
+pub few_numbers : (N : ℕ) (block : List ℤ) → 0 < half_width N → length block ≡ N → length block ≤ 128
+few_numbers N block wide long = omega (arith, long, width-le N wide)
 
-pub returns : goal.returns
-returns c = let r = c.requires in turned-is c.args.width c.args.block.now r.width_nonzero r.block_len r.within c.sum.result c.sum.ensures
+-- what the code asks of the block's total, its quotient and what is against it, and what it answers
+pub ruleset asking = (few_numbers, wide_enough, asks_division, asks_turn, turned_is)
