@@ -6,17 +6,21 @@ ghost use Rattle.text_runs.specs.Lines.{fields, numbers_in, is_count, count_and_
 
 use crate::search;
 
+// Another digit behind more than a tenth of the limit would bring it above the limit.
 fn value_of(digits: &[u8], limit: u64) -> Option<u64>
     requires { limit ≤ least64 }
     ensures { result ≡ valued limit 0 digits.now }
 {
+    let tenth = limit / 10;
     let mut size: u64 = 0;
     for byte in digits {
         if !byte.is_ascii_digit() {
             return None;
         }
-        let tens = size.checked_mul(10)?;
-        size = tens.checked_add(u64::from(*byte - b'0'))?;
+        if tenth < size {
+            return None;
+        }
+        size = size * 10 + u64::from(*byte - b'0');
         if limit < size {
             return None;
         }
