@@ -1,4 +1,5 @@
-// The lines of a piece of the input, for every program. Each function answers how far the program has come.
+// The lines of a piece of the input, for every program: how far the program has come goes in by value and comes back. A line changes it in
+// place, since a state may be large.
 ghost use Rattle.std.specs.Prelude.{◌≡◌, false, ℕ, ◌+◌, ◌≤◌, ◌<◌, length};
 ghost use Rattle.feeding.specs.Budget.{Bounded};
 ghost use Rattle.feeding.specs.Program.{handed};
@@ -62,41 +63,33 @@ pub trait Program {
     ghost most: { limits.most ≡ MOST };
 }
 
-fn hand_on<P: Program>(
-    whole: bool,
-    line: &[u8],
-    out: &mut [u8],
-    progress: Progress<P::State>,
-) -> Progress<P::State>
-    requires sound { P.limits.Sound progress.state × (P.letters.over progress.state ≡ false) }
-    requires room { (length line.now ≤ 2048) × (progress.waiting + P.MOST ≤ length out.old) }
-    ensures { HandsOn (program_of P.letters) P.limits whole line.now out.old (place_of P.letters progress) progress.at (place_of P.letters result) out.new }
+fn hand_on<P: Program>(whole: bool, line: &[u8], out: &mut [u8], progress: &mut Progress<P::State>)
+    requires sound { P.limits.Sound progress.old.state × (P.letters.over progress.old.state ≡ false) }
+    requires room { (length line.now ≤ 2048) × (progress.old.waiting + P.MOST ≤ length out.old) }
+    ensures { HandsOn (program_of P.letters) P.limits whole line.now out.old (place_of P.letters progress.old) progress.old.at (place_of P.letters progress.new) out.new }
 {
     let given = P::hand_on(progress.state, whole, line, out, progress.waiting);
-    Progress {
-        state: given.state,
-        had: 0,
-        waiting: given.waiting,
-        at: progress.at,
-    }
+    progress.state = given.state;
+    progress.had = 0;
+    progress.waiting = given.waiting;
 }
 
 fn take_line<P: Program>(
     piece: &[u8],
     line: &mut [u8],
     out: &mut [u8],
-    mut progress: Progress<P::State>,
-) -> Progress<P::State>
-    requires buffers { Buffers (program_of P.letters) P.limits piece.now line.old out.old (place_of P.letters progress) }
-    requires going { (P.letters.over progress.state ≡ false) × (progress.waiting + P.MOST ≤ length out.old) × (progress.at < length piece.now) }
-    ensures { Goes (program_of P.letters) P.limits piece.now line.old out.old (place_of P.letters progress) (place_of P.letters result) line.new out.new }
+    progress: &mut Progress<P::State>,
+)
+    requires buffers { Buffers (program_of P.letters) P.limits piece.now line.old out.old (place_of P.letters progress.old) }
+    requires going { (P.letters.over progress.old.state ≡ false) × (progress.old.waiting + P.MOST ≤ length out.old) × (progress.old.at < length piece.now) }
+    ensures { Goes (program_of P.letters) P.limits piece.now line.old out.old (place_of P.letters progress.old) (place_of P.letters progress.new) line.new out.new }
 {
     let gathered = line::gather(piece, progress.at, line, progress.had);
     let n = gathered.length;
     progress.had = n;
     progress.at = gathered.next;
     match gathered.end {
-        LineEnd::Open => progress,
+        LineEnd::Open => {}
         LineEnd::Whole => hand_on::<P>(true, &line[..n], out, progress),
         LineEnd::Broken => hand_on::<P>(false, &line[..n], out, progress),
     }
@@ -121,13 +114,17 @@ pub fn take_piece<P: Program>(
         if out.len() - progress.waiting < P::MOST {
             return progress;
         }
-        progress = take_line::<P>(piece, line, out, progress);
+        take_line::<P>(piece, line, out, &mut progress);
     }
     progress
 }
 
 // Bytes that no line feed has ended are a broken line.
-fn rest<P: Program>(line: &[u8], out: &mut [u8], progress: Progress<P::State>) -> Progress<P::State>
+fn rest<P: Program>(
+    line: &[u8],
+    out: &mut [u8],
+    mut progress: Progress<P::State>,
+) -> Progress<P::State>
     requires { P.limits.Sound progress.state × (length line.now ≡ 2048) × (progress.had ≤ 2048) × (progress.waiting + P.MOST ≤ length out.old) }
     ensures { Rests (program_of P.letters) P.limits line.now out.old (place_of P.letters progress) (place_of P.letters result) out.new × P.limits.Sound result.state }
 {
@@ -135,7 +132,8 @@ fn rest<P: Program>(line: &[u8], out: &mut [u8], progress: Progress<P::State>) -
     if P::is_over(&progress.state) || had == 0 {
         return progress;
     }
-    hand_on::<P>(false, &line[..had], out, progress)
+    hand_on::<P>(false, &line[..had], out, &mut progress);
+    progress
 }
 
 // The input has no byte more.

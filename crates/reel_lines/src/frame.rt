@@ -56,28 +56,23 @@ fn asked(frame: &[i32], width: usize, count: usize) -> Verdict
     }
 }
 
-fn take_frame(reel: Reel, frame: &[i32]) -> Reel
-    requires { WithinLimits reel }
-    ensures { result ≡ frame_line reel (Some frame.now) }
+fn take_frame(reel: &mut Reel, frame: &[i32])
+    requires { WithinLimits reel.old }
+    ensures { reel.new ≡ frame_line reel.old (Some frame.now) }
 {
     if let Err(refusal) = asked(frame, reel.width, reel.count) {
         return refuse::by(reel, refusal);
     }
-    let mut sums = reel.sums;
-    add_squares(&mut sums, frame);
-    Reel {
-        phase: ReelPhase::Frames,
-        count: reel.count + 1,
-        frames: reel.frames + 1,
-        sums,
-        ..reel
-    }
+    add_squares(&mut reel.sums, frame);
+    reel.phase = ReelPhase::Frames;
+    reel.count += 1;
+    reel.frames += 1;
 }
 
 // A line of 2,048 bytes has at most 1,024 numbers.
-fn take_row(reel: Reel, line: &[u8]) -> Reel
-    requires { WithinLimits reel × (length line.now ≤ 2048) }
-    ensures { result ≡ frame_line reel (numbers_in line.now) }
+fn take_row(reel: &mut Reel, line: &[u8])
+    requires { WithinLimits reel.old × (length line.now ≤ 2048) }
+    ensures { reel.new ≡ frame_line reel.old (numbers_in line.now) }
 {
     let mut numbers = [0i32; 1024];
     let Some(n) = read::numbers(line, &mut numbers) else {
@@ -87,21 +82,21 @@ fn take_row(reel: Reel, line: &[u8]) -> Reel
 }
 
 // Question 5.
-fn end_run(reel: Reel) -> Reel
-    requires { WithinLimits reel }
-    ensures { result ≡ taken_or reel (verdict_told (end_asked reel.count)) (to_phase NextRun reel) }
+fn end_run(reel: &mut Reel)
+    requires { WithinLimits reel.old }
+    ensures { reel.new ≡ taken_or reel.old (verdict_told (end_asked reel.old.count)) (to_phase NextRun reel.old) }
 {
     if reel.count == 0 {
         return refuse::by(reel, Refusal::Empty);
     }
-    reel::to_phase(reel, ReelPhase::NextRun)
+    *reel = reel::to_phase(*reel, ReelPhase::NextRun);
 }
 
 // An end line or a frame. Frames that do not go back have no total, so its value is not asked.
 #[tactic(auto, using(crate::proofs::LineLaws::run_ended, crate::proofs::LineLaws::frame_taken))]
-pub fn take_between(reel: Reel, line: &[u8]) -> Reel
-    requires { WithinLimits reel × (length line.now ≤ 2048) }
-    ensures { result ≡ run_line reel line.now }
+pub fn take_between(reel: &mut Reel, line: &[u8])
+    requires { WithinLimits reel.old × (length line.now ≤ 2048) }
+    ensures { reel.new ≡ run_line reel.old line.now }
 {
     match read::end_total(line, reel.count) {
         Some(_total) => end_run(reel),

@@ -10,11 +10,11 @@ use reels::{reel, verdict};
 
 // The reel is over, and says why.
 #[tactic(auto, unfolding(reels::specs::Reel::reel_refused))]
-pub fn by(reel: Reel, refusal: Refusal) -> Reel
-    requires { WithinLimits reel }
-    ensures { result ≡ reel_refused reel (verdict_told (Err refusal)) }
+pub fn by(reel: &mut Reel, refusal: Refusal)
+    requires { WithinLimits reel.old }
+    ensures { reel.new ≡ reel_refused reel.old (verdict_told (Err refusal)) }
 {
     let (number, place) = verdict::told_by(Err(refusal));
     let line = reel::line_number(reel.phase, reel.runs, reel.frames);
-    reel::to_phase(reel, ReelPhase::Refused(number, line, place))
+    *reel = reel::to_phase(*reel, ReelPhase::Refused(number, line, place));
 }

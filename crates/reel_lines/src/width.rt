@@ -29,25 +29,22 @@ fn asked(width: usize, first: usize, runs: usize) -> Verdict
     Ok(())
 }
 
-fn start_run(reel: Reel, width: usize) -> Reel
-    requires { WithinLimits reel }
-    ensures { result ≡ taken_or reel (verdict_told (width_asked width reel.width reel.runs)) (run_begun reel width) }
+fn start_run(reel: &mut Reel, width: usize)
+    requires { WithinLimits reel.old }
+    ensures { reel.new ≡ taken_or reel.old (verdict_told (width_asked width reel.old.width reel.old.runs)) (run_begun reel.old width) }
 {
     if let Err(refusal) = asked(width, reel.width, reel.runs) {
         return refuse::by(reel, refusal);
     }
-    Reel {
-        phase: ReelPhase::Frames,
-        width,
-        runs: reel.runs + 1,
-        count: 0,
-        ..reel
-    }
+    reel.phase = ReelPhase::Frames;
+    reel.width = width;
+    reel.runs += 1;
+    reel.count = 0;
 }
 
-pub fn take_width(reel: Reel, field: Option<i64>) -> Reel
-    requires { WithinLimits reel }
-    ensures { result ≡ width_line reel field }
+pub fn take_width(reel: &mut Reel, field: Option<i64>)
+    requires { WithinLimits reel.old }
+    ensures { reel.new ≡ width_line reel.old field }
 {
     let Some(width) = field else {
         return refuse::by(reel, Refusal::Form);

@@ -16,4 +16,4 @@ returns g c = took-all (program_of g.P.Program.letters) c.loop-progress.invarian
 
 pub loop-progress-preserved : goal.loop-progress-preserved
 loop-progress-preserved g c =
-    kept_more (program_of g.P.Program.letters) c.loop-progress.invariant c.take_line-progress.ensures c.take_line-progress.auto.line c.take_line-progress.auto.out
+    kept_more (program_of g.P.Program.letters) c.loop-progress.invariant c.take_line.ensures c.take_line.auto.line c.take_line.auto.out

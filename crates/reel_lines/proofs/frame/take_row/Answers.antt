@@ -6,7 +6,7 @@ use Rattle.reel_lines.proofs.frame.take_row.Goals as goal
 
 pub returns-in_default : goal.returns-in_default
 unfolding frame_line shown_as
-returns-in_default c = c.by.ensures ∙ ap (frame_line c.args.reel) c.in_default.ensures.out_after
+returns-in_default c = c.by.ensures ∙ ap (frame_line c.args.reel.now) c.in_default.ensures.out_after
 
 pub slice_bounds-numbers-end-2 : goal.slice_bounds-numbers-end-2
 unfolding count_within
@@ -18,4 +18,4 @@ slice_bounds-take_frame-end c = let w : c.in-Some.n ≤ 1024 = c.in-Some.ensures
 
 pub returns : goal.returns
 unfolding shown_as
-returns c = c.take_frame.ensures ∙ ap (frame_line c.args.reel) c.in-Some.ensures.out_after
+returns c = c.take_frame.ensures ∙ ap (frame_line c.args.reel.now) c.in-Some.ensures.out_after

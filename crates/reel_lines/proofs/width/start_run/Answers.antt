@@ -10,4 +10,4 @@ returns-in-Err c = c.by.ensures ∙ refused-by _ _ _ _ c.in-Err.ensures
 
 pub returns : goal.returns
 unfolding run_begun
-returns c = rw add-one (sym (goes_on c.args.reel (run_begun c.args.reel c.args.width) _ c.in_default.ensures))
+returns c = rw add-one (sym (goes_on c.args.reel.now (run_begun c.args.reel.now c.args.width) _ c.in_default.ensures))

@@ -22,17 +22,17 @@ from s = if-from (λ (x : ℤ). started s (nat_abs x) ≡ width_line s (Some x))
 
 pub returns-in_default : goal.returns-in_default
 unfolding width_line
-returns-in_default c = c.by.ensures ∙ sym (ap (width_line c.args.reel) c.in_default.is)
+returns-in_default c = c.by.ensures ∙ sym (ap (width_line c.args.reel.now) c.in_default.is)
 
 pub returns-then-width-lt0 : goal.returns-then-width-lt0
 returns-then-width-lt0 c =
     let f : FitsSigned w64 c.in-Some.width = search rules in
-    c.by-then-width-lt0.ensures ∙ below c.args.reel c.in-Some.width (sign-told c.in-Some.width f.sfits c.if-width-lt0.true) ∙ sym (ap (width_line c.args.reel) c.in-Some.is)
+    c.by-then-width-lt0.ensures ∙ below c.args.reel.now c.in-Some.width (sign-told c.in-Some.width f.sfits c.if-width-lt0.true) ∙ sym (ap (width_line c.args.reel.now) c.in-Some.is)
 
 pub returns : goal.returns
 returns c =
     let f : FitsSigned w64 c.in-Some.width = search rules in
     c.start_run.ensures
-    ∙ ap (started c.args.reel) (usize-is c.in-Some.width f.sfits)
-    ∙ from c.args.reel c.in-Some.width (sign-told c.in-Some.width f.sfits c.if-width-lt0.false)
-    ∙ sym (ap (width_line c.args.reel) c.in-Some.is)
+    ∙ ap (started c.args.reel.now) (usize-is c.in-Some.width f.sfits)
+    ∙ from c.args.reel.now c.in-Some.width (sign-told c.in-Some.width f.sfits c.if-width-lt0.false)
+    ∙ sym (ap (width_line c.args.reel.now) c.in-Some.is)
